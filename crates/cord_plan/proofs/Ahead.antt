@@ -13,33 +13,17 @@ use Rattle.std.proofs.lemmas.Nat.Bits.{bit_at-zero, bit_at_set_same, bit_at_set_
 use Rattle.std.proofs.lemmas.Option.{slice_get-get_or}
 use Rattle.std.proofs.lemmas.List.{get_or-replicate, length-replicate}
 use Rattle.cord_syntax.specs.declared.statements.Statement.{Statement}
-use Rattle.cord_plan.specs.Operands.{assigns, has, is_name, reads, target_of}
-use Rattle.cord_plan.specs.inner.Ahead.{AreAhead, AreToldFrom, IsLineLater, flow, is_noted, later_in, number_in}
+use Rattle.cord_plan.specs.Operands.{assigns, has, reads, target_of}
+use Rattle.cord_plan.specs.inner.Ahead.{AreAhead, AreToldFrom, IsLineLater, flow, is_noted, later_in}
 use Rattle.cord_plan.specs.inner.Choices.{simple_operands}
 use Rattle.cord_plan.specs.inner.Marks.{bit}
-use Rattle.cord_plan.specs.inner.Numbering.{AreFor, IsHint, names_of}
+use Rattle.cord_plan.specs.inner.Numbering.{names_of, number_in}
 use Rattle.cord_plan.specs.inner.Recent.{Notes, Puts, entry_at, entry_of, noted}
 use Rattle.cord_plan.specs.declared.flow.ahead.LineLater.{LineLater}
 use Rattle.cord_plan.specs.declared.flow.numbering.Numbering.{Numbering}
 use Rattle.cord_plan.proofs.Numbers.{Numbered, numbered, unnumbered}
-use Rattle.cord_plan.proofs.Recents.{puts_nothing, puts_past, puts_there, puts_unknown, set_apart, set_there}
+use Rattle.cord_plan.proofs.Recents.{set_apart, set_there}
 use Rattle.cord_plan.proofs.Words.{bit_or_is, bit_zero_is}
-
-module _ (t : Numbering) (places : List (Option ℕ)) where
-  -- what is noted for a name is cleared
-  pub clears_none : (o : Option (List ℕ)) → number_in t o ≡ None → Puts t (λ x. is_name o x) None places places
-  clears_none None e = puts_nothing t None places
-  clears_none (Some y) e = puts_unknown t None y places e
-
-  pub clears_there : (o : Option (List ℕ)) (n : ℕ) → number_in t o ≡ Some n → n < length places →
-      Puts t (λ x. is_name o x) None places (set places n None)
-  clears_there None n e lt = let bad : ⊥ = cc in absurd bad
-  clears_there (Some y) n e lt = puts_there t None y places n e lt
-
-  pub clears_past : (o : Option (List ℕ)) (n : ℕ) → number_in t o ≡ Some n → length places ≤ n →
-      Puts t (λ x. is_name o x) None places places
-  clears_past None n e le = let bad : ⊥ = cc in absurd bad
-  clears_past (Some y) n e le = puts_past t None y places n e le
 
 -- behind the last line
 pub none_ahead : (t : Numbering) → AreAhead [] t (replicate (length (names_of t)) None)
@@ -95,9 +79,6 @@ module _ (holds : List ℕ → Bool) where
   abbrev pub AreBits : List (List ℕ) → ℕ → Type 0
   AreBits xs w = (i : ℕ) (x : List ℕ) → i < 16 → slice_get xs i ≡ Some x → bit w i ≡ holds x
 
-  pub bits_none : (w : ℕ) → AreBits [] w
-  bits_none w i x lt e = let bad : ⊥ = cc in absurd bad
-
   pub bits_two : (y z : List ℕ) (a b : Bool) (v w : ℕ) → a ≡ holds y → b ≡ holds z → ((i : ℕ) → bit v i ≡ (a && (i == 0))) →
       ((i : ℕ) → bit w i ≡ (b && (i == 1))) → AreBits (y ∷ z ∷ []) (bit_or v w)
   bits_two y z a b v w first second one two zero x lt e =
@@ -107,33 +88,6 @@ module _ (holds : List ℕ → Bool) where
       let same : z ≡ x = cc in
       bit_or_is v w 1 ∙ (rw (one 1, two 1) (second_bit a b) ∙ (second ∙ ap holds same))
   bits_two y z a b v w first second one two (suc (suc i)) x lt e = let bad : ⊥ = cc in absurd bad
-
--- the name of a number that is told
-pub told_ahead : (t : Numbering) (places : List (Option ℕ)) (y : List ℕ) (told : Option ℕ) → IsHint t y told → is_some told ≡ true →
-    is_noted (entry_at places told) ≡ is_noted (entry_of t places y)
-told_ahead t places y None hint e = let bad : ⊥ = cc in absurd bad
-told_ahead t places y (Some n) hint e = ap (λ (o : Option ℕ). is_noted (entry_at places o)) (sym (hint n refl))
-
--- the bits of the names whose numbers are told
-pub bits_told : (t : Numbering) (places : List (Option ℕ)) (xs : List (List ℕ)) (first second : Option ℕ) (v w : ℕ) →
-    ((y : List ℕ) → slice_get xs 0 ≡ Some y → IsHint t y first) → ((y : List ℕ) → slice_get xs 1 ≡ Some y → IsHint t y second) →
-    AreFor xs first second → ((i : ℕ) → bit v i ≡ (is_noted (entry_at places first) && (i == 0))) →
-    ((i : ℕ) → bit w i ≡ (is_noted (entry_at places second) && (i == 1))) → AreBits (λ x. is_noted (entry_of t places x)) xs (bit_or v w)
-bits_told t places [] first second v w one two are first_bits second_bits = bits_none (λ x. is_noted (entry_of t places x)) (bit_or v w)
-bits_told t places (y ∷ []) first second v w one two are first_bits second_bits =
-    by_place
-  where
-    by_place : AreBits (λ x. is_noted (entry_of t places x)) (y ∷ []) (bit_or v w)
-    by_place zero x lt e =
-        let same : y ≡ x = cc in
-        bit_or_is v w 0 ∙ (rw (first_bits 0, second_bits 0)
-        (first_bit (is_noted (entry_at places first)) (is_noted (entry_at places second)))
-        ∙ (told_ahead t places y first (one y refl) are.0 ∙ ap (λ (z : List ℕ). is_noted (entry_of t places z)) same))
-    by_place (suc i) x lt e = let bad : ⊥ = cc in absurd bad
-bits_told t places (y ∷ z ∷ []) first second v w one two are first_bits second_bits =
-    bits_two (λ x. is_noted (entry_of t places x)) y z (is_noted (entry_at places first)) (is_noted (entry_at places second)) v w
-    (told_ahead t places y first (one y refl) are.0) (told_ahead t places z second (two z refl) are.1) first_bits second_bits
-bits_told t places (y ∷ z ∷ u ∷ xs) first second v w one two are first_bits second_bits = absurd are
 
 -- the bit of an operand
 pub one_bit : (k i : ℕ) → k < 16 → bit (1 * 2 ^ k % 65536) i ≡ (i == k)

@@ -22,7 +22,6 @@ use Rattle.cord_plan.specs.inner.Steps.{measured, measured_from, operation_expre
 use Rattle.cord_plan.specs.Operands.{assigns, assigns_at, read_by, target_of}
 use Rattle.cord_plan.specs.Planned.{Made, Joined, Literal, OfFile, OfEager, OfLazy, OfFunction, Balanced, OfExtensible, Printed, Operation}
 use Rattle.cord_plan.specs.Planned.{Build, gives, is_dead, is_first, operation, operations, or_nothing}
-use Rattle.cord_plan.proofs.Choices.{simple_reads, two_chosen}
 use Rattle.cord_plan.proofs.Chosen.{AreChosen, Taken, are_chosen, both_true, last_or}
 use Rattle.cord_plan.proofs.Lacking.{preserves_lacking}
 use Rattle.cord_plan.proofs.Marked.{entry_chosen, gives_expression, measured_false}
@@ -402,17 +401,12 @@ module _ (s : List Statement) (later : List ℕ → ℕ → Bool) where
         ap (λ (en : Option Expr × List Choice). is_longer b l en.1) (entry_chosen s later b l xs cs old simple chosen t has) ∙ longer is
 
     pub tells_one : (x : List ℕ) (c : Choice) (told : Bool) → simple_operands l ≡ Some (x ∷ []) →
-        code.IsChoice s later b l (x ∷ []) x (map operation_expression old) [] c → told ≡ (is_catc l && is_last b c) →
+        code.AreChoices s later b l (map operation_expression old) (c ∷ []) → told ≡ (is_catc l && is_last b c) →
         IsToldLonger s later b l old told
-    tells_one x c told simple chosen same = tells_choices (x ∷ []) (c ∷ []) told simple
-        (λ t has. ap (λ (d : Choice). d ∷ []) (chosen t has)
-        ∙ sym (ap (λ (ys : List (List ℕ)). choices s later t b l [] ys) (simple_reads l (x ∷ []) simple)))
-        (λ is. one_longer b l c (sym same ∙ is))
+    tells_one x c told simple chosen same = tells_choices (x ∷ []) (c ∷ []) told simple chosen (λ is. one_longer b l c (sym same ∙ is))
 
     pub tells_two : (x y : List ℕ) (c d : Choice) (told : Bool) → simple_operands l ≡ Some (x ∷ y ∷ []) →
-        code.IsChoice s later b l (x ∷ y ∷ []) x (map operation_expression old) [] c →
-        code.IsChoice s later b l (x ∷ y ∷ []) y (map operation_expression old) (c ∷ []) d → told ≡ (is_last b c && is_named d) →
+        code.AreChoices s later b l (map operation_expression old) (c ∷ d ∷ []) → told ≡ (is_last b c && is_named d) →
         IsToldLonger s later b l old told
-    tells_two x y c d told simple first second same = tells_choices (x ∷ y ∷ []) (c ∷ d ∷ []) told simple
-        (λ t has. two_chosen s later t b l x y c d simple (first t has) (second t has))
+    tells_two x y c d told simple chosen same = tells_choices (x ∷ y ∷ []) (c ∷ d ∷ []) told simple chosen
         (λ is. two_longer b l x y c d simple (sym same ∙ is))

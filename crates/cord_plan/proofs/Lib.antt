@@ -30,7 +30,6 @@ pub mod Ahead
 pub mod Words
 pub mod Numbers
 pub mod MarkedNames
-pub mod Hints
 pub mod Sweeps
 pub mod Onward
 pub mod Told
@@ -40,8 +39,6 @@ pub mod MemberTexts
 pub mod PartSums
 pub mod Nearest
 pub mod Recents
-pub mod Telling
-pub mod Noting
 pub mod Lacking
 pub mod Lasts
 pub mod Choices

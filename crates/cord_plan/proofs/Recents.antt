@@ -9,8 +9,8 @@ use Rattle.std.proofs.lemmas.Option.{slice_get-get_or, slice_get_past}
 use Rattle.cord_operands.specs.declared.operands.Number as numbers
 use Rattle.cord_operands.specs.declared.operands.Argument.{Argument}
 use Rattle.cord_operands.specs.declared.operands.Argument.TheVariants.{Number, Cord}
-use Rattle.cord_plan.specs.Operands.{has, cord_arguments}
-use Rattle.cord_plan.specs.inner.Numbering.{names_of, number_of}
+use Rattle.cord_plan.specs.Operands.{has, cord_arguments, is_name}
+use Rattle.cord_plan.specs.inner.Numbering.{names_of, number_in, number_of}
 use Rattle.cord_plan.specs.inner.Recent.{Notes, Puts, entry_at, entry_of, noted}
 use Rattle.cord_plan.specs.declared.flow.numbering.Numbering.{Numbering}
 use Rattle.cord_plan.proofs.Named.{same_bytes, own_bytes}
@@ -93,6 +93,22 @@ module _ (t : Numbering) (w : Option ℕ) where
           let none : entry_of t places x ≡ None =
           ap (λ (z : List ℕ). entry_of t places z) (same_bytes x y e) ∙ ap (λ (o : Option ℕ). entry_at places o) is in
           rw none refl
+
+module _ (t : Numbering) (w : Option ℕ) (places : List (Option ℕ)) where
+  -- an entry for a name, where there is one
+  pub puts_in_none : (o : Option (List ℕ)) → number_in t o ≡ None → Puts t (λ x. is_name o x) w places places
+  puts_in_none None e = puts_nothing t w places
+  puts_in_none (Some y) e = puts_unknown t w y places e
+
+  pub puts_in_there : (o : Option (List ℕ)) (n : ℕ) → number_in t o ≡ Some n → n < length places →
+      Puts t (λ x. is_name o x) w places (set places n w)
+  puts_in_there None n e lt = let bad : ⊥ = cc in absurd bad
+  puts_in_there (Some y) n e lt = puts_there t w y places n e lt
+
+  pub puts_in_past : (o : Option (List ℕ)) (n : ℕ) → number_in t o ≡ Some n → length places ≤ n →
+      Puts t (λ x. is_name o x) w places places
+  puts_in_past None n e le = let bad : ⊥ = cc in absurd bad
+  puts_in_past (Some y) n e le = puts_past t w y places n e le
 
 module _ (t : Numbering) (p : ℕ) where
   pub notes_nothing : (places : List (Option ℕ)) → Notes t (λ x. false) p places places

@@ -6,6 +6,7 @@ pub mod Known
 pub mod Liveness
 pub mod Marks
 pub mod Numbering
+pub mod Places
 pub mod Recent
 pub mod Showing
 pub mod Steps

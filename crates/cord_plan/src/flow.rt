@@ -1,6 +1,5 @@
 // What the lines of a script read and assign, which line may come after which, and which names are read later.
 mod ahead;
-mod line_numbers;
 mod liveness;
 mod marks;
 mod numbering;
@@ -8,9 +7,9 @@ mod readings;
 mod recent;
 mod successors;
 
-pub(crate) use self::line_numbers::{LineNumbers, numbers_at};
 pub(crate) use self::liveness::Later;
 pub(crate) use self::marks::{GROUP, has_bit, mark_number};
+pub(crate) use self::numbering::Numbering;
 pub(crate) use self::readings::{assigns, operands_of, reads};
 pub(crate) use self::recent::{Recent, entry_at, entry_of, is_before, unless_after};
 pub(crate) use self::successors::{Shape, is_block, jump, shape_of};

@@ -14,7 +14,7 @@ mod staying;
 ghost use Rattle.std.specs.Prelude.{◌≡◌, ℕ, Bool, List, IfOk, IsOkUnless, map};
 ghost use Rattle.cord_plan.specs.inner.Extensions.{AreExtending};
 ghost use Rattle.cord_plan.specs.inner.Liveness.{tells, AllTold, IsTold};
-ghost use Rattle.cord_plan.specs.inner.Numbering.{AllHints, AreHints};
+ghost use Rattle.cord_plan.specs.inner.Numbering.{number_in};
 ghost use Rattle.cord_plan.specs.Meaning.{IsPlanOf};
 ghost use Rattle.cord_plan.specs.Operands.{target_of};
 ghost use Rattle.cord_plan.specs.Planned as plan;
@@ -26,21 +26,21 @@ use self::expressions::{NextExpression, next_expression};
 pub(crate) use self::interning::Interner;
 use self::known::Known;
 pub(crate) use self::lines::operation_of;
-use crate::flow::{Later, LineNumbers, Recent, numbers_at};
+use crate::flow::{Later, Recent};
 use crate::{Operation, Plan};
 use cord_io::CordError;
 use cord_script::{Script, Statement};
 use std::alloc::Global;
 
-// Whether a line has a target that isn't read later.
-fn is_dead(statement: &Statement, numbers: LineNumbers, place: usize, later: &Later) -> bool
-    requires hints { AreHints later.now.numbering statement.now numbers }
+// Whether a line has a target, whose number this is, that isn't read later.
+fn is_dead(statement: &Statement, number: Option<usize>, place: usize, later: &Later) -> bool
+    requires number { number ≡ number_in later.now.numbering (target_of statement.now) }
     requires told { IsTold later.now statement.now place }
     ensures { result ≡ plan.is_dead (tells later.now) place (target_of statement.now) }
 {
     match statement.target() {
         None => false,
-        Some(target) => !later.is_target_later(target, numbers.target, place),
+        Some(target) => !later.is_target_later(target, number, place),
     }
 }
 
@@ -51,8 +51,7 @@ fn operations_of(
     statements: &[Statement],
     later: &Later,
 ) -> Result<(Vec<Operation>, Vec<bool>), CordError>
-    requires hints { AllHints statements.now later.now.numbering later.now.numbers.items }
-    requires told { AllTold statements.now later.now }
+    requires { AllTold statements.now later.now }
     ensures made { IfOk result (λ p. map operation_view p.0.items ≡ plan.planned statements.now (tells later.now)) }
     ensures extending { IfOk result (λ p. AreExtending p.1.items (map operation_view p.0.items)) }
     ensures refused { IsOkUnless result CordError.NoMemory }
@@ -63,14 +62,14 @@ fn operations_of(
     let mut recent = Recent::of(alloc, later)?;
     let mut known = Known::of(alloc, later.numbering.count())?;
     for (place, statement) in statements.iter().enumerate() {
-        let numbers = numbers_at(&later.numbers, place);
+        let target = later.numbering.target_of(statement);
         let next = next_expression(
             alloc,
             &mut interner,
             statements,
             place,
             statement,
-            numbers,
+            target,
             &recent,
             &mut known,
             &mut operations,
@@ -79,10 +78,10 @@ fn operations_of(
             expression,
             extends,
         } = next;
-        let dead = is_dead(statement, numbers, place, later);
+        let dead = is_dead(statement, target, place, later);
         operations.push_reserved(operation_of(statement, expression, dead)?);
         extending.push_reserved(extends);
-        recent.note(statement, numbers, place);
+        recent.note(statement, target, place);
     }
     Ok((operations, extending))
 }
@@ -102,5 +101,5 @@ pub fn plan(alloc: Global, script: &Script) -> Result<Plan, CordError>
     let statements = script.statements();
     let later = Later::of(alloc, statements)?;
     let planned = operations_of(alloc, statements, &later)?;
-    Ok(Plan::of(planned.0, planned.1))
+    Ok(Plan::of(planned.0, planned.1, later.numbering.into_names()))
 }

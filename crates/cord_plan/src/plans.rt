@@ -1,6 +1,8 @@
 // Plans.
 ghost use Rattle.std.specs.Prelude.{◌≡◌, All, ◌+◌, ◌<◌, ℕ, Some, IfErr, IfOk, IsOkUnless};
 ghost use Rattle.std.specs.Prelude.{false, get_or, length, map, slice_get, true};
+ghost use Rattle.std.specs.List.{IsDistinct};
+ghost use Rattle.std.specs.Str.{bytes_eq};
 ghost use Rattle.cord_meaning.specs.Blocks.{jump};
 ghost use Rattle.cord_iter.specs.Output.{Writes};
 ghost use Rattle.cord_plan.specs.Extending.{Extends};
@@ -12,19 +14,21 @@ ghost use Rattle.cord_plan.specs.Shown.{shown};
 ghost use Rattle.cord_plan.specs.Views.{operation_view};
 
 use crate::Operation;
+use crate::flow::Numbering;
 use crate::jumps::{have_control, jumps};
 use crate::planner::{Interner, operation_of, own_expression};
 use crate::shown::show_operations;
 use cord_io::{CordError, Sink};
-use cord_script::{Script, Statement};
+use cord_script::{Name, Script, Statement};
 use std::alloc::Global;
 use std::marker::Model;
 
-/// The operations of a script, in the order of its lines.
+/// The operations of a script, in the order of its lines, and its names.
 #[derive(Drop)]
 pub struct Plan {
     operations: Vec<Operation>,
     extending: Vec<bool>,
+    names: Vec<Name>,
 }
 
 impl Model for Plan {
@@ -44,7 +48,7 @@ impl Model for Plan {
     ghost use Rattle.cord_plan.specs.inner.Extensions.{IsPlan};
     ghost use Rattle.cord_plan.specs.Views.{operation_view};
 
-    ghost invariant = { λ p. IsPlan p.extending.items (map operation_view p.operations.items) };
+    ghost invariant = { λ p. IsPlan p.extending.items (map operation_view p.operations.items) p.names.items };
 }
 
 // The operations of the trivial plan.
@@ -73,15 +77,18 @@ fn is_told(told: &[bool], place: usize) -> bool
 }
 
 impl Plan {
-    // The plan of these operations, of which some are told to extend the one before, without taking memory.
-    pub(crate) fn of(operations: Vec<Operation>, extending: Vec<bool>) -> Plan
+    // The plan of these operations, of which some are told to extend the one before, over these names, without taking
+    // memory.
+    pub(crate) fn of(operations: Vec<Operation>, extending: Vec<bool>, names: Vec<Name>) -> Plan
         requires kept { All KeepsNoOther (map operation_view operations.items) }
         requires extending { AreExtending extending.items (map operation_view operations.items) }
+        requires distinct { IsDistinct bytes_eq names.items }
         ensures { result ≡ operations.items }
     {
         Plan {
             operations,
             extending,
+            names,
         }
     }
 
@@ -91,8 +98,10 @@ impl Plan {
         ensures means { IfOk result (λ p. IsPlanOf script.now (map operation_view p)) }
         ensures refused { IsOkUnless result CordError.NoMemory }
     {
-        let operations = trivial_operations(alloc, script.statements())?;
-        Ok(Plan::of(operations, Vec::new(alloc)))
+        let statements = script.statements();
+        let operations = trivial_operations(alloc, statements)?;
+        let numbering = Numbering::of(alloc, statements)?;
+        Ok(Plan::of(operations, Vec::new(alloc), numbering.into_names()))
     }
 
     /// The operations in order. Those that are kept make no cord and put nothing.
@@ -101,6 +110,13 @@ impl Plan {
         ensures kept { All KeepsNoOther (map operation_view self.now) }
     {
         &self.operations
+    }
+
+    /// The names of the script's lines, in the order of their first assignment, each once.
+    pub fn names(&self) -> &[Name]
+        ensures distinct { IsDistinct bytes_eq result.now }
+    {
+        &self.names
     }
 
     /// Whether the operation at a place joins what the one before it joins, and one member more; the one before it

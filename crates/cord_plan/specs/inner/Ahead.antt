@@ -1,11 +1,11 @@
 -- What the code goes by that finds what is read later in a script without blocks.
-use Rattle.std.specs.Prelude.{◌≡◌, ℕ, ◌+◌, ◌<◌, ◌≤◌, Bool, true, false, not, ◌&&◌, ◌||◌, List, [], ◌∷◌, drop, Option, Some, None}
+use Rattle.std.specs.Prelude.{◌≡◌, ℕ, ◌+◌, ◌<◌, ◌≤◌, Bool, true, false, not, ◌&&◌, ◌||◌, List, [], ◌∷◌, drop, Option, Some}
 use Rattle.std.specs.Prelude.{slice_get, is_some}
 use Rattle.cord_syntax.specs.declared.statements.Statement.{Statement}
 use Rattle.cord_plan.specs.Operands.{assigns, has, reads, target_of}
 use Rattle.cord_plan.specs.inner.Choices.{simple_operands}
 use Rattle.cord_plan.specs.inner.Marks.{bit}
-use Rattle.cord_plan.specs.inner.Numbering.{names_of, number_of}
+use Rattle.cord_plan.specs.inner.Numbering.{names_of}
 use Rattle.cord_plan.specs.inner.Recent.{entry_at, entry_of}
 use Rattle.cord_plan.specs.declared.flow.numbering.Numbering.{Numbering}
 use Rattle.cord_plan.specs.declared.flow.ahead.Ahead.{Ahead}
@@ -30,11 +30,6 @@ ahead_at a number = is_noted (entry_at a.read.items number)
 
 abbrev pub ahead_of : Ahead → List ℕ → Bool
 ahead_of a x = is_noted (entry_of a.numbering.now a.read.items x)
-
--- the number of a name, where there is one
-abbrev pub number_in : Numbering → Option (List ℕ) → Option ℕ
-number_in t None = None
-number_in t (Some x) = number_of t x
 
 -- places, by the numbers of names, have a line for each name that these lines read before one assigns it, and for no other
 pub record AreAhead (ls : List Statement) (t : Numbering) (places : List (Option ℕ)) : Type 0 where

@@ -1,5 +1,7 @@
--- Which operations of a plan are told to join what the one before them joins, and one member more.
+-- Which operations of a plan are told to join what the one before them joins, and one member more; what holds of a plan.
 use Rattle.std.specs.Prelude.{◌≡◌, ℕ, Bool, true, List, Some, All, slice_get}
+use Rattle.std.specs.List.{IsDistinct}
+use Rattle.std.specs.Str.{bytes_eq}
 use Rattle.cord_plan.specs.Extending.{Extends}
 use Rattle.cord_plan.specs.Verbatim.{KeepsNoOther}
 use Rattle.cord_plan.specs.Planned.{Operation}
@@ -8,7 +10,8 @@ use Rattle.cord_plan.specs.Planned.{Operation}
 abbrev pub AreExtending : List Bool → List Operation → Type 0
 AreExtending told operations = (place : ℕ) → slice_get told place ≡ Some true → Extends operations place
 
--- what holds of the operations of a plan
-pub record IsPlan (told : List Bool) (operations : List Operation) : Type 0 where
+-- what holds of the operations of a plan, and of its names
+pub record IsPlan (told : List Bool) (operations : List Operation) (names : List (List ℕ)) : Type 0 where
   pub kept : All KeepsNoOther operations
   pub extending : AreExtending told operations
+  pub distinct : IsDistinct bytes_eq names

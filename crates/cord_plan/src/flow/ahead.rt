@@ -1,18 +1,15 @@
 // In a script without blocks, which names of each line are read later than the line.
-ghost use Rattle.std.specs.Prelude.{◌≡◌, ◌<◌, ◌==◌, ◌&&◌, [], ◌∷◌, ℕ, List, Option, true, None, Some, IfOk, slice_get};
+ghost use Rattle.std.specs.Prelude.{◌≡◌, ◌<◌, ◌==◌, ◌&&◌, [], ◌∷◌, ℕ, List, true, Some, IfOk, slice_get};
 ghost use Rattle.cord_syntax.specs.Readings.{operand_names};
-ghost use Rattle.cord_plan.specs.Operands.{has, is_name, reads, target_of};
-ghost use Rattle.cord_plan.specs.declared.flow.numbering.Numbering.{Numbering};
-ghost use Rattle.cord_plan.specs.inner.Ahead.{ahead_at, ahead_of, number_in, AreToldFrom, IsAhead};
+ghost use Rattle.cord_plan.specs.Operands.{has, reads, target_of};
+ghost use Rattle.cord_plan.specs.inner.Ahead.{ahead_at, ahead_of, AreToldFrom, IsAhead};
 ghost use Rattle.cord_plan.specs.inner.Choices.{simple_operands};
 ghost use Rattle.cord_plan.specs.inner.Marks.{bit};
-ghost use Rattle.cord_plan.specs.inner.Recent.{Puts};
-ghost use Rattle.cord_plan.specs.inner.Numbering.{AllHints, AreHints, Covers, names_of, number_of};
+ghost use Rattle.cord_plan.specs.inner.Numbering.{Covers, names_of, number_in};
 
-use crate::flow::line_numbers::{LineNumbers, numbers_at};
 use crate::flow::numbering::Numbering;
 use crate::flow::readings::operands_of;
-use crate::flow::recent::{entry_at, note_read};
+use crate::flow::recent::{entry_at, note_read, put};
 use cord_script::{Name, Statement};
 use cord_syntax::Operands;
 use std::alloc::{AllocError, Global};
@@ -72,49 +69,6 @@ fn operand_bit(index: usize, is_set: bool) -> u16
     if is_set { 1 << index } else { 0 }
 }
 
-// A number that is told.
-fn number_told(told: Option<u8>) -> Option<usize>
-    ensures { result ≡ told }
-{
-    match told {
-        Some(number) => Some(usize::from(number)),
-        None => None,
-    }
-}
-
-// The number of the name that a line assigns. Where it is told the line isn't looked at.
-fn target_number(
-    numbering: &Numbering,
-    statement: &Statement,
-    numbers: LineNumbers,
-) -> Option<usize>
-    requires { AreHints numbering.now statement.now numbers }
-    ensures { result ≡ number_in numbering.now (target_of statement.now) }
-{
-    if numbers.target_is_told {
-        return number_told(numbers.target);
-    }
-    match statement.target() {
-        Some(target) => numbering.number_of(target),
-        None => None,
-    }
-}
-
-// Clears what is noted for the name of a number.
-fn clear(places: &mut [Option<usize>], number: Option<usize>)
-    ensures { (t : Numbering) (o : Option (List ℕ)) → number ≡ number_in t o →
-        Puts t (λ x. is_name o x) None places.old places.new }
-{
-    match number {
-        None => {}
-        Some(number) => {
-            if number < places.len() {
-                places[number] = None;
-            }
-        }
-    }
-}
-
 impl<'a> Ahead<'a> {
     // Behind the last line.
     fn of(alloc: Global, numbering: &'a Numbering) -> Result<Self, AllocError>
@@ -172,39 +126,26 @@ impl<'a> Ahead<'a> {
         }
     }
 
-    // Which operands of a simple line are ahead. Where their numbers are told the line isn't looked at.
-    fn operand_bits(&self, statement: &Statement, numbers: LineNumbers) -> u16
-        requires { AreHints self.now.numbering.now statement.now numbers }
+    // Which operands of a simple line are ahead.
+    fn operand_bits(&self, statement: &Statement) -> u16
         ensures { (xs : List (List ℕ)) → simple_operands statement.now ≡ Some xs → (i : ℕ) (x : List ℕ) → i < 16 →
             slice_get xs i ≡ Some x → bit result i ≡ ahead_of self.now x }
     {
-        if numbers.read_is_told {
-            let first = operand_bit(0, self.has_number(number_told(numbers.first)));
-            first | operand_bit(1, self.has_number(number_told(numbers.second)))
-        } else {
-            match operands_of(statement) {
-                Some(operands) => self.named_bits(operands),
-                None => 0,
-            }
+        match operands_of(statement) {
+            Some(operands) => self.named_bits(operands),
+            None => 0,
         }
     }
 
-    // Goes back over the line before.
-    fn go_back(
-        &mut self,
-        statement: &Statement,
-        numbers: LineNumbers,
-        target: Option<usize>,
-        place: usize,
-    )
-        requires hints { AreHints self.old.numbering.now statement.now numbers }
+    // Goes back over the line before, which assigns the name of this number.
+    fn go_back(&mut self, statement: &Statement, target: Option<usize>, place: usize)
         requires target { target ≡ number_in self.old.numbering.now (target_of statement.now) }
         requires known { (x : List ℕ) → reads statement.now x ≡ true → has (names_of self.old.numbering.now) x ≡ true }
         ensures numbering { self.new.numbering.now ≡ self.old.numbering.now }
         ensures ahead { (ls : List Statement) → IsAhead ls self.old → IsAhead (statement.now ∷ ls) self.new }
     {
-        clear(&mut self.read, target);
-        note_read(self.numbering, &mut self.read, statement, numbers, place);
+        put(&mut self.read, target, None);
+        note_read(self.numbering, &mut self.read, statement, place);
     }
 }
 
@@ -213,23 +154,20 @@ pub(crate) fn lines_later(
     alloc: Global,
     statements: &[Statement],
     numbering: &Numbering,
-    numbers: &[LineNumbers],
 ) -> Result<Vec<LineLater>, AllocError>
-    requires covers { Covers statements.now numbering.now }
-    requires hints { AllHints statements.now numbering.now numbers.now }
+    requires { Covers statements.now numbering.now }
     ensures { IfOk result (λ v. AreToldFrom statements.now 0 v.items) }
 {
     let mut ahead = Ahead::of(alloc, numbering)?;
     let mut lines = vec![in alloc; LineLater::none(); statements.len()]?;
     for place in (0..statements.len()).rev() {
         let statement = &statements[place];
-        let numbers = numbers_at(numbers, place);
-        let target = target_number(numbering, statement, numbers);
+        let target = numbering.target_of(statement);
         lines[place] = LineLater {
             target: ahead.has_number(target),
-            operands: ahead.operand_bits(statement, numbers),
+            operands: ahead.operand_bits(statement),
         };
-        ahead.go_back(statement, numbers, target, place);
+        ahead.go_back(statement, target, place);
     }
     Ok(lines)
 }

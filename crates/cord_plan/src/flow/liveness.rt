@@ -6,7 +6,7 @@ ghost use Rattle.cord_syntax.specs.declared.statements.Statement.{Statement};
 ghost use Rattle.cord_plan.specs.Operands.{assigns_at, target_of};
 ghost use Rattle.cord_plan.specs.Unread.{IsLater, successors, some_of};
 ghost use Rattle.cord_plan.specs.inner.Marks.{bit, column, room, IsBit};
-ghost use Rattle.cord_plan.specs.inner.Numbering.{AllHints, Covers, IsHint, names_of, number_of};
+ghost use Rattle.cord_plan.specs.inner.Numbering.{Covers, names_of, number_of};
 ghost use Rattle.cord_plan.specs.inner.Ahead.{flow, later_in};
 ghost use Rattle.cord_plan.specs.inner.Liveness.{places, places_at, ArePaths, at, tells, tells_of};
 ghost use Rattle.cord_plan.specs.inner.Liveness.{IsFound, IsTold, AllTold};
@@ -14,7 +14,6 @@ ghost use Rattle.cord_plan.specs.inner.Liveness.{AreAssigned, ArePartly, AreLive
 ghost use Rattle.cord_plan.specs.inner.Choices.{simple_operands};
 
 use crate::flow::ahead::{LineLater, OPERANDS, has_operand, line_at, lines_later};
-use crate::flow::line_numbers::{LineNumbers, numbers_at, numbers_of};
 use crate::flow::marks::{GROUP, has_bit, mark_assigned, mark_read};
 use crate::flow::numbering::Numbering;
 use crate::flow::readings::{assigns, reads};
@@ -34,7 +33,6 @@ struct Group {
 pub(crate) struct Later<'a> {
     statements: &'a [Statement],
     pub(crate) numbering: Numbering,
-    pub(crate) numbers: Vec<LineNumbers>,
     found: Found,
 }
 
@@ -53,7 +51,6 @@ struct Flow<'a> {
     statements: &'a [Statement],
     successors: &'a [Successors],
     numbering: &'a Numbering,
-    numbers: &'a [LineNumbers],
     group: usize,
 }
 
@@ -91,26 +88,22 @@ fn flowed(word: u128, successors: u128, assigned: u128) -> u128
 impl Flow<'_> {
     // For each line the word of the names that it reads.
     fn words_read(&self, alloc: Global) -> Result<Vec<u128>, AllocError>
-        requires { AllHints self.now.statements.now self.now.numbering.now self.now.numbers.now }
         ensures { IfOk result (λ v. ArePartly self.now.statements.now self.now.numbering.now self.now.group v.items) }
     {
         let mut words = Vec::with_capacity(alloc, self.statements.len())?;
-        for (place, statement) in self.statements.iter().enumerate() {
-            let numbers = numbers_at(self.numbers, place);
-            words.push_reserved(mark_read(self.numbering, self.group, statement, numbers));
+        for statement in self.statements {
+            words.push_reserved(mark_read(self.numbering, self.group, statement));
         }
         Ok(words)
     }
 
     // For each line the word of the name that it assigns.
     fn words_assigned(&self, alloc: Global) -> Result<Vec<u128>, AllocError>
-        requires { AllHints self.now.statements.now self.now.numbering.now self.now.numbers.now }
         ensures { IfOk result (λ v. AreAssigned self.now.statements.now self.now.numbering.now self.now.group v.items) }
     {
         let mut words = Vec::with_capacity(alloc, self.statements.len())?;
-        for (place, statement) in self.statements.iter().enumerate() {
-            let numbers = numbers_at(self.numbers, place);
-            words.push_reserved(mark_assigned(self.numbering, self.group, statement, numbers));
+        for statement in self.statements {
+            words.push_reserved(mark_assigned(self.numbering, self.group, statement));
         }
         Ok(words)
     }
@@ -167,8 +160,7 @@ impl Flow<'_> {
 
     // For each place the names of the group that a path from there reads before a line assigns them.
     fn live_words(&self, alloc: Global) -> Result<Vec<u128>, AllocError>
-        requires paths { ArePaths (map shape_of self.now.statements.now) self.now.successors.now }
-        requires hints { AllHints self.now.statements.now self.now.numbering.now self.now.numbers.now }
+        requires { ArePaths (map shape_of self.now.statements.now) self.now.successors.now }
         ensures { IfOk result (λ v. AreLive self.now.statements.now self.now.numbering.now self.now.group v.items) }
     {
         let assigned = self.words_assigned(alloc)?;
@@ -184,10 +176,8 @@ fn groups_of(
     statements: &[Statement],
     successors: &[Successors],
     numbering: &Numbering,
-    numbers: &[LineNumbers],
 ) -> Result<Vec<Group>, AllocError>
-    requires paths { ArePaths (map shape_of statements.now) successors.now }
-    requires hints { AllHints statements.now numbering.now numbers.now }
+    requires { ArePaths (map shape_of statements.now) successors.now }
     ensures { IfOk result (λ v. AllLive statements.now numbering.now v.items) }
 {
     let mut groups = Vec::new(alloc);
@@ -196,7 +186,6 @@ fn groups_of(
             statements,
             successors,
             numbering,
-            numbers,
             group,
         };
         let words = flow.live_words(alloc)?;
@@ -273,17 +262,15 @@ impl Found {
         alloc: Global,
         statements: &[Statement],
         numbering: &Numbering,
-        numbers: &[LineNumbers],
     ) -> Result<Self, AllocError>
-        requires covers { Covers statements.now numbering.now }
-        requires hints { AllHints statements.now numbering.now numbers.now }
+        requires { Covers statements.now numbering.now }
         ensures { IfOk result (λ found. IsFound statements.now numbering.now found) }
     {
         if !has_blocks(statements) {
-            return Ok(Found::ByLines(lines_later(alloc, statements, numbering, numbers)?));
+            return Ok(Found::ByLines(lines_later(alloc, statements, numbering)?));
         }
         let successors = successors_of(alloc, statements)?;
-        let groups = groups_of(alloc, statements, &successors, numbering, numbers)?;
+        let groups = groups_of(alloc, statements, &successors, numbering)?;
         Ok(Found::ByGroups(successors, groups))
     }
 }
@@ -292,35 +279,32 @@ impl<'a> Later<'a> {
     /// What is read later in a script of these statements.
     pub(crate) fn of(alloc: Global, statements: &'a [Statement]) -> Result<Self, AllocError>
         ensures later { IfOk result (λ t. IsLater statements.now (tells t)) }
-        ensures hints { IfOk result (λ t. AllHints statements.now t.numbering t.numbers.items) }
         ensures told { IfOk result (λ t. AllTold statements.now t) }
     {
-        let (numbering, numbers) = numbers_of(alloc, statements)?;
-        let found = Found::of(alloc, statements, &numbering, &numbers)?;
+        let numbering = Numbering::of(alloc, statements)?;
+        let found = Found::of(alloc, statements, &numbering)?;
         Ok(Later {
             statements,
             numbering,
-            numbers,
             found,
         })
     }
 
-    /// Whether the name that a line assigns is read later than the line.
-    pub(crate) fn is_target_later(&self, target: &Name, hint: Option<u8>, place: usize) -> bool
-        requires hint { IsHint self.now.numbering target.now hint }
+    /// Whether the name that a line assigns, which has this number, is read later than the line.
+    pub(crate) fn is_target_later(&self, target: &Name, number: Option<usize>, place: usize) -> bool
+        requires number { number ≡ number_of self.now.numbering target.now }
         requires told { (l : Statement) × (target_of l ≡ Some target.now) × IsTold self.now l place }
         ensures { result ≡ tells self.now target.now place }
     {
         match &self.found {
             Found::ByLines(lines) => line_at(lines, place).target,
             Found::ByGroups(successors, groups) => {
-                let number = self.numbering.number_with(target, hint);
                 is_live_after(successors, groups, number, place)
             }
         }
     }
 
-    /// Whether an operand of a line is read later than the line.
+    /// Whether an operand of a line, which has this number, is read later than the line.
     pub(crate) fn is_operand_later(
         &self,
         operand: &Name,

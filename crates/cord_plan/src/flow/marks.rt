@@ -1,12 +1,11 @@
 // Sets of names by words: bit i of a word of a group stands for the name whose number is 128 times the group and i.
-ghost use Rattle.std.specs.Prelude.{◌≡◌, ◌<◌, ◌||◌, ℕ, List, None, Some};
+ghost use Rattle.std.specs.Prelude.{◌≡◌, ◌<◌, ◌||◌, ℕ, List, Some};
 ghost use Rattle.cord_plan.specs.inner.Marks.{bit, Marks};
 ghost use Rattle.cord_plan.specs.Operands.{has, cord_arguments, reads, assigns};
 ghost use Rattle.std.specs.Str.{bytes_eq};
 ghost use Rattle.cord_plan.specs.declared.flow.numbering.Numbering.{Numbering};
-ghost use Rattle.cord_plan.specs.inner.Numbering.{AreHints, number_of};
+ghost use Rattle.cord_plan.specs.inner.Numbering.{number_of};
 
-use crate::flow::line_numbers::LineNumbers;
 use crate::flow::numbering::Numbering;
 use cord_script::{Argument, Name, Statement};
 use cord_syntax::{Operands, Reading};
@@ -30,18 +29,6 @@ pub(crate) fn mark_number(group: usize, number: usize) -> u128
         1 << (number % GROUP)
     } else {
         0
-    }
-}
-
-// The word of the name of a number, where there is one.
-fn mark_told(group: usize, told: Option<u8>) -> u128
-    ensures named { (t : Numbering) (y : List ℕ) (n : ℕ) → told ≡ Some n → number_of t y ≡ Some n →
-        Marks t group (λ x. bytes_eq x y) result }
-    ensures nothing { told ≡ None → result ≡ 0 }
-{
-    match told {
-        None => 0,
-        Some(number) => mark_number(group, usize::from(number)),
     }
 }
 
@@ -88,8 +75,8 @@ fn mark_two(numbering: &Numbering, group: usize, left: &Name, right: &Name) -> u
     first | mark(numbering, group, right)
 }
 
-// The word of the names whose bytes a line reads, by its names.
-fn mark_names(numbering: &Numbering, group: usize, statement: &Statement) -> u128
+/// The word of the names whose bytes a line reads.
+pub(crate) fn mark_read(numbering: &Numbering, group: usize, statement: &Statement) -> u128
     ensures { Marks numbering.now group (λ x. reads statement.now x) result }
 {
     match statement.reading() {
@@ -101,47 +88,12 @@ fn mark_names(numbering: &Numbering, group: usize, statement: &Statement) -> u12
     }
 }
 
-/// The word of the names whose bytes a line reads. Where their numbers are told the line isn't looked at.
-pub(crate) fn mark_read(
-    numbering: &Numbering,
-    group: usize,
-    statement: &Statement,
-    numbers: LineNumbers,
-) -> u128
-    requires { AreHints numbering.now statement.now numbers }
-    ensures { Marks numbering.now group (λ x. reads statement.now x) result }
-{
-    if numbers.read_is_told {
-        let first = mark_told(group, numbers.first);
-        first | mark_told(group, numbers.second)
-    } else {
-        mark_names(numbering, group, statement)
-    }
-}
-
-// The word of the name that a line assigns, by its name.
-fn mark_target(numbering: &Numbering, group: usize, statement: &Statement) -> u128
+/// The word of the name that a line assigns.
+pub(crate) fn mark_assigned(numbering: &Numbering, group: usize, statement: &Statement) -> u128
     ensures { Marks numbering.now group (λ x. assigns statement.now x) result }
 {
     match statement.target() {
         None => 0,
         Some(target) => mark(numbering, group, target),
-    }
-}
-
-/// The word of the name that a line assigns. Where its number is told the line isn't looked at.
-pub(crate) fn mark_assigned(
-    numbering: &Numbering,
-    group: usize,
-    statement: &Statement,
-    numbers: LineNumbers,
-) -> u128
-    requires { AreHints numbering.now statement.now numbers }
-    ensures { Marks numbering.now group (λ x. assigns statement.now x) result }
-{
-    if numbers.target_is_told {
-        mark_told(group, numbers.target)
-    } else {
-        mark_target(numbering, group, statement)
     }
 }

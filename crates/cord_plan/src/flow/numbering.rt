@@ -1,76 +1,117 @@
 // Names with numbers.
-ghost use Rattle.std.specs.Prelude.{◌≡◌, [], ◌∷◌, None, Some, IfOk, OnOk, length, slice_get};
-ghost use Rattle.cord_plan.specs.Operands.{cord_arguments, is_name};
-ghost use Rattle.cord_plan.specs.inner.Numbering.{place_of, number_of, names_of, Adds, IsHint};
+ghost use Rattle.std.specs.Prelude.{◌≡◌, [], ◌∷◌, false, All, IfOk, OnOk, length};
+ghost use Rattle.std.specs.List.{IsDistinct};
+ghost use Rattle.std.specs.Str.{bytes_eq};
+ghost use Rattle.std.proofs.Props.{props};
+ghost use Rattle.cord_syntax.specs.Readings.{read_names};
+ghost use Rattle.cord_plan.specs.Operands.{cord_arguments, read_by, target_of};
+ghost use Rattle.cord_plan.specs.inner.Places.{Adds, CoversTo, place_in, place_of};
 
-use cord_operands::slot_of;
-use cord_script::{Argument, Name};
+use cord_script::{Argument, Name, Statement};
+use cord_syntax::{Operands, Reading};
 use std::alloc::{AllocError, Global};
 
-/// The number of slots that guess a name's number, one for each that `slot_of` gives.
-const SLOTS: usize = 4_096;
-
-// In a script of fewer statements names are looked for without guesses: clearing them would cost more.
-const LEAST_GUESSED: usize = 64;
-
-/// Names, each with a number: its place in the list.
+/// The names of a script, each with a number: its place in the list.
 #[derive(Drop)]
 pub(crate) struct Numbering {
     names: Vec<Name>,
-    // For each slot the number of a name of that slot: of two names of one slot the second is looked for.
-    guesses: Vec<u16>,
+    ghost distinct: { IsDistinct bytes_eq names.items } by { Prim.hlevel props },
 }
 
-// The first place of a name among others.
+// Takes in a name where it isn't there.
+#[inline(always)]
+fn add(names: &mut Vec<Name>, name: &Name) -> Result<(), AllocError>
+    ensures { OnOk result (Adds (name.now ∷ []) names.old.items names.new.items) }
+{
+    match name.place_in(names) {
+        Some(_) => Ok(()),
+        None => add_new(names, name),
+    }
+}
+
+// Takes in a name that isn't there.
 #[cold]
 #[inline(never)]
-fn place_of(names: &[Name], name: &Name) -> Option<usize>
-    ensures { result ≡ place_of names.now name.now }
+fn add_new(names: &mut Vec<Name>, name: &Name) -> Result<(), AllocError>
+    requires { All (λ other. bytes_eq name.now other ≡ false) names.old.items }
+    ensures { OnOk result (Adds (name.now ∷ []) names.old.items names.new.items) }
 {
-    for (i, known) in names.iter().enumerate() {
-        if name.is(known) {
-            return Some(i);
+    names.push(name.clone()?)?;
+    Ok(())
+}
+
+// Takes in these names.
+fn add_all(names: &mut Vec<Name>, others: &[Name]) -> Result<(), AllocError>
+    ensures { OnOk result (Adds others.now names.old.items names.new.items) }
+{
+    for name in others {
+        add(names, name)?;
+    }
+    Ok(())
+}
+
+// Takes in the cords among the arguments of a format.
+fn add_arguments(names: &mut Vec<Name>, arguments: &[Argument]) -> Result<(), AllocError>
+    ensures { OnOk result (Adds (cord_arguments arguments.now) names.old.items names.new.items) }
+{
+    for argument in arguments {
+        match argument {
+            Argument::Number(_) => {}
+            Argument::Cord(name) => add(names, name)?,
         }
     }
-    None
+    Ok(())
 }
 
-// Whether this is the name at a place.
-fn is_at(names: &[Name], place: usize, name: &Name) -> bool
-    ensures { result ≡ is_name (slice_get names.now place) name.now }
+// Takes in the names that a line reads.
+fn add_reading(names: &mut Vec<Name>, reading: Reading) -> Result<(), AllocError>
+    ensures { OnOk result (Adds (read_names reading.entry) names.old.items names.new.items) }
 {
-    match names.get(place) {
-        Some(known) => name.is(known),
-        None => false,
+    match reading {
+        Reading::Operands(Operands::Nothing) => Ok(()),
+        Reading::Operands(Operands::One(operand)) => add(names, operand),
+        Reading::Operands(Operands::Two(left, right)) => {
+            add(names, left)?;
+            add(names, right)
+        }
+        Reading::Operands(Operands::Listed(operands)) => add_all(names, operands),
+        Reading::Printed(arguments) => add_arguments(names, arguments),
     }
 }
 
-// The number that is guessed for the names of a slot.
-fn set_guess(guesses: &mut [u16], slot: usize, number: usize)
-    ensures { length guesses.new ≡ length guesses.old }
+// Takes in the names that a line reads, and the one that it assigns.
+fn add_line(names: &mut Vec<Name>, statement: &Statement) -> Result<(), AllocError>
+    ensures { OnOk result (Adds (read_by statement.now) names.old.items names.new.items) }
 {
-    if let Ok(number) = u16::try_from(number)
-        && slot < guesses.len()
-    {
-        guesses[slot] = number;
+    add_reading(names, statement.reading())?;
+    match statement.target() {
+        None => Ok(()),
+        Some(target) => add(names, target),
     }
 }
 
 impl Numbering {
-    /// No names so far, for a script of so many lines.
-    pub(crate) fn new(alloc: Global, lines: usize) -> Result<Self, AllocError>
-        ensures { IfOk result (λ t. names_of t ≡ []) }
+    /// The names that the lines of a script read or assign, in the order in which they stand there first.
+    pub(crate) fn of(alloc: Global, statements: &[Statement]) -> Result<Self, AllocError>
+        ensures { IfOk result (λ t. CoversTo statements.now (length statements.now) t.names.items) }
     {
-        let slots = if lines < LEAST_GUESSED { 0 } else { SLOTS };
-        Ok(Numbering {
-            names: Vec::new(alloc),
-            guesses: vec![in alloc; 0; slots]?,
-        })
+        let mut names = Vec::new(alloc);
+        for statement in statements {
+            add_line(&mut names, statement)?;
+        }
+        Ok(Numbering { names })
+    }
+
+    /// The names, by their numbers.
+    pub(crate) fn into_names(self) -> Vec<Name>
+        ensures { IsDistinct bytes_eq result.items }
+    {
+        self.names
     }
 
     /// How many names there are.
     pub(crate) fn count(&self) -> usize
-        ensures { result ≡ length (names_of self.now) }
+        ensures { result ≡ length self.now.names.items }
     {
         self.names.len()
     }
@@ -78,80 +119,18 @@ impl Numbering {
     /// The number of a name.
     #[inline(always)]
     pub(crate) fn number_of(&self, name: &Name) -> Option<usize>
-        ensures { result ≡ number_of self.now name.now }
+        ensures { result ≡ place_of self.now.names.items name.now }
     {
-        match self.guesses.get(slot_of(name.key())) {
-            Some(guess) if is_at(&self.names, usize::from(*guess), name) => {
-                Some(usize::from(*guess))
-            }
-            _ => place_of(&self.names, name),
-        }
+        name.place_in(&self.names)
     }
 
-    /// The number of a name, of which this is a hint.
-    pub(crate) fn number_with(&self, name: &Name, hint: Option<u8>) -> Option<usize>
-        requires { IsHint self.now name.now hint }
-        ensures { result ≡ number_of self.now name.now }
+    /// The number of the name that a line assigns.
+    pub(crate) fn target_of(&self, statement: &Statement) -> Option<usize>
+        ensures { result ≡ place_in self.now.names.items (target_of statement.now) }
     {
-        match hint {
-            Some(number) => Some(usize::from(number)),
-            None => self.number_of(name),
+        match statement.target() {
+            None => None,
+            Some(target) => self.number_of(target),
         }
-    }
-
-    // Takes in a name that isn't there, and gives its number.
-    #[cold]
-    #[inline(never)]
-    fn add_new(&mut self, alloc: Global, name: &Name) -> Result<usize, AllocError>
-        requires { place_of (names_of self.old) name.now ≡ None }
-        ensures added { OnOk result (Adds (name.now ∷ []) (names_of self.old) (names_of self.new)) }
-        ensures number { IfOk result (λ n. slice_get (names_of self.new) n ≡ Some name.now) }
-    {
-        let number = self.count();
-        let copy = name.clone()?;
-        set_guess(&mut self.guesses, slot_of(name.key()), number);
-        self.names.push(copy)?;
-        Ok(number)
-    }
-
-    /// Takes in a name where it isn't there, and gives its number.
-    #[inline(always)]
-    pub(crate) fn add(&mut self, alloc: Global, name: &Name) -> Result<usize, AllocError>
-        ensures added { OnOk result (Adds (name.now ∷ []) (names_of self.old) (names_of self.new)) }
-        ensures number { IfOk result (λ n. slice_get (names_of self.new) n ≡ Some name.now) }
-    {
-        match self.number_of(name) {
-            Some(number) => Ok(number),
-            None => self.add_new(alloc, name),
-        }
-    }
-
-    /// Takes in these names.
-    pub(crate) fn add_all(&mut self, alloc: Global, names: &[Name]) -> Result<(), AllocError>
-        ensures { OnOk result (Adds names.now (names_of self.old) (names_of self.new)) }
-    {
-        for name in names {
-            self.add(alloc, name)?;
-        }
-        Ok(())
-    }
-
-    /// Takes in the cords among the arguments of a format.
-    pub(crate) fn add_arguments(
-        &mut self,
-        alloc: Global,
-        arguments: &[Argument],
-    ) -> Result<(), AllocError>
-        ensures { OnOk result (Adds (cord_arguments arguments.now) (names_of self.old) (names_of self.new)) }
-    {
-        for argument in arguments {
-            match argument {
-                Argument::Number(_) => {}
-                Argument::Cord(name) => {
-                    self.add(alloc, name)?;
-                }
-            }
-        }
-        Ok(())
     }
 }

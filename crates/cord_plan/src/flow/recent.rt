@@ -1,16 +1,15 @@
 // The last lines so far that assign and read each name.
-ghost use Rattle.std.specs.Prelude.{◌≡◌, ◌+◌, ◌||◌, ℕ, List, None, Some, IfOk, slice_get};
+ghost use Rattle.std.specs.Prelude.{◌≡◌, ◌+◌, ◌||◌, ℕ, List, Option, Some, IfOk, slice_get};
 ghost use Rattle.std.specs.Str.{bytes_eq};
 ghost use Rattle.cord_syntax.specs.declared.statements.Statement.{Statement};
 ghost use Rattle.cord_meaning.specs.Statements.{shape_of};
 ghost use Rattle.cord_plan.specs.Forced.{is_block};
-ghost use Rattle.cord_plan.specs.Operands.{assigns, cord_arguments, has, reads};
+ghost use Rattle.cord_plan.specs.Operands.{cord_arguments, has, is_name, reads, target_of};
 ghost use Rattle.cord_plan.specs.declared.flow.numbering.Numbering.{Numbering};
-ghost use Rattle.cord_plan.specs.inner.Numbering.{AreHints, number_of};
-ghost use Rattle.cord_plan.specs.inner.Recent.{IsRecent, Notes, entry_at, entry_of, is_before, is_after};
+ghost use Rattle.cord_plan.specs.inner.Numbering.{number_in};
+ghost use Rattle.cord_plan.specs.inner.Recent.{IsRecent, Notes, Puts, entry_at, entry_of, is_before, is_after};
 ghost use Rattle.cord_plan.specs.inner.Recent.{noted, unless_after};
 
-use crate::flow::line_numbers::LineNumbers;
 use crate::flow::liveness::Later;
 use crate::flow::numbering::Numbering;
 use crate::flow::successors::is_block;
@@ -87,25 +86,18 @@ pub(crate) fn is_before(place: Option<usize>, other: usize) -> bool
     }
 }
 
-// Notes a place for the name of a number.
-fn note_number(places: &mut [Option<usize>], number: usize, place: usize)
-    ensures { (t : Numbering) (y : List ℕ) → number_of t y ≡ Some number →
-        Notes t (λ x. bytes_eq x y) place places.old places.new }
+/// Puts an entry for the name of a number, where there is one.
+pub(crate) fn put(places: &mut [Option<usize>], number: Option<usize>, entry: Option<usize>)
+    ensures { (t : Numbering) (o : Option (List ℕ)) → number ≡ number_in t o →
+        Puts t (λ x. is_name o x) entry places.old places.new }
 {
-    if number < places.len() {
-        places[number] = Some(place);
-    }
-}
-
-// Notes a place for the name of a number, where there is one.
-fn note_told(places: &mut [Option<usize>], told: Option<u8>, place: usize)
-    ensures named { (t : Numbering) (y : List ℕ) (n : ℕ) → told ≡ Some n → number_of t y ≡ Some n →
-        Notes t (λ x. bytes_eq x y) place places.old places.new }
-    ensures nothing { told ≡ None → places.new ≡ places.old }
-{
-    match told {
+    match number {
         None => {}
-        Some(number) => note_number(places, usize::from(number), place),
+        Some(number) => {
+            if number < places.len() {
+                places[number] = entry;
+            }
+        }
     }
 }
 
@@ -113,10 +105,7 @@ fn note_told(places: &mut [Option<usize>], told: Option<u8>, place: usize)
 fn note(numbering: &Numbering, places: &mut [Option<usize>], name: &Name, place: usize)
     ensures { Notes numbering.now (λ x. bytes_eq x name.now) place places.old places.new }
 {
-    match numbering.number_of(name) {
-        Some(number) => note_number(places, number, place),
-        None => {}
-    }
+    put(places, numbering.number_of(name), Some(place));
 }
 
 // Notes it for each of these names.
@@ -159,9 +148,8 @@ fn note_two(
     note(numbering, places, right, place);
 }
 
-// Notes it for the names that a line reads, by its names.
-#[inline(never)]
-fn note_names(
+/// Notes it for the names that a line reads.
+pub(crate) fn note_read(
     numbering: &Numbering,
     places: &mut [Option<usize>],
     statement: &Statement,
@@ -177,59 +165,6 @@ fn note_names(
         ),
         Reading::Operands(Operands::Listed(parts)) => note_all(numbering, places, parts, place),
         Reading::Printed(arguments) => note_arguments(numbering, places, arguments, place),
-    }
-}
-
-/// Notes it for the names that a line reads. Where their numbers are told the line isn't looked at.
-#[inline(always)]
-pub(crate) fn note_read(
-    numbering: &Numbering,
-    places: &mut [Option<usize>],
-    statement: &Statement,
-    numbers: LineNumbers,
-    place: usize,
-)
-    requires { AreHints numbering.now statement.now numbers }
-    ensures { Notes numbering.now (λ x. reads statement.now x) place places.old places.new }
-{
-    if numbers.read_is_told {
-        note_told(places, numbers.first, place);
-        note_told(places, numbers.second, place);
-    } else {
-        note_names(numbering, places, statement, place);
-    }
-}
-
-// Notes it for the name that a line assigns, by its name.
-fn note_target(
-    numbering: &Numbering,
-    places: &mut [Option<usize>],
-    statement: &Statement,
-    place: usize,
-)
-    ensures { Notes numbering.now (λ x. assigns statement.now x) place places.old places.new }
-{
-    match statement.target() {
-        None => {}
-        Some(target) => note(numbering, places, target, place),
-    }
-}
-
-// Notes it for the name that a line assigns. Where its number is told the line isn't looked at.
-fn note_assigned(
-    numbering: &Numbering,
-    places: &mut [Option<usize>],
-    statement: &Statement,
-    numbers: LineNumbers,
-    place: usize,
-)
-    requires { AreHints numbering.now statement.now numbers }
-    ensures { Notes numbering.now (λ x. assigns statement.now x) place places.old places.new }
-{
-    if numbers.target_is_told {
-        note_told(places, numbers.target, place);
-    } else {
-        note_target(numbering, places, statement, place);
     }
 }
 
@@ -261,16 +196,15 @@ impl<'a> Recent<'a> {
         })
     }
 
-    /// Notes the next line, whose names have these numbers.
-    pub(crate) fn note(&mut self, statement: &Statement, numbers: LineNumbers, place: usize)
-        requires { AreHints self.old.later.now.numbering statement.now numbers }
+    /// Notes the next line, which assigns the name of this number.
+    pub(crate) fn note(&mut self, statement: &Statement, target: Option<usize>, place: usize)
+        requires { target ≡ number_in self.old.later.now.numbering (target_of statement.now) }
         ensures later { self.new.later.now ≡ self.old.later.now }
         ensures recent { (s : List Statement) → slice_get s place ≡ Some statement.now → IsRecent s place self.old →
             IsRecent s (place + 1) self.new }
     {
-        let numbering = &self.later.numbering;
-        note_assigned(numbering, &mut self.assigned, statement, numbers, place);
-        note_read(numbering, &mut self.read, statement, numbers, place);
+        put(&mut self.assigned, target, Some(place));
+        note_read(&self.later.numbering, &mut self.read, statement, place);
         self.block = block_after(self.block, statement, place);
     }
 }

@@ -5,13 +5,12 @@ ghost use Rattle.cord_plan.specs.inner.Choices.{choice_view, simple_operands};
 ghost use Rattle.cord_syntax.specs.Readings.{operand_names};
 ghost use Rattle.cord_plan.specs.inner.Known.{IsKnown};
 ghost use Rattle.cord_plan.specs.inner.Liveness.{tells, IsTold};
-ghost use Rattle.cord_plan.specs.inner.Numbering.{AllHints, AreHints};
 ghost use Rattle.cord_plan.specs.inner.Recent.{IsRecent};
 ghost use Rattle.cord_plan.specs.inner.Steps.{IsNext, IsStep, IsToldLonger, is_catc, is_last, is_named};
 ghost use Rattle.cord_plan.specs.inner.Steps.{operation_expression, sources_view};
 ghost use Rattle.cord_plan.specs.Views.{expr_view, operation_view};
 
-use crate::flow::{LineNumbers, Recent, operands_of};
+use crate::flow::{Recent, operands_of};
 use crate::planner::choosing::{Choice, Line, choose, choose_all, is_last, is_named};
 use crate::planner::interning::Interner;
 use crate::planner::joining::expression_with;
@@ -76,10 +75,7 @@ fn expression_over<'a>(
     requires place { line.now.place ≤ length line.now.statements.now }
     requires recent { IsRecent line.now.statements.now line.now.place line.now.recent.now }
     requires operands { simple_operands line.now.statement.now ≡ Some (operand_names line.now.operands) }
-    requires hints { AreHints line.now.recent.now.later.now.numbering line.now.statement.now line.now.numbers }
     requires told { IsTold line.now.recent.now.later.now line.now.statement.now line.now.place }
-    requires all_hints { AllHints line.now.statements.now line.now.recent.now.later.now.numbering
-        line.now.recent.now.later.now.numbers.items }
     requires long { length operations.now ≡ line.now.place }
     requires known { IsKnown line.now.recent.now.later.now.numbering
         (map operation_expression (map operation_view operations.now)) known.old }
@@ -94,7 +90,7 @@ fn expression_over<'a>(
         known.new) }
     ensures refused { IsOkUnless result CordError.NoMemory }
 {
-    let (statement, numbers) = (line.statement, line.numbers);
+    let (statement, numbering) = (line.statement, &line.recent.later.numbering);
     match line.operands {
         Operands::Nothing => Ok(LineExpression {
             expression: expression_with(alloc, interner, statement, &[])?,
@@ -102,8 +98,9 @@ fn expression_over<'a>(
             extends: false,
         }),
         Operands::One(operand) => {
-            let choice = choose(line, known, operand, numbers.first, operations, &[]);
-            known.note_one(line, &choice);
+            let number = numbering.number_of(operand);
+            let choice = choose(line, known, operand, number, operations, &[]);
+            known.note_one(line, &choice, number);
             let extends = adds_byte(line, &choice);
             Ok(LineExpression {
                 expression: expression_with(alloc, interner, statement, &[choice])?,
@@ -112,9 +109,10 @@ fn expression_over<'a>(
             })
         }
         Operands::Two(left, right) => {
-            let first = choose(line, known, left, numbers.first, operations, &[]);
-            let second = choose(line, known, right, numbers.second, operations, &[first]);
-            known.note_two(line, &first, &second);
+            let (one, two) = (numbering.number_of(left), numbering.number_of(right));
+            let first = choose(line, known, left, one, operations, &[]);
+            let second = choose(line, known, right, two, operations, &[first]);
+            known.note_two(line, &first, one, &second, two);
             let extends = adds_name(line, &first, &second);
             Ok(LineExpression {
                 expression: expression_with(alloc, interner, statement, &[first, second])?,
@@ -143,16 +141,14 @@ pub(crate) fn next_expression(
     statements: &[Statement],
     place: usize,
     statement: &Statement,
-    numbers: LineNumbers,
+    target: Option<usize>,
     recent: &Recent,
     known: &mut Known,
     operations: &mut [Operation],
 ) -> Result<NextExpression, CordError>
     requires place { place ≤ length statements.now }
     requires recent { IsRecent statements.now place recent.now }
-    requires hints { AreHints recent.now.later.now.numbering statement.now numbers }
     requires told { IsTold recent.now.later.now statement.now place }
-    requires all_hints { AllHints statements.now recent.now.later.now.numbering recent.now.later.now.numbers.items }
     requires long { length operations.old ≡ place }
     requires known { IsKnown recent.now.later.now.numbering
         (map operation_expression (map operation_view operations.old)) known.old }
@@ -176,7 +172,7 @@ pub(crate) fn next_expression(
         place,
         statement,
         operands,
-        numbers,
+        target,
         recent,
     };
     let LineExpression {

@@ -7,18 +7,17 @@ ghost use Rattle.cord_plan.specs.Views.{shared_view};
 use crate::Expr;
 use crate::planner::constructors::{named, shared_byte};
 use cord_io::CordError;
-use cord_operands::slot_of;
 use cord_script::{Name, Number};
 use std::alloc::{AllocError, Global};
 use std::rc::Rc;
 
-/// The number of slots in which names are looked for.
-const SLOTS: usize = 2_048;
+/// The number of slots in which names are looked for, each by its hint.
+const SLOTS: usize = 256;
 
 /// The number of slots in which single bytes are looked for, which stand after those of names.
 const BYTE_SLOTS: usize = 256;
 
-/// Names and single bytes as expressions, each made once and then shared: of two names of one slot the last one stands
+/// Names and single bytes as expressions, each made once and then shared: of two names of one hint the last one stands
 /// there. The slots take no memory before the first of them.
 #[derive(Drop)]
 pub(crate) struct Interner {
@@ -99,7 +98,7 @@ impl Interner {
         ensures made { IfOk result (λ e. shared_view e ≡ plain.name name.now) }
         ensures refused { IsOkUnless result CordError.NoMemory }
     {
-        let slot = slot_of(name.key()) % SLOTS;
+        let slot = name.hint();
         match find(&self.slots, slot, name) {
             Some(shared) => Ok(shared.clone()?),
             None => self.put(alloc, slot, shared_name(alloc, name)?),

@@ -1,6 +1,6 @@
 // What is known of the expressions of lines without a walk over them: how many parts they have, and which names stand
 // in them.
-ghost use Rattle.std.specs.Prelude.{◌≡◌, ◌++◌, ◌∷◌, [], ℕ, List, Option, Some, pos, IfOk, IfSome, length};
+ghost use Rattle.std.specs.Prelude.{◌≡◌, ◌<◌, ◌++◌, ◌∷◌, [], ℕ, List, Option, Some, pos, IfOk, IfSome, length};
 ghost use Rattle.cord_operands.specs.declared.operands.Number.TheVariants.{Numeral};
 ghost use Rattle.cord_plan.specs.Exprs as plain;
 ghost use Rattle.cord_plan.specs.Exprs.{members, names, parts};
@@ -8,10 +8,10 @@ ghost use Rattle.cord_plan.specs.Forced.{expr_of, expr_with};
 ghost use Rattle.cord_plan.specs.declared.flow.numbering.Numbering.{Numbering};
 ghost use Rattle.cord_plan.specs.inner.Choices.{choice_view, expression_in, room_left, simple_operands};
 ghost use Rattle.cord_plan.specs.inner.Known.{HasFacts, IsFacts, IsFrom, IsKnown};
-ghost use Rattle.cord_plan.specs.inner.Numbering.{IsHint, number_of};
+ghost use Rattle.cord_plan.specs.inner.Numbering.{number_of};
 ghost use Rattle.cord_plan.specs.Exprs.{lacks};
 
-use crate::flow::{GROUP, LineNumbers, has_bit, mark_number};
+use crate::flow::{GROUP, has_bit, mark_number};
 use crate::planner::choosing::{Choice, Line};
 use cord_script::{Number, Statement};
 use std::alloc::{AllocError, Global};
@@ -39,10 +39,9 @@ pub(crate) struct Known {
 
 impl Facts {
     // Of the name of a number.
-    fn of_name(number: u8) -> Self
+    fn of_name(number: usize) -> Self
         ensures { (t : Numbering) (x : List ℕ) → number_of t x ≡ Some number → IsFacts t (plain.name x) result }
     {
-        let number = usize::from(number);
         Facts {
             parts: 1,
             low: mark_number(0, number),
@@ -87,11 +86,11 @@ impl Facts {
     }
 
     /// Whether the name of a number stands nowhere in the expression.
-    pub(crate) fn lacks(&self, number: u8) -> bool
+    pub(crate) fn lacks(&self, number: usize) -> bool
+        requires { number < 256 }
         ensures { (t : Numbering) (e : plain.Expr) (x : List ℕ) → IsFacts t e self.now → number_of t x ≡ Some number →
             result ≡ lacks (names e) x }
     {
-        let number = usize::from(number);
         if number < GROUP {
             !has_bit(self.low, number)
         } else {
@@ -120,16 +119,16 @@ impl Known {
         }
     }
 
-    // What is known of what stands for an operand, whose name may have this number.
-    fn of_choice(&self, choice: &Choice, hint: Option<u8>) -> Option<Facts>
+    // What is known of what stands for an operand, whose name has this number.
+    fn of_choice(&self, choice: &Choice, number: Option<usize>) -> Option<Facts>
         ensures { (t : Numbering) (table : List (Option plain.Expr)) (x : List ℕ) → IsKnown t table self.now →
-            IsHint t x hint → IsFrom table x (choice_view choice.now) →
+            number ≡ number_of t x → IsFrom table x (choice_view choice.now) →
             IfSome result (λ f. IsFacts t (expr_of (choice_view choice.now)) f) }
     {
-        match (choice, hint) {
+        match (choice, number) {
             (Choice::Named(_), Some(number)) => Some(Facts::of_name(number)),
             (Choice::Replaced(place, _), Some(number)) => {
-                match self.at(usize::from(number), *place) {
+                match self.at(number, *place) {
                     None => None,
                     Some(facts) => Some(*facts),
                 }
@@ -139,14 +138,14 @@ impl Known {
     }
 
     // What is known of the expression of a line, where this stands for its operand.
-    fn of_one(&self, statement: &Statement, choice: &Choice, hint: Option<u8>) -> Option<Facts>
+    fn of_one(&self, statement: &Statement, choice: &Choice, number: Option<usize>) -> Option<Facts>
         ensures { (t : Numbering) (table : List (Option plain.Expr)) (x : List ℕ) → IsKnown t table self.now →
-            IsHint t x hint → IsFrom table x (choice_view choice.now) →
+            number ≡ number_of t x → IsFrom table x (choice_view choice.now) →
             IfSome result (λ f. HasFacts t (expr_with statement.now (expr_of (choice_view choice.now) ∷ [])) f) }
     {
         match statement {
             Statement::Catc { byte, .. } => {
-                match (self.of_choice(choice, hint), Facts::of_byte(byte)) {
+                match (self.of_choice(choice, number), Facts::of_byte(byte)) {
                     (Some(first), Some(last)) => first.with(&last),
                     _ => None,
                 }
@@ -156,30 +155,32 @@ impl Known {
     }
 
     // What is known of the expression of a line, where these stand for its two operands.
-    fn of_two(&self, numbers: LineNumbers, left: &Choice, right: &Choice) -> Option<Facts>
+    fn of_two(
+        &self,
+        left: &Choice,
+        first: Option<usize>,
+        right: &Choice,
+        second: Option<usize>,
+    ) -> Option<Facts>
         ensures { (t : Numbering) (table : List (Option plain.Expr)) (x y : List ℕ) → IsKnown t table self.now →
-            IsHint t x numbers.first → IsFrom table x (choice_view left.now) →
-            IsHint t y numbers.second → IsFrom table y (choice_view right.now) →
+            first ≡ number_of t x → IsFrom table x (choice_view left.now) →
+            second ≡ number_of t y → IsFrom table y (choice_view right.now) →
             IfSome result (λ f. IsFacts t (plain.cat (members
             (expr_of (choice_view left.now) ∷ expr_of (choice_view right.now) ∷ []))) f) }
     {
-        match (
-            self.of_choice(left, numbers.first),
-            self.of_choice(right, numbers.second),
-        ) {
+        match (self.of_choice(left, first), self.of_choice(right, second)) {
             (Some(first), Some(second)) => first.with(&second),
             _ => None,
         }
     }
 
     // Notes what is known of the expression of the line at a place, which assigns the name of a number.
-    fn note(&mut self, hint: Option<u8>, place: usize, facts: Option<Facts>)
+    fn note(&mut self, target: Option<usize>, place: usize, facts: Option<Facts>)
         ensures { (t : Numbering) (table : List (Option plain.Expr)) → IsKnown t table self.old →
             IfSome facts (λ f. HasFacts t (expression_in table place) f) → IsKnown t table self.new }
     {
-        match (hint, facts) {
+        match (target, facts) {
             (Some(number), Some(facts)) => {
-                let number = usize::from(number);
                 if number < self.entries.len() {
                     self.entries[number] = Some(Entry { place, facts });
                 }
@@ -188,27 +189,34 @@ impl Known {
         }
     }
 
-    /// Notes the expression of a line, where this stands for its operand.
-    pub(crate) fn note_one(&mut self, line: &Line, choice: &Choice)
+    /// Notes the expression of a line, where this stands for its operand, whose name has this number.
+    pub(crate) fn note_one(&mut self, line: &Line, choice: &Choice, number: Option<usize>)
         ensures { (t : Numbering) (table : List (Option plain.Expr)) (x : List ℕ) → IsKnown t table self.old →
-            length table ≡ line.now.place → IsHint t x line.now.numbers.first →
+            length table ≡ line.now.place → number ≡ number_of t x →
             IsFrom table x (choice_view choice.now) → IsKnown t (table ++ expr_with line.now.statement.now
             (expr_of (choice_view choice.now) ∷ []) ∷ []) self.new }
     {
-        let facts = self.of_one(line.statement, choice, line.numbers.first);
-        self.note(line.numbers.target, line.place, facts);
+        let facts = self.of_one(line.statement, choice, number);
+        self.note(line.target, line.place, facts);
     }
 
-    /// Notes the expression of a line, where these stand for its two operands.
-    pub(crate) fn note_two(&mut self, line: &Line, left: &Choice, right: &Choice)
+    /// Notes the expression of a line, where these stand for its two operands, whose names have these numbers.
+    pub(crate) fn note_two(
+        &mut self,
+        line: &Line,
+        left: &Choice,
+        first: Option<usize>,
+        right: &Choice,
+        second: Option<usize>,
+    )
         ensures { (t : Numbering) (table : List (Option plain.Expr)) (x y : List ℕ) → IsKnown t table self.old →
             length table ≡ line.now.place → simple_operands line.now.statement.now ≡ Some (x ∷ y ∷ []) →
-            IsHint t x line.now.numbers.first → IsFrom table x (choice_view left.now) →
-            IsHint t y line.now.numbers.second → IsFrom table y (choice_view right.now) →
+            first ≡ number_of t x → IsFrom table x (choice_view left.now) →
+            second ≡ number_of t y → IsFrom table y (choice_view right.now) →
             IsKnown t (table ++ expr_with line.now.statement.now
             (expr_of (choice_view left.now) ∷ expr_of (choice_view right.now) ∷ []) ∷ []) self.new }
     {
-        let facts = self.of_two(line.numbers, left, right);
-        self.note(line.numbers.target, line.place, facts);
+        let facts = self.of_two(left, first, right, second);
+        self.note(line.target, line.place, facts);
     }
 }

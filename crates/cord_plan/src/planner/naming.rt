@@ -8,11 +8,10 @@ use crate::{Expr, Members};
 use cord_script::{Name, Number};
 use std::rc::Rc;
 
-// Whether two names differ, as most do: then their keys tell it.
 fn differs(known: &Name, name: &Name) -> bool
     ensures { result ≡ lacks (known.now ∷ []) name.now }
 {
-    known.key() != name.key() || !known.is(name)
+    !known.is(name)
 }
 
 fn number_lacks(number: &Number, name: &Name) -> bool

@@ -3,15 +3,14 @@ ghost use Rattle.std.specs.Prelude.{◌≡◌, ◌≤◌, ◌++◌, [], ◌∷�
 ghost use Rattle.cord_meaning.specs.Statements.{shape_of};
 ghost use Rattle.cord_plan.specs.Exprs.{names, names_of, number_names};
 ghost use Rattle.cord_plan.specs.Forced.{preserves};
-ghost use Rattle.cord_plan.specs.declared.flow.numbering.Numbering.{Numbering};
 ghost use Rattle.cord_plan.specs.inner.Choices.{nearest};
 ghost use Rattle.cord_plan.specs.inner.Known.{IsFacts};
-ghost use Rattle.cord_plan.specs.inner.Numbering.{AllHints, AreHints, number_of};
+ghost use Rattle.cord_plan.specs.inner.Numbering.{number_of};
 ghost use Rattle.cord_plan.specs.inner.Recent.{IsRecent, stay, bars};
 ghost use Rattle.cord_plan.specs.Views.{expr_view, members_of, members_view, shared_view};
 
 use crate::flow::{
-    LineNumbers, assigns, entry_at, entry_of, is_before, is_block, numbers_at, reads, unless_after,
+    GROUP, Numbering, assigns, entry_at, entry_of, is_before, is_block, reads, unless_after,
 };
 use crate::planner::choosing::Line;
 use crate::planner::known::Facts;
@@ -165,18 +164,17 @@ fn all_stay_far(line: &Line, from: usize, members: &[Rc<Expr>]) -> bool
 // Whether a line assigns no name of an expression.
 fn preserves(
     statement: &Statement,
-    numbers: LineNumbers,
+    numbering: &Numbering,
     expression: &Expr,
     facts: Option<&Facts>,
 ) -> bool
-    requires { (t : Numbering) × AreHints t statement.now numbers × IfSome facts (λ f.
-        IsFacts t (expr_view expression.now) f.now) }
+    requires { IfSome facts (λ f. IsFacts numbering.now (expr_view expression.now) f.now) }
     ensures { result ≡ preserves (Some statement.now) (names (expr_view expression.now)) }
 {
     match statement.target() {
         None => true,
-        Some(target) => match (facts, numbers.target) {
-            (Some(facts), Some(number)) => facts.lacks(number),
+        Some(target) => match (facts, numbering.number_of(target)) {
+            (Some(facts), Some(number)) if number < 2 * GROUP => facts.lacks(number),
             _ => lacks(expression, target),
         },
     }
@@ -185,15 +183,17 @@ fn preserves(
 // Whether no line from one place up to another assigns a name of an expression, line by line.
 fn stays_near(line: &Line, from: usize, expression: &Expr, facts: Option<&Facts>) -> bool
     requires place { line.now.place ≤ length line.now.statements.now }
-    requires hints { AllHints line.now.statements.now line.now.recent.now.later.now.numbering
-        line.now.recent.now.later.now.numbers.items }
     requires facts { IfSome facts (λ f. IsFacts line.now.recent.now.later.now.numbering (expr_view expression.now)
         f.now) }
     ensures { result ≡ stay line.now.statements.now from line.now.place (names (expr_view expression.now)) }
 {
     for p in from..line.place {
-        let numbers = numbers_at(&line.recent.later.numbers, p);
-        if !preserves(&line.statements[p], numbers, expression, facts) {
+        if !preserves(
+            &line.statements[p],
+            &line.recent.later.numbering,
+            expression,
+            facts,
+        ) {
             return false;
         }
     }
@@ -202,8 +202,6 @@ fn stays_near(line: &Line, from: usize, expression: &Expr, facts: Option<&Facts>
 
 /// Whether no line from a place up to a line assigns a name of an expression.
 pub(crate) fn stays(line: &Line, from: usize, expression: &Expr, facts: Option<&Facts>) -> bool
-    requires hints { AllHints line.now.statements.now line.now.recent.now.later.now.numbering
-        line.now.recent.now.later.now.numbers.items }
     requires facts { IfSome facts (λ f. IsFacts line.now.recent.now.later.now.numbering (expr_view expression.now)
         f.now) }
     requires place { line.now.place ≤ length line.now.statements.now }

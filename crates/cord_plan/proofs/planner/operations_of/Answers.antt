@@ -1,18 +1,15 @@
-use Rattle.std.proofs.Common.{◌≡◌, ℕ, Bool, false, List, [], ◌∷◌, ◌++◌, Some, map, length, refl, sym, ap, ◌∙◌, subst, arith}
+use Rattle.std.proofs.Common.{◌≡◌, Bool, false, [], ◌∷◌, ◌++◌, Some, map, length, refl, sym, ap, ◌∙◌, subst, arith}
 use Rattle.std.specs.Prelude.{option_map, slice_get}
 use Rattle.std.proofs.lemmas.Option.{slice_get_read}
 use Rattle.std.proofs.lemmas.List.{length-map, map-append}
 use Rattle.cord_plan.specs.inner.Known.{IsKnown}
 use Rattle.cord_plan.specs.inner.Liveness.{tells, IsTold}
-use Rattle.cord_plan.specs.inner.Numbering.{AllHints, AreHints}
+use Rattle.cord_plan.specs.inner.Numbering.{number_in}
 use Rattle.cord_plan.specs.inner.Steps.{IsStep, IsToldLonger, operation_expression}
 use Rattle.cord_plan.specs.Operands.{target_of}
 use Rattle.cord_plan.specs.Planned as plan
 use Rattle.cord_plan.specs.Views.{expr_view, operation_view}
-use Rattle.cord_syntax.specs.declared.statements.Statement.{Statement}
-use Rattle.cord_plan.specs.declared.flow.line_numbers.LineNumbers.{LineNumbers}
 use Rattle.cord_plan.specs.declared.flow.liveness.Later.{Later}
-use Rattle.cord_plan.specs.declared.flow.numbering.Numbering.{Numbering}
 use Rattle.cord_plan.proofs.Extending.{more_extending}
 use Rattle.cord_plan.proofs.Marked.{all_begun, begun_long, begun_none, begun_then, expressions_then, written_back}
 use Rattle.cord_plan.proofs.planner.operations_of.Goals as goal
@@ -107,34 +104,10 @@ pub returns-clause-made : goal.returns-clause-made
 returns-clause-made c = all_begun c.args.statements.now (tells c.args.later.now) c.loop-place.place
     (map operation_view c.loop-place.operations.items) c.loop-place-test.false c.loop-place.invariant.begun
 
--- the numbers of the next line are right
-right : (s : List Statement) (t old : Numbering) (all now : List LineNumbers) (numbers : LineNumbers) (p : ℕ) (l : Statement) → old ≡ t →
-    now ≡ all → AllHints s t all → slice_get s p ≡ Some l → (AllHints s t now → slice_get s p ≡ Some l → AreHints t l numbers) →
-    AreHints old l numbers
-right s t old all now numbers p l same is hints there tells = rw same (tells (rw is hints) there)
-
 pub note-requires : goal.note-requires
 note-requires c =
-    let s = c.args.statements.now in
-    let t = c.args.later.now.numbering in
     let l = c.index-statements-place.result in
-    right s t c.loop-place.recent.later.now.numbering c.args.later.now.numbers.items c.deref.result.now c.numbers_at-numbers.result
-    c.loop-place.place l (ap (λ (r : Later). r.numbering) c.loop-place.invariant.later) c.deref.ensures.value c.requires.hints
-    (slice_get_read s (length s) c.loop-place.place l refl c.loop-place-test.true c.index-statements-place.is)
-    (λ hints there. c.numbers_at-numbers.ensures s t l hints there)
-
-pub next_expression-requires-clause-hints : goal.next_expression-requires-clause-hints
-next_expression-requires-clause-hints c =
-    let s = c.args.statements.now in
-    let t = c.args.later.now.numbering in
-    let l = c.index-statements-place.result in
-    right s t c.loop-place.recent.later.now.numbering c.args.later.now.numbers.items c.deref.result.now c.numbers_at-numbers.result
-    c.loop-place.place l (ap (λ (r : Later). r.numbering) c.loop-place.invariant.later) c.deref.ensures.value c.requires.hints
-    (slice_get_read s (length s) c.loop-place.place l refl c.loop-place-test.true c.index-statements-place.is)
-    (λ hints there. c.numbers_at-numbers.ensures s t l hints there)
-
-pub next_expression-requires-clause-all_hints : goal.next_expression-requires-clause-all_hints
-next_expression-requires-clause-all_hints c = rw c.loop-place.invariant.later c.requires.hints
+    c.target_of-target.ensures ∙ ap (λ (later : Later). number_in later.numbering (target_of l)) (sym c.loop-place.invariant.later)
 
 pub next_expression-requires-clause-long : goal.next_expression-requires-clause-long
 next_expression-requires-clause-long c =
@@ -147,21 +120,11 @@ next_expression-requires-clause-long c =
 pub next_expression-requires-clause-known : goal.next_expression-requires-clause-known
 next_expression-requires-clause-known c = rw (c.loop-place.invariant.later, c.deref_mut.ensures.value) c.loop-place.invariant.known
 
-pub is_dead-dead-requires-clause-hints : goal.is_dead-dead-requires-clause-hints
-is_dead-dead-requires-clause-hints c =
-    let s = c.args.statements.now in
-    let t = c.args.later.now.numbering in
-    let l = c.index-statements-place.result in
-    right s t t c.args.later.now.numbers.items c.deref.result.now c.numbers_at-numbers.result
-    c.loop-place.place l refl c.deref.ensures.value c.requires.hints
-    (slice_get_read s (length s) c.loop-place.place l refl c.loop-place-test.true c.index-statements-place.is)
-    (λ hints there. c.numbers_at-numbers.ensures s t l hints there)
-
 pub is_dead-dead-requires-clause-told : goal.is_dead-dead-requires-clause-told
 is_dead-dead-requires-clause-told c =
     let s = c.args.statements.now in
     let l = c.index-statements-place.result in
-    c.requires.told c.loop-place.place l
+    c.requires c.loop-place.place l
     (slice_get_read s (length s) c.loop-place.place l refl c.loop-place-test.true c.index-statements-place.is)
 
 pub next_expression-requires-clause-told : goal.next_expression-requires-clause-told
@@ -170,4 +133,4 @@ next_expression-requires-clause-told c =
     let p = c.loop-place.place in
     let l = c.index-statements-place.result in
     subst (λ (later : Later). IsTold later l p) (sym c.loop-place.invariant.later)
-    (c.requires.told p l (slice_get_read s (length s) p l refl c.loop-place-test.true c.index-statements-place.is))
+    (c.requires p l (slice_get_read s (length s) p l refl c.loop-place-test.true c.index-statements-place.is))

@@ -23,4 +23,5 @@ of-requires-2 c =
       kept = subst (λ (os : List Operation). All KeepsNoOther os) (sym c.in_ok-planned.ensures.made)
           (kept_planned c.statements-statements.result.now (tells c.in_ok-later.later));
       extending = c.in_ok-planned.ensures.extending;
+      distinct = c.into_names.ensures;
     }

@@ -4,8 +4,8 @@ use Rattle.std.proofs.Math.Seq.{drop-length}
 use Rattle.std.proofs.lemmas.Option.{slice_get_read, slice_get_within}
 use Rattle.cord_syntax.specs.declared.statements.Statement.{Statement}
 use Rattle.cord_plan.specs.Operands.{reads_at, target_of}
-use Rattle.cord_plan.specs.inner.Ahead.{IsAhead, IsLineLater, later_in, number_in}
-use Rattle.cord_plan.specs.inner.Numbering.{AreHints}
+use Rattle.cord_plan.specs.inner.Ahead.{IsAhead, IsLineLater, later_in}
+use Rattle.cord_plan.specs.inner.Numbering.{number_in}
 use Rattle.cord_plan.specs.declared.flow.ahead.LineLater.{LineLater}
 use Rattle.cord_plan.specs.declared.flow.numbering.Numbering.{Numbering}
 use Rattle.cord_plan.proofs.Ahead.{from_place, line_is, told_more}
@@ -21,32 +21,6 @@ loop-place-init c =
       told = λ k l le e. (let lt : k < length s = slice_get_within s k l e in absurd (omega (arith, le, lt)));
     }
 
-pub target_number-target-requires : goal.target_number-target-requires
-target_number-target-requires c =
-    let s = c.args.statements.now in
-    let p = c.loop-place.place - 1 in
-    let l = c.index-statements-place.result in
-    c.numbers_at-numbers.ensures s c.args.numbering.now l c.requires.hints
-    (slice_get_read s (length s) p l refl (omega (arith, c.loop-place-test.true, c.loop-place.auto.place)) c.index-statements-place.is)
-
-pub operand_bits-requires : goal.operand_bits-requires
-operand_bits-requires c =
-    let s = c.args.statements.now in
-    let p = c.loop-place.place - 1 in
-    let l = c.index-statements-place.result in
-    subst (λ (t : Numbering). AreHints t l c.numbers_at-numbers.result) (sym c.loop-place.invariant.numbering)
-    (c.numbers_at-numbers.ensures s c.args.numbering.now l c.requires.hints
-    (slice_get_read s (length s) p l refl (omega (arith, c.loop-place-test.true, c.loop-place.auto.place)) c.index-statements-place.is))
-
-pub go_back-requires-clause-hints : goal.go_back-requires-clause-hints
-go_back-requires-clause-hints c =
-    let s = c.args.statements.now in
-    let p = c.loop-place.place - 1 in
-    let l = c.index-statements-place.result in
-    subst (λ (t : Numbering). AreHints t l c.numbers_at-numbers.result) (sym c.loop-place.invariant.numbering)
-    (c.numbers_at-numbers.ensures s c.args.numbering.now l c.requires.hints
-    (slice_get_read s (length s) p l refl (omega (arith, c.loop-place-test.true, c.loop-place.auto.place)) c.index-statements-place.is))
-
 pub go_back-requires-clause-known : goal.go_back-requires-clause-known
 go_back-requires-clause-known c =
     let s = c.args.statements.now in
@@ -55,7 +29,7 @@ go_back-requires-clause-known c =
     let lt : p < length s = omega (arith, c.loop-place-test.true, c.loop-place.auto.place) in
     let there : slice_get s p ≡ Some l = slice_get_read s (length s) p l refl lt c.index-statements-place.is in
     λ x r. rw c.loop-place.invariant.numbering
-    (c.requires.covers p lt x (ap (λ (o : Option Statement). reads_at o x) there ∙ r))
+    (c.requires p lt x (ap (λ (o : Option Statement). reads_at o x) there ∙ r))
 
 pub loop-place-preserved : goal.loop-place-preserved
 loop-place-preserved c =
@@ -70,8 +44,8 @@ loop-place-preserved c =
     let there : slice_get s p ≡ Some l = slice_get_read s (length s) p l refl lt c.index-statements-place.is in
     let line : LineLater = record { target = c.has_number.result; operands = c.operand_bits.result } in
     let told : IsLineLater l (λ x. later_in (drop q s) x) line =
-    line_is c.loop-place.ahead.numbering.now c.loop-place.ahead.read.items (drop q s) l line c.target_number-target.result before.ahead
-    c.has_number.ensures (c.target_number-target.ensures ∙ ap (λ (t : Numbering). number_in t (target_of l)) (sym before.numbering))
+    line_is c.loop-place.ahead.numbering.now c.loop-place.ahead.read.items (drop q s) l line c.target_of-target.result before.ahead
+    c.has_number.ensures (c.target_of-target.ensures ∙ ap (λ (t : Numbering). number_in t (target_of l)) (sym before.numbering))
     c.operand_bits.ensures in
     record {
       size = length-set lines p line ∙ before.size;

@@ -1,5 +1,5 @@
-use Rattle.std.proofs.Common.{sym, ◌∙◌}
+use Rattle.std.proofs.Common.{Some}
 use Rattle.cord_plan.proofs.flow.recent.note.Goals as goal
 
-pub returns-in-Some : goal.returns-in-Some
-returns-in-Some c = c.note_number.ensures c.args.numbering.now c.args.name.now (sym c.number_of.ensures ∙ c.in-Some.is)
+pub returns : goal.returns
+returns c = c.put.ensures c.args.numbering.now (Some c.args.name.now) c.number_of.ensures

@@ -15,9 +15,10 @@ pub returns-in-Some-Some : goal.returns-in-Some-Some
 returns-in-Some-Some c =
     let xs = names (expr_view c.args.expression.now) in
     let some : target_of c.args.statement.now ≡ Some c.in-Some.target.now = cc in
-    let number : number_of c.requires.0 c.in-Some.target.now ≡ Some c.in-Some-Some.number =
-    c.requires.1.target c.in-Some.target.now some c.in-Some-Some.number c.in-Some-Some.is-1 in
-    c.lacks.ensures c.requires.0 (expr_view c.args.expression.now) c.in-Some.target.now (rw c.in-Some-Some.is-0 at c.requires.2) number
+    let number : number_of c.args.numbering.now c.in-Some.target.now ≡ Some c.in-Some-Some.number =
+    sym c.number_of.ensures ∙ c.in-Some-Some.is-1 in
+    c.lacks.ensures c.args.numbering.now (expr_view c.args.expression.now) c.in-Some.target.now (rw c.in-Some-Some.is-0 at c.requires)
+    number
     ∙ sym (preserves_lacking c.args.statement.now c.in-Some.target.now some xs)
 
 pub returns-in_default : goal.returns-in_default

@@ -11,13 +11,13 @@ returns-clause-ahead c =
     let l = c.args.statement.now in
     let size = c.args.self.now.read.len in
     let old = c.args.self.now.read.items in
-    let now = c.clear.new.places in
+    let now = c.put.new.places in
     let new = c.note_read.new.places in
     let mid = take size (now ++ drop (length now) old) in
-    let back : mid ≡ now = written_back size now old (c.clear.auto.places ∙ c.deref_mut.ensures.len) in
+    let back : mid ≡ now = written_back size now old (c.put.auto.places ∙ c.deref_mut.ensures.len) in
     let clears : Puts t (λ x. assigns l x) None old now =
     subst (λ (ps : List (Option ℕ)). Puts t (λ x. assigns l x) None ps now) c.deref_mut.ensures.value
-    (c.clear.ensures t (target_of l) c.requires.target) in
+    (c.put.ensures t (target_of l) c.requires.target) in
     let notes : Notes t (λ x. reads l x) c.args.place now new =
     subst (λ (ps : List (Option ℕ)). Notes t (λ x. reads l x) c.args.place ps new) (c.deref_mut-2.ensures.value ∙ back)
     c.note_read.ensures in

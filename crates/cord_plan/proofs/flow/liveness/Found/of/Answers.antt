@@ -20,6 +20,6 @@ returns-then-not-has_blocks c =
 pub returns : goal.returns
 returns c = record {
   later = tells_exactly c.args.statements.now c.args.numbering.now c.in_ok-successors.successors.items c.in_ok-groups.groups.items
-      c.in_ok-successors.ensures c.requires.covers c.in_ok-groups.ensures;
+      c.in_ok-successors.ensures c.requires c.in_ok-groups.ensures;
   told = λ p l e lines is. (let bad : ⊥ = cc in absurd bad);
 }

@@ -4,13 +4,13 @@ use Rattle.cord_plan.proofs.planner.known.Facts.lacks.Goals as goal
 
 pub returns-then-number-lt-GROUP : goal.returns-then-number-lt-GROUP
 returns-then-number-lt-GROUP c = λ t e x facts is.
-    let place : 128 * 0 + c.from-number.result ≡ c.args.number = omega (arith, c.from-number.ensures) in
+    let place : 128 * 0 + c.args.number ≡ c.args.number = omega arith in
     ap not c.has_bit.ensures
-    ∙ told_lacks t 0 e c.args.self.now.low c.args.number c.from-number.result x facts.low is place c.if-number-lt-GROUP.true
+    ∙ told_lacks t 0 e c.args.self.now.low c.args.number c.args.number x facts.low is place c.if-number-lt-GROUP.true
 
 pub returns-else-number-lt-GROUP : goal.returns-else-number-lt-GROUP
 returns-else-number-lt-GROUP c = λ t e x facts is.
-    let place : 128 * 1 + (c.from-number.result - 128) ≡ c.args.number = omega (arith, c.from-number.ensures, c.if-number-lt-GROUP.false) in
-    let within : c.from-number.result - 128 < 128 = omega (arith, c.from-number.ensures, c.ranges.number.fits) in
+    let place : 128 * 1 + (c.args.number - 128) ≡ c.args.number = omega (arith, c.if-number-lt-GROUP.false) in
+    let within : c.args.number - 128 < 128 = omega (arith, c.requires) in
     ap not c.has_bit-else-number-lt-GROUP.ensures
-    ∙ told_lacks t 1 e c.args.self.now.high c.args.number (c.from-number.result - 128) x facts.high is place within
+    ∙ told_lacks t 1 e c.args.self.now.high c.args.number (c.args.number - 128) x facts.high is place within

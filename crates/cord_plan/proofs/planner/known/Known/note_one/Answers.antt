@@ -8,9 +8,9 @@ use Rattle.cord_plan.proofs.Known.{known_more, last_in}
 use Rattle.cord_plan.proofs.planner.known.Known.note_one.Goals as goal
 
 pub returns : goal.returns
-returns c = λ t table x known size hint from.
+returns c = λ t table x known size number from.
     let line = c.args.line.now in
     let o = expr_with line.statement.now (expr_of (choice_view c.args.choice.now) ∷ []) in
     c.note.ensures t (table ++ o ∷ []) (known_more t table o c.args.self.now known)
-    (IfSome_then c.of_one-facts.result (c.of_one-facts.ensures t table x known hint from)
+    (IfSome_then c.of_one-facts.result (c.of_one-facts.ensures t table x known number from)
     (λ f has. subst (λ (p : Option Expr). HasFacts t p f) (sym (last_in table o line.place size)) has))

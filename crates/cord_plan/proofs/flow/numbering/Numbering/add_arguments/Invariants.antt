@@ -1,7 +1,0 @@
-use Rattle.std.proofs.Common.{take}
-use Rattle.cord_plan.specs.Operands.{cord_arguments}
-use Rattle.cord_plan.specs.inner.Numbering.{Adds, names_of}
-use Rattle.cord_plan.proofs.flow.numbering.Numbering.add_arguments.Given as goal
-
-abbrev pub invariant-loop-argument : goal.invariant-loop-argument
-invariant-loop-argument l = Adds (cord_arguments (take l.argument-index l.arguments)) (names_of l.initial.self) (names_of l.self)
