@@ -1,0 +1,51 @@
+use Rattle.std.proofs.Common.{◌≡◌, ◌∙◌, ◌+◌, ◌-◌, ◌≤◌, ◌++◌, ◌^◌, ℕ, List, [], length, length-append, map, take, drop, ap, refl, sym, subst, arith}
+use Rattle.std.proofs.lemmas.List.{length-take, length-map}
+use Rattle.std.specs.Prelude.{Option}
+use Rattle.cord_raw.specs.declared.buffer.TheConstants.RawBuf.{CAP}
+use Rattle.cord_node.specs.declared.Node.{Node}
+use Rattle.cord_node.specs.Tree.{Cell, known}
+use Rattle.cord_node.specs.Kept.{Part}
+use Rattle.cord_core.specs.Cord.{text, text_len, parts_of}
+use Rattle.cord_ec.specs.Gathered.{Growth, Gathered, leaf_parts}
+use Rattle.cord_edit.specs.declared.gap.Gap.{Gap}
+use Rattle.cord_edit.specs.Edits.{edited}
+use Rattle.cord_edit.specs.inner.Gaps.{gap_bytes}
+use Rattle.cord_edit.proofs.Steps.{gapped, removed_next, removed_apart}
+use Rattle.cord_edit.proofs.Editing.{edited_by}
+use Rattle.cord_edit.proofs.Parting.{tail_cut, unchanged_parts}
+use Rattle.cord_edit.proofs.buffer.EditBuffer.remove.Goals as goal
+
+pub returns-then-end-until-clause-text : goal.returns-then-end-until-clause-text
+returns-then-end-until-clause-text c = removed_next (text c.self.inside.cord) c.args.self.now.text (gap_bytes c.self.inside.gap)
+    c.self.inside.front c.self.inside.back (text_len c.self.inside.cord) c.len-len.result (ap (λ (g : Growth). g.text) c.self.view_is)
+    c.self.invariant.3 c.self.invariant.0 c.self.invariant.1 c.len-len.ensures.value (gap_bytes c.truncate.new.self)
+    c.min-self-inside.result c.saturating_sub.result c.min-from.result c.min-until.result (c.self.inside.front + c.len.result) c.args.start
+    c.args.count c.saturating_add.result (2 ^ 64 - 1) c.min-self-inside.ensures c.saturating_sub.ensures c.truncate.ensures
+    (ap (λ (n : ℕ). c.self.inside.front + n) c.len.ensures.value) c.if-from-end.true c.if-end-until.true
+    (omega (arith, c.len-len.ensures.limit)) c.min-from.ensures c.saturating_add.ensures c.min-until.ensures
+
+pub returns-then-end-until-clause-over : goal.returns-then-end-until-clause-over
+returns-then-end-until-clause-over c = edited_by c.args.start c.args.count [] c.args.self.now.text _ (returns-then-end-until-clause-text c)
+
+pub returns-then-end-until-clause-gathered : goal.returns-then-end-until-clause-gathered
+returns-then-end-until-clause-gathered c =
+    let ps : List Part = parts_of c.self.inside.cord in
+    let g : List ℕ = gap_bytes c.self.inside.gap in
+    let n : ℕ = c.saturating_sub.result in
+    let fits : length (take n g) ≤ CAP = omega (arith, length-take n g, c.len.ensures.value, c.len.ensures.limit) in
+    subst (λ (old : List Part). Gathered 1 old (ps ++ leaf_parts (gap_bytes c.truncate.new.self))) (ap (λ (e : Growth). e.parts) c.self.view_is)
+    (subst (λ (h : List ℕ). Gathered 1 (ps ++ leaf_parts g) (ps ++ leaf_parts h)) (sym c.truncate.ensures) (tail_cut ps g n fits))
+
+pub returns-in_err-flush-clause-gathered : goal.returns-in_err-flush-clause-gathered
+returns-in_err-flush-clause-gathered c = unchanged_parts 1 _ _ _ (ap (λ (g : Growth). g.parts) c.self.view_is)
+    (ap (λ (n : Option Node). parts_of n ++ leaf_parts (gap_bytes c.flush.new.gap)) (c.in_err-flush.ensures.cord_unchanged refl)
+    ∙ ap (λ (g : Gap). parts_of c.self.inside.cord ++ leaf_parts (gap_bytes g)) (c.in_err-flush.ensures.gap_unchanged refl))
+
+pub returns-clause-text : goal.returns-clause-text
+returns-clause-text c = removed_apart (text c.flush.new.cord) c.args.self.now.text (gap_bytes c.flush.new.gap) c.len-len.result
+    c.min-from.result c.min-until.result c.args.start c.args.count c.saturating_add.result (2 ^ 64 - 1)
+    (c.in_ok-flush.ensures.text ∙ ap (λ (g : Growth). g.text) c.self.view_is) c.in_ok-flush.ensures.emptied c.len-len.ensures.value
+    (omega (arith, c.len-len.ensures.limit)) c.min-from.ensures c.saturating_add.ensures c.min-until.ensures
+
+pub returns-clause-over : goal.returns-clause-over
+returns-clause-over c = edited_by c.args.start c.args.count [] c.args.self.now.text _ (returns-clause-text c)

@@ -1,0 +1,306 @@
+// The gap buffer.
+ghost use Rattle.std.specs.Prelude.{◌≡◌, ℕ, ◌+◌, ◌-◌, ◌<◌, ◌≤◌, min, List, [], ◌++◌, length, map, take, drop};
+ghost use Rattle.std.specs.Prelude.{Err, IfOk, OnOk, IfErr, IsErr, IsOkUnless};
+ghost use Rattle.cord_io.specs.Table.{Table};
+ghost use Rattle.cord_node.specs.Tree.{known};
+ghost use Rattle.cord_core.specs.Cord.{text, text_len, parts_of, IsCord};
+ghost use Rattle.cord_core.specs.Refusals.{IsRefusal};
+ghost use Rattle.cord_ec.specs.Gathered.{leaf_bytes, leaf_parts, Gathered};
+ghost use Rattle.cord_ec.specs.Grown.{bytes_over, IsCordOf};
+ghost use Rattle.cord_edit.specs.Edits.{edited, IsTextOf, IsEdited, IsEditedByCord};
+ghost use Rattle.cord_edit.specs.inner.Gaps.{gap_bytes};
+
+use crate::gap::{Gap, MOST};
+use cord_core::Cord;
+use cord_ec::ExtCord;
+use cord_io::{CordError, MAX_LEN};
+use std::alloc::Global;
+use std::marker::Model;
+
+/// A text of at most `MAX_LEN` bytes that is edited at a place, the gap, which moves now and then.
+///
+/// It is a cord with a range cut out, and the gap's bytes in its place, at most 4,096. An insert at the gap's end or in
+/// front of its bytes, and a removal that reaches up to its end or begins there, touch no tree and take constant time,
+/// beside the copy of the bytes. An edit elsewhere moves the gap: its bytes become one leaf of the cord, by one
+/// `Cord::splice`, which takes steps for each level of the tree.
+#[derive(Drop)]
+pub struct EditBuffer {
+    cord: Cord,
+    // The text begins with so many bytes of the cord,
+    front: u64,
+    // and ends with those from here on.
+    back: u64,
+    gap: Gap,
+}
+
+impl Model for EditBuffer {
+    ghost use Rattle.std.specs.Prelude.{◌≡◌, ◌≤◌, ◌+◌, ◌-◌, ◌++◌, length, map, take, drop};
+    ghost use Rattle.cord_io.specs.declared.TheConstants.{MAX_LEN};
+    ghost use Rattle.cord_node.specs.Tree.{known};
+    ghost use Rattle.cord_core.specs.Cord.{text, text_len, parts_of};
+    ghost use Rattle.cord_ec.specs.Gathered.{Growth, coded_growth, leaf_parts};
+    ghost use Rattle.cord_edit.specs.inner.Gaps.{gap_bytes};
+
+    ghost Value = { Growth };
+
+    ghost coded = { coded_growth };
+
+    // The gap's bytes are a leaf after the cord's parts.
+    ghost view = { λ e. record {
+      text = take e.front (text e.cord) ++ map known (gap_bytes e.gap) ++ drop e.back (text e.cord);
+      parts = parts_of e.cord
+          ++ leaf_parts (gap_bytes e.gap);
+    } };
+
+    ghost invariant = { λ e. (e.front ≤ e.back) × (e.back ≤ text_len e.cord) × (text_len e.cord ≤ MAX_LEN)
+        × (length (text e.cord) ≡ text_len e.cord)
+        × (e.front + length (gap_bytes e.gap) + (text_len e.cord - e.back) ≤ MAX_LEN) };
+}
+
+impl EditBuffer {
+    /// A buffer with the text of `cord`, whose tree it shares, and the gap at its end. Refused for want of memory alone.
+    pub fn of(alloc: Global, cord: &Cord) -> Result<EditBuffer, CordError>
+        ensures text { IfOk result (λ made. made.text ≡ text cord.now) }
+        ensures over { IfOk result (λ made. IsTextOf cord.now made.text) }
+        ensures parts { IfOk result (λ made. made.parts ≡ parts_of cord.now) }
+        ensures refused { IsOkUnless result CordError.NoMemory }
+    {
+        let gap = Gap::new(alloc)?;
+        let shared = cord.share(alloc)?;
+        let len = shared.len();
+        Ok(EditBuffer {
+            cord: shared,
+            front: len,
+            back: len,
+            gap,
+        })
+    }
+
+    /// The length of the text, in bytes.
+    pub fn len(&self) -> u64
+        ensures value { result ≡ length self.now.text }
+        ensures over { (t : Table) → result ≡ length (bytes_over t self.now.text) }
+        ensures limit { result ≤ MAX_LEN }
+    {
+        self.front + self.gap.len() as u64 + (self.cord.len() - self.back)
+    }
+
+    /// Puts bytes, of which it takes a copy, in front of the byte `at`: at the end where `at` is at or past the end.
+    /// `TooLong` where the text would be longer than `MAX_LEN`, `NoMemory` where memory was refused. After either the
+    /// text is as before.
+    pub fn insert(&mut self, alloc: Global, at: u64, bytes: &[u8]) -> Result<(), CordError>
+        ensures text { IfOk result (λ _. self.new.text ≡ edited at 0 (map known bytes.now) self.old.text) }
+        ensures over { IfOk result (λ _. IsEdited at 0 bytes.now self.old.text self.new.text) }
+        ensures gathered { (k : ℕ) → length bytes.now ≤ leaf_bytes k → Gathered (2 + k) self.old.parts self.new.parts }
+        ensures unchanged { IsErr result → self.new.text ≡ self.old.text }
+        ensures too_long { result ≡ Err CordError.TooLong → MAX_LEN < length self.old.text + length bytes.now }
+        ensures within_limit { OnOk result (length self.old.text + length bytes.now ≤ MAX_LEN) }
+        ensures refused { IfErr result IsRefusal }
+    {
+        let len = self.len();
+        if bytes.len() as u64 > MAX_LEN - len {
+            return Err(CordError::TooLong);
+        }
+        let at = at.min(len);
+        if at == self.front + self.gap.len() as u64 && self.gap.fits_behind(bytes.len()) {
+            self.gap.append(bytes);
+            return Ok(());
+        }
+        if at == self.front && self.gap.fits_in_front(bytes.len()) {
+            self.gap.prepend(bytes);
+            return Ok(());
+        }
+        self.insert_apart(alloc, at, bytes)?;
+        Ok(())
+    }
+
+    /// Takes out the `count` bytes from `start` on, of those that there are: from past the end on there are none.
+    /// Refused for want of memory alone; then the text is as before.
+    pub fn remove(&mut self, alloc: Global, start: u64, count: u64) -> Result<(), CordError>
+        ensures text { IfOk result (λ _. self.new.text ≡ edited start count [] self.old.text) }
+        ensures over { IfOk result (λ _. IsEdited start count [] self.old.text self.new.text) }
+        ensures gathered { Gathered 1 self.old.parts self.new.parts }
+        ensures unchanged { IsErr result → self.new.text ≡ self.old.text }
+        ensures refused { IsOkUnless result CordError.NoMemory }
+    {
+        let len = self.len();
+        let from = start.min(len);
+        let until = start.saturating_add(count).min(len);
+        let end = self.front + self.gap.len() as u64;
+        if from <= end && end <= until {
+            self.gap.truncate(from.saturating_sub(self.front) as usize);
+            self.front = self.front.min(from);
+            self.back += until - end;
+            return Ok(());
+        }
+        flush(alloc, &mut self.cord, self.front, self.back, &mut self.gap)?;
+        self.front = from;
+        self.back = until;
+        Ok(())
+    }
+
+    /// Puts the text of `middle`, whose tree is shared, in the place of the `count` bytes from `start` on, of those that
+    /// there are: from past the end on there are none, and `middle` comes last. The gap is then behind it.
+    /// `TooLong` where the text would be longer than `MAX_LEN`, `NoMemory` where memory was refused. After either the
+    /// text is as before.
+    pub fn splice(
+        &mut self,
+        alloc: Global,
+        start: u64,
+        count: u64,
+        middle: &Cord,
+    ) -> Result<(), CordError>
+        ensures text { IfOk result (λ _. self.new.text ≡ edited start count (text middle.now) self.old.text) }
+        ensures over { IfOk result (λ _. IsEditedByCord start count middle.now self.old.text self.new.text) }
+        ensures gathered { Gathered 2 (self.old.parts ++ parts_of middle.now) self.new.parts }
+        ensures unchanged { IsErr result → self.new.text ≡ self.old.text }
+        ensures too_long { result ≡ Err CordError.TooLong → MAX_LEN < min start (length self.old.text)
+            + text_len middle.now + (length self.old.text - (start + count)) }
+        ensures within_limit { OnOk result (min start (length self.old.text) + text_len middle.now
+            + (length self.old.text - (start + count)) ≤ MAX_LEN) }
+        ensures refused { IfErr result IsRefusal }
+    {
+        let end = flush(alloc, &mut self.cord, self.front, self.back, &mut self.gap)?;
+        self.front = end;
+        self.back = end;
+        let from = start.min(self.cord.len());
+        self.cord.splice(alloc, start, count, middle)?;
+        self.front = from + middle.len();
+        self.back = self.front;
+        Ok(())
+    }
+
+    /// The text as a cord, which shares its tree with this one. The text stays, and can be edited further. Refused for
+    /// want of memory alone.
+    pub fn to_cord(&mut self, alloc: Global) -> Result<Cord, CordError>
+        ensures text { IfOk result (λ c. text c ≡ self.old.text) }
+        ensures over { IfOk result (IsCordOf self.old.text) }
+        ensures sound { IfOk result IsCord }
+        ensures gathered { IfOk result (λ c. Gathered 1 self.old.parts (parts_of c)) }
+        ensures same { self.new.text ≡ self.old.text }
+        ensures stays { Gathered 1 self.old.parts self.new.parts }
+        ensures refused { IsOkUnless result CordError.NoMemory }
+    {
+        let end = flush(alloc, &mut self.cord, self.front, self.back, &mut self.gap)?;
+        self.front = end;
+        self.back = end;
+        let cord = self.cord.share(alloc)?;
+        Ok(cord)
+    }
+
+    // Puts bytes in front of the byte `at`, where the gap isn't or hasn't room for them.
+    #[cold]
+    #[inline(never)]
+    fn insert_apart(&mut self, alloc: Global, at: u64, bytes: &[u8]) -> Result<(), CordError>
+        requires inside { at ≤ length self.old.text }
+        requires within_limit { length self.old.text + length bytes.now ≤ MAX_LEN }
+        ensures text { IfOk result (λ _. self.new.text ≡ edited at 0 (map known bytes.now) self.old.text) }
+        ensures gathered { (k : ℕ) → length bytes.now ≤ leaf_bytes k → Gathered (2 + k) self.old.parts self.new.parts }
+        ensures unchanged { IsErr result → self.new.text ≡ self.old.text }
+        ensures refused { IsOkUnless result CordError.NoMemory }
+    {
+        flush(alloc, &mut self.cord, self.front, self.back, &mut self.gap)?;
+        self.front = at;
+        self.back = at;
+        if bytes.len() <= MOST {
+            self.gap.append(bytes);
+            return Ok(());
+        }
+        put_leaves(alloc, &mut self.cord, at, bytes)?;
+        self.front = at + bytes.len() as u64;
+        self.back = self.front;
+        Ok(())
+    }
+}
+
+// Puts the gap's bytes into the cord, in the place of those from `front` up to `back`, and empties it. Answers the place
+// behind them.
+fn flush(
+    alloc: Global,
+    cord: &mut Cord,
+    front: u64,
+    back: u64,
+    gap: &mut Gap,
+) -> Result<u64, CordError>
+    requires order { front ≤ back }
+    requires inside { back ≤ text_len cord.old }
+    requires counted { length (text cord.old) ≡ text_len cord.old }
+    requires within_limit { front + length (gap_bytes gap.old) + (text_len cord.old - back) ≤ MAX_LEN }
+    ensures text { IfOk result (λ _. text cord.new
+        ≡ take front (text cord.old) ++ map known (gap_bytes gap.old) ++ drop back (text cord.old)) }
+    ensures len { IfOk result (λ _. text_len cord.new
+        ≡ front + length (gap_bytes gap.old) + (text_len cord.old - back)) }
+    ensures counted { IfOk result (λ _. length (text cord.new) ≡ text_len cord.new) }
+    ensures place { IfOk result (λ place. place ≡ front + length (gap_bytes gap.old)) }
+    ensures gathered { IfOk result (λ _. Gathered 1 (parts_of cord.old ++ leaf_parts (gap_bytes gap.old))
+        (parts_of cord.new)) }
+    ensures emptied { IfOk result (λ _. gap_bytes gap.new ≡ []) }
+    ensures gap_start { IfOk result (λ _. gap.new.start ≡ MOST) }
+    ensures gap_end { IfOk result (λ _. gap.new.end ≡ MOST) }
+    ensures cord_unchanged { IsErr result → cord.new ≡ cord.old }
+    ensures gap_unchanged { IsErr result → gap.new ≡ gap.old }
+    ensures refused { IsOkUnless result CordError.NoMemory }
+{
+    if front == back && gap.len() == 0 {
+        gap.clear();
+        return Ok(front);
+    }
+    let end = front + gap.len() as u64;
+    put_bytes(alloc, cord, front, back, gap.bytes())?;
+    gap.clear();
+    Ok(end)
+}
+
+// Puts bytes, which are one leaf, in the place of those from `from` up to `until`.
+fn put_bytes(
+    alloc: Global,
+    cord: &mut Cord,
+    from: u64,
+    until: u64,
+    bytes: &[u8],
+) -> Result<(), CordError>
+    requires order { from ≤ until }
+    requires inside { until ≤ text_len cord.old }
+    requires leaf { length bytes.now ≤ MOST }
+    requires within_limit { from + length bytes.now + (text_len cord.old - until) ≤ MAX_LEN }
+    ensures text { IfOk result (λ _. text cord.new
+        ≡ take from (text cord.old) ++ map known bytes.now ++ drop until (text cord.old)) }
+    ensures len { IfOk result (λ _. text_len cord.new ≡ from + length bytes.now + (text_len cord.old - until)) }
+    ensures gathered { IfOk result (λ _. Gathered 1 (parts_of cord.old ++ leaf_parts bytes.now) (parts_of cord.new)) }
+    ensures unchanged { IsErr result → cord.new ≡ cord.old }
+    ensures refused { IsOkUnless result CordError.NoMemory }
+{
+    let leaf = Cord::from_bytes(alloc, bytes)?;
+    cord.splice(alloc, from, until - from, &leaf)?;
+    Ok(())
+}
+
+// Puts bytes in front of the byte `at`, as leaves of at most `RawBuf::CAP` bytes.
+fn put_leaves(alloc: Global, cord: &mut Cord, at: u64, bytes: &[u8]) -> Result<(), CordError>
+    requires inside { at ≤ text_len cord.old }
+    requires within_limit { text_len cord.old + length bytes.now ≤ MAX_LEN }
+    ensures text { IfOk result (λ _. text cord.new ≡ take at (text cord.old) ++ map known bytes.now ++ drop at (text cord.old)) }
+    ensures len { IfOk result (λ _. text_len cord.new ≡ text_len cord.old + length bytes.now) }
+    ensures gathered { IfOk result (λ _. (k : ℕ) → length bytes.now ≤ leaf_bytes k →
+        Gathered (1 + k) (parts_of cord.old) (parts_of cord.new)) }
+    ensures unchanged { IsErr result → cord.new ≡ cord.old }
+    ensures refused { IsOkUnless result CordError.NoMemory }
+{
+    let leaves = leaves_of(alloc, bytes)?;
+    cord.splice(alloc, at, 0, &leaves)?;
+    Ok(())
+}
+
+// Bytes as leaves of at most `RawBuf::CAP` bytes.
+fn leaves_of(alloc: Global, bytes: &[u8]) -> Result<Cord, CordError>
+    requires { length bytes.now ≤ MAX_LEN }
+    ensures text { IfOk result (λ c. text c ≡ map known bytes.now) }
+    ensures len { IfOk result (λ c. text_len c ≡ length bytes.now) }
+    ensures gathered { IfOk result (λ c. (k : ℕ) → length bytes.now ≤ leaf_bytes k → Gathered k [] (parts_of c)) }
+    ensures refused { IsOkUnless result CordError.NoMemory }
+{
+    let mut grown = ExtCord::new(alloc)?;
+    grown.append_bytes(alloc, bytes)?;
+    let leaves = grown.to_cord(alloc)?;
+    Ok(leaves)
+}
