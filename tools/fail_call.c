@@ -1,7 +1,8 @@
-/* Makes a machine call of a program fail: preloaded, of the calls of read, pread, write, lseek, open and openat that
-   begin with main, the one that has the number FAIL_NTH (from 1) fails with the error number FAIL_ERROR (EIO if it
-   isn't set), and all others are served. With FAIL_SHORT each read and write moves one byte at most. With FAIL_COUNT
-   the number of calls is written to that file when the program ends, and with it the name of the call that failed.
+/* Makes a machine call of a program fail: preloaded, of the calls of read, pread, write, lseek, statx, open and openat
+   that begin with main, the one that has the number FAIL_NTH (from 1) fails with the error number FAIL_ERROR (EIO if
+   it isn't set), and all others are served. With FAIL_SHORT each read and write moves one byte at most. With
+   FAIL_COUNT the number of calls is written to that file when the program ends, and with it the name of the call that
+   failed.
 
    cc -shared -fPIC -O2 -o fail_call.so fail_call.c -ldl */
 #define _GNU_SOURCE
@@ -11,6 +12,7 @@
 #include <stdarg.h>
 #include <stdio.h>
 #include <stdlib.h>
+#include <sys/stat.h>
 #include <sys/types.h>
 #include <unistd.h>
 
@@ -63,6 +65,12 @@ off64_t lseek64(int fd, off64_t to, int whence) {
     static off64_t (*next)(int, off64_t, int);
     FIND("lseek64");
     return fails("lseek") ? -1 : next(fd, to, whence);
+}
+
+int statx(int folder, const char *path, int flags, unsigned mask, struct statx *to) {
+    static int (*next)(int, const char *, int, unsigned, struct statx *);
+    FIND("statx");
+    return fails("statx") ? -1 : next(folder, path, flags, mask, to);
 }
 
 static mode_t mode_of(int flags, va_list rest) { return flags & (O_CREAT | O_TMPFILE) ? va_arg(rest, mode_t) : 0; }
