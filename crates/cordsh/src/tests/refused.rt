@@ -3,6 +3,7 @@
 use super::hostile::{FILE_TWICE, Hostile, expect_stopped, files_of, whole};
 use super::{Driven, WAYS, drive_over};
 use cord_io::Sink;
+use std::io::Print;
 use std::process::Abort;
 
 const SEAM: Hostile<'static> = Hostile {
@@ -34,9 +35,10 @@ fn is_served(
 }
 
 // Drives a script both ways. A run that was refused memory, in its work or on `out`, tells it whole, since only one
-// allocation is refused; the next run is served.
+// allocation is refused; the next run is served. Its status is printed, for whoever refuses each allocation in turn and
+// looks for both.
 fn expect_refusable(
-    rt: &(impl AllocGlobal + Abort),
+    rt: &(impl AllocGlobal + Abort + Print),
     hostile: &Hostile<'_>,
     status: u8,
     told: &[u8],
@@ -45,6 +47,11 @@ fn expect_refusable(
         let come = drive_over(rt, words, files_of(rt, hostile));
         if !is_served(rt, hostile, &come, status, told) {
             assert!(rt; come.status == 3 || come.status == 5);
+            let _ = rt.println(if come.status == 3 {
+                "saw: status 3"
+            } else {
+                "saw: status 5"
+            });
             assert!(rt; (come.out.failures() == 1) == (come.status == 5));
             let _ = expect_stopped(rt, hostile, come.status, come.out.bytes(), come.err.bytes());
             let next = drive_over(rt, words, files_of(rt, hostile));
