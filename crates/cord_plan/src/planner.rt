@@ -7,7 +7,6 @@ mod joining;
 mod known;
 mod lines;
 mod measuring;
-mod naming;
 mod parts;
 mod staying;
 

@@ -1,6 +1,7 @@
 // Which line gave a name its cord last, and whether the names of its expression stay what they were.
 ghost use Rattle.std.specs.Prelude.{◌≡◌, ◌≤◌, ◌++◌, [], ◌∷◌, Some, IfSome, length, map};
 ghost use Rattle.cord_meaning.specs.Statements.{shape_of};
+ghost use Rattle.cord_plan.specs.Exprs as plain;
 ghost use Rattle.cord_plan.specs.Exprs.{names, names_of, number_names};
 ghost use Rattle.cord_plan.specs.Forced.{preserves};
 ghost use Rattle.cord_plan.specs.inner.Choices.{nearest};
@@ -14,7 +15,6 @@ use crate::flow::{
 };
 use crate::planner::choosing::Line;
 use crate::planner::known::Facts;
-use crate::planner::naming::lacks;
 use crate::{Expr, Members};
 use cord_script::{Name, Number, Statement};
 use std::rc::Rc;
@@ -161,43 +161,44 @@ fn all_stay_far(line: &Line, from: usize, members: &[Rc<Expr>]) -> bool
     true
 }
 
-// Whether a line assigns no name of an expression.
-fn preserves(
-    statement: &Statement,
-    numbering: &Numbering,
-    expression: &Expr,
-    facts: Option<&Facts>,
-) -> bool
-    requires { IfSome facts (λ f. IsFacts numbering.now (expr_view expression.now) f.now) }
-    ensures { result ≡ preserves (Some statement.now) (names (expr_view expression.now)) }
+// Whether a line assigns no name of an expression of which this is known, where the number of the name tells it.
+fn preserves(statement: &Statement, numbering: &Numbering, facts: &Facts) -> Option<bool>
+    ensures { (e : plain.Expr) → IsFacts numbering.now e facts.now →
+        IfSome result (λ v. v ≡ preserves (Some statement.now) (names e)) }
 {
     match statement.target() {
-        None => true,
-        Some(target) => match (facts, numbering.number_of(target)) {
-            (Some(facts), Some(number)) if number < 2 * GROUP => facts.lacks(number),
-            _ => lacks(expression, target),
+        None => Some(true),
+        Some(target) => match numbering.number_of(target) {
+            Some(number) if number < 2 * GROUP => Some(facts.lacks(number)),
+            _ => None,
         },
     }
 }
 
-// Whether no line from one place up to another assigns a name of an expression, line by line.
-fn stays_near(line: &Line, from: usize, expression: &Expr, facts: Option<&Facts>) -> bool
-    requires place { line.now.place ≤ length line.now.statements.now }
-    requires facts { IfSome facts (λ f. IsFacts line.now.recent.now.later.now.numbering (expr_view expression.now)
-        f.now) }
-    ensures { result ≡ stay line.now.statements.now from line.now.place (names (expr_view expression.now)) }
+// Whether no line from one place up to another assigns a name of an expression of which this is known, line by line.
+fn stays_near(line: &Line, from: usize, facts: &Facts) -> Option<bool>
+    requires { line.now.place ≤ length line.now.statements.now }
+    ensures { (e : plain.Expr) → IsFacts line.now.recent.now.later.now.numbering e facts.now →
+        IfSome result (λ v. v ≡ stay line.now.statements.now from line.now.place (names e)) }
 {
     for p in from..line.place {
-        if !preserves(
-            &line.statements[p],
-            &line.recent.later.numbering,
-            expression,
-            facts,
-        ) {
-            return false;
+        if !preserves(&line.statements[p], &line.recent.later.numbering, facts)? {
+            return Some(false);
         }
     }
-    true
+    Some(true)
+}
+
+// The same of an expression of which this may be known, where the lines are few.
+fn stays_known(line: &Line, from: usize, facts: Option<&Facts>) -> Option<bool>
+    requires { line.now.place ≤ length line.now.statements.now }
+    ensures { (e : plain.Expr) → IfSome facts.entry (λ f. IsFacts line.now.recent.now.later.now.numbering e f.now) →
+        IfSome result (λ v. v ≡ stay line.now.statements.now from line.now.place (names e)) }
+{
+    match facts {
+        Some(facts) if line.place <= from.saturating_add(NEAR) => stays_near(line, from, facts),
+        _ => None,
+    }
 }
 
 /// Whether no line from a place up to a line assigns a name of an expression.
@@ -208,9 +209,8 @@ pub(crate) fn stays(line: &Line, from: usize, expression: &Expr, facts: Option<&
     requires recent { IsRecent line.now.statements.now line.now.place line.now.recent.now }
     ensures { result ≡ stay line.now.statements.now from line.now.place (names (expr_view expression.now)) }
 {
-    if line.place <= from.saturating_add(NEAR) {
-        stays_near(line, from, expression, facts)
-    } else {
-        stays_far(line, from, expression)
+    match stays_known(line, from, facts) {
+        Some(stays) => stays,
+        None => stays_far(line, from, expression),
     }
 }
