@@ -1,5 +1,5 @@
-/* The core of an editor: a buffer whose every version is kept, since versions share what they have in common. The file is
- * opened lazily, so it may be greater than the memory: what isn't looked at stays in it.
+/* The core of an editor: a buffer whose every version is kept, since versions share what they have in common. The
+ * file is opened lazily, so it may be greater than the memory: what isn't looked at stays in it.
  *
  *     editor FILE < COMMANDS
  *

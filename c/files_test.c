@@ -1,5 +1,5 @@
-/* Tests of what reads and writes descriptors, by rows as testing.h says: offsets and forks, reads and writes that stop part
- * of the way, and which files stay open. */
+/* Tests of what reads and writes descriptors, by rows as testing.h says: offsets and forks, reads and writes that
+ * stop part of the way, and which files stay open. */
 #define _GNU_SOURCE
 #include "testing.h"
 #include <dirent.h>

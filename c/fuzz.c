@@ -3,9 +3,9 @@
  *     fuzz SEED COUNT
  *
  * Handles are chosen freely, so that one is often given twice, and as the result too. One call in eight is refused a
- * request for memory, one of its first four: it has to say so or do without, and nothing may have changed. The linker puts
- * __wrap_malloc and __wrap_realloc in place of the two that the library calls. Prints how many calls were made, and how many
- * were refused. */
+ * request for memory, one of its first four: it has to say so or do without, and nothing may have changed. The linker
+ * puts __wrap_malloc and __wrap_realloc in place of the two that the library calls. Prints how many calls were made,
+ * and how many were refused. */
 #define _GNU_SOURCE
 #include "zomtsje.h"
 #include <errno.h>

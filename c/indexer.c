@@ -1,5 +1,5 @@
-/* Finds a word in a log: the place and the text of each line that has it. The log is opened lazily, so it may be greater
- * than the memory.
+/* Finds a word in a log: the place and the text of each line that has it. The log is opened lazily, so it may be
+ * greater than the memory.
  *
  *     indexer LOG WORD */
 #include <inttypes.h>

@@ -1,5 +1,6 @@
-/* What the library has in C: its version, codes in words, and files by the descriptors of POSIX. It stands on the proved
- * calls, and no proof speaks of it. tools/c-library compiles it beside them; zomtsje.h says what each call does. */
+/* What the library has in C: its version, codes in words, and files by the descriptors of POSIX. It stands on the
+ * proved calls, and no proof speaks of it. tools/c-library compiles it beside them; zomtsje.h says what each call
+ * does. */
 #define _POSIX_C_SOURCE 200809L
 #include "zomtsje.h"
 
@@ -101,7 +102,8 @@ int zc_lazy_put(zc_files *files, zc_lazy *x, int fd) {
     return zc_lazy_put_range(files, x, 0, ZC_MAX_LEN, fd, &done);
 }
 
-/* Adds what the descriptor gives to its end, and writes to *ended how it ended: ZC_OK at the end, or the code of a fault. */
+/* Adds what the descriptor gives to its end, and writes to *ended how it ended: ZC_OK at the end, or the code of a
+   fault. */
 static int read_to_end(int fd, zc_ext *all, int *ended) {
     unsigned char bytes[BLOCK];
     for (;;) {
@@ -159,8 +161,8 @@ int zc_from_path(const char *path, zc_cord *out) {
 
 /* ---- the files of lazy cords ---- */
 
-/* Opens a regular file and asks for what the system tells of it: its descriptor, or -1. A pipe with no writer doesn't hold
-   it up. */
+/* Opens a regular file and asks for what the system tells of it: its descriptor, or -1. A pipe with no writer doesn't
+   hold it up. */
 static int open_regular(const char *path, struct stat *told) {
     int fd = open_to_read(path, O_NONBLOCK | O_NOCTTY);
     if (fd >= 0 && (fstat(fd, told) != 0 || !S_ISREG(told->st_mode))) {

@@ -1,8 +1,8 @@
 /* zomtsje.h: cords, immutable byte strings that share their parts.
  *
  * A cord is a tree of parts. Joining two cords, or taking a part of one, makes a few new nodes and copies at most 64
- * bytes, so texts of any size are edited in almost no time, and old versions stay. A cord never changes; its parts are counted,
- * and freed with the last cord that has them.
+ * bytes, so texts of any size are edited in almost no time, and old versions stay. A cord never changes; its parts
+ * are counted, and freed with the last cord that has them.
  *
  * A zc_cord is a handle: a struct of one pointer that owns a cord. Begin with ZC_EMPTY, the cord of no bytes:
  *
@@ -12,18 +12,19 @@
  *     zc_free(&hello);
  *     zc_free(&both);
  *
- * Handles are owned one by one: a copy of the struct is the handle from then on, and the old one isn't used again. Share the
- * cord by zc_share to have two. One handle may be given twice in a call, and as its result too: zc_cat(&x, &y, &x) appends.
- * A call changes the handles that it reads while it runs, so they aren't const; they hold the same cord when it returns.
+ * Handles are owned one by one: a copy of the struct is the handle from then on, and the old one isn't used again.
+ * Share the cord by zc_share to have two. One handle may be given twice in a call, and as its result too: zc_cat(&x,
+ * &y, &x) appends. A call changes the handles that it reads while it runs, so they aren't const; they hold the same
+ * cord when it returns.
  *
  * Calls that make a cord write it to *out, a handle that was begun. What it held is freed; where the call gives another
  * code than ZC_OK, it holds what it held. A null pointer to a handle or to a result is answered by ZC_BAD_ARGUMENT, or
  * by what is said at the call; a null pointer to bytes is fine where their number is 0. Any other pointer to what isn't
  * there is the caller's fault, as are two handles that own one cord.
  *
- * Every call is MT-Unsafe race:cord: cords that have parts in common count them together, so one thread at a time uses them.
- * Memory comes from malloc and realloc, and goes to free. No call ends the program where memory is refused. A handle that
- * owns a cord keeps its block of a few bytes for the next one; zc_free gives it back.
+ * Every call is MT-Unsafe race:cord: cords that have parts in common count them together, so one thread at a time
+ * uses them. Memory comes from malloc and realloc, and goes to free. No call ends the program where memory is
+ * refused. A handle that owns a cord keeps its block of a few bytes for the next one; zc_free gives it back.
  *
  * In costs, n is the length of a cord in bytes and d its depth, which is never more than 60.
  */
@@ -37,7 +38,8 @@
 extern "C" {
 #endif
 
-/* The version of this header. While the first number is 0, the second one changes where programs have to be compiled anew. */
+/* The version of this header. While the first number is 0, the second one changes where programs have to be compiled
+   anew. */
 #define ZC_VERSION_MAJOR 0
 #define ZC_VERSION_MINOR 3
 #define ZC_VERSION_PATCH 0
@@ -88,7 +90,8 @@ int zc_chars(unsigned char byte, uint64_t count, zc_cord *out);
    O(1); where the tree would be deeper than ZC_MAX_DEPTH, it is balanced first. */
 int zc_cat(zc_cord *x, zc_cord *y, zc_cord *out);
 
-/* The bytes of all count cords at parts, in order. ZC_TOO_LONG, ZC_NO_MEMORY. O(count), and as so many calls of zc_cat. */
+/* The bytes of all count cords at parts, in order. ZC_TOO_LONG, ZC_NO_MEMORY. O(count), and as so many calls of
+   zc_cat. */
 int zc_catn(zc_cord *parts, size_t count, zc_cord *out);
 
 /* The bytes of x and then these, of which it takes a copy. ZC_TOO_LONG, ZC_NO_MEMORY. O(count), and as zc_cat. */
@@ -160,8 +163,8 @@ int zc_ncmp(zc_cord *x, uint64_t i, zc_cord *y, uint64_t j, uint64_t count, int3
 /* How many bytes of x are this one; 0 of null. O(n), and O(d) for each part. */
 uint64_t zc_count(zc_cord *x, unsigned char byte);
 
-/* Copies count bytes of x from start on to bytes. ZC_BAD_ARGUMENT where x has fewer: then bytes stays. It takes no memory.
-   O(count + d). */
+/* Copies count bytes of x from start on to bytes. ZC_BAD_ARGUMENT where x has fewer: then bytes stays. It takes no
+   memory. O(count + d). */
 int zc_to_bytes(zc_cord *x, uint64_t start, void *bytes, size_t count);
 
 /* Copies bytes of x from start on to bytes, as many as there are and at most count, and writes their number to *got:
@@ -170,8 +173,8 @@ int zc_read(zc_cord *x, uint64_t start, void *bytes, size_t count, size_t *got);
 
 /* ---- extensible cords ---- */
 
-/* A text that grows at its end: a cord, and up to 4,096 bytes after it that are gathered to its next leaf. It lies where
-   the caller puts it, and owns its cord; so it is never copied. Begin with ZC_EXT_EMPTY or zeros, and end with
+/* A text that grows at its end: a cord, and up to 4,096 bytes after it that are gathered to its next leaf. It lies
+   where the caller puts it, and owns its cord; so it is never copied. Begin with ZC_EXT_EMPTY or zeros, and end with
    zc_ext_free. */
 typedef struct zc_ext {
     zc_cord built; /* for the library alone, as are all fields */
@@ -319,9 +322,9 @@ uint64_t zc_lazy_len(zc_lazy *x);
 /* The depth of the tree: 0 for one part and for no bytes, and of null. O(1). */
 uint32_t zc_lazy_depth(zc_lazy *x);
 
-/* The part of x at start, of at most count bytes: writes how many to *got, 0 at or past the end, and the bytes to bytes.
-   ZC_IN_FILE where they are those of a file: then its number goes to *file and their place in it to *place, and bytes
-   stays. It takes no memory. O(count + d). */
+/* The part of x at start, of at most count bytes: writes how many to *got, 0 at or past the end, and the bytes to
+   bytes. ZC_IN_FILE where they are those of a file: then its number goes to *file and their place in it to *place,
+   and bytes stays. It takes no memory. O(count + d). */
 int zc_lazy_part(zc_lazy *x, uint64_t start, void *bytes, size_t count, size_t *got, uint32_t *file, uint64_t *place);
 
 /* Frees what x owns; x is then ZC_LAZY_EMPTY, and may be used or freed again. Null is fine. */
@@ -329,15 +332,15 @@ void zc_lazy_free(zc_lazy *x);
 
 /* ---- files, by the descriptors of POSIX ---- */
 
-/* These calls, zc_version and zc_message are in C in the library, over the calls above: no proof speaks of them. A call of
-   the system that a signal interrupts is made again. */
+/* These calls, zc_version and zc_message are in C in the library, over the calls above: no proof speaks of them. A
+   call of the system that a signal interrupts is made again. */
 
 /* Writes all bytes of x to the descriptor fd. As zc_put_range, which says how many were written. */
 int zc_put(zc_cord *x, int fd);
 
-/* Writes the bytes of x from one place up to another to the descriptor fd, as many as there are, and their number to *done.
-   ZC_WRITE_FAILED, ZC_WOULD_BLOCK: then *done of them are written, and a call from the place from + *done on goes on. It
-   takes no memory. O(n), and O(d) for each 16,384 bytes. */
+/* Writes the bytes of x from one place up to another to the descriptor fd, as many as there are, and their number to
+   *done. ZC_WRITE_FAILED, ZC_WOULD_BLOCK: then *done of them are written, and a call from the place from + *done on
+   goes on. It takes no memory. O(n), and O(d) for each 16,384 bytes. */
 int zc_put_range(zc_cord *x, uint64_t from, uint64_t to, int fd, uint64_t *done);
 
 /* The bytes that the descriptor fd gives, to its end. ZC_READ_FAILED, ZC_WOULD_BLOCK: then *out has the bytes that came
@@ -345,8 +348,8 @@ int zc_put_range(zc_cord *x, uint64_t from, uint64_t to, int fd, uint64_t *done)
    time. */
 int zc_from_fd(int fd, zc_cord *out);
 
-/* The bytes of the file at path, a string that ends with 0, which is read to its end now and closed. ZC_READ_FAILED, also
-   where it can't be opened; ZC_TOO_LONG, ZC_NO_MEMORY. As zc_from_fd. */
+/* The bytes of the file at path, a string that ends with 0, which is read to its end now and closed. ZC_READ_FAILED,
+   also where it can't be opened; ZC_TOO_LONG, ZC_NO_MEMORY. As zc_from_fd. */
 int zc_from_path(const char *path, zc_cord *out);
 
 /* As many files can be open in a zc_files. */
@@ -368,9 +371,9 @@ typedef struct zc_files {
 /* What zc_lazy_by_length takes for a short file, in bytes. */
 #define ZC_SHORT_FILE 131072
 
-/* Opens the file at path, a string that ends with 0, and writes its number to *file and its length in bytes to *length. One
-   that is open keeps its number. ZC_READ_FAILED where it can't be opened or isn't a regular file, ZC_TOO_MANY_FILES. It
-   takes no memory. */
+/* Opens the file at path, a string that ends with 0, and writes its number to *file and its length in bytes to
+   *length. One that is open keeps its number. ZC_READ_FAILED where it can't be opened or isn't a regular file,
+   ZC_TOO_MANY_FILES. It takes no memory. */
 int zc_files_open(zc_files *files, const char *path, uint32_t *file, uint64_t *length);
 
 /* Closes the file of this number, if it is open: what lazy cords have of it gives ZC_READ_FAILED from now on. Null is
@@ -380,8 +383,8 @@ void zc_files_close(zc_files *files, uint32_t file);
 /* Closes all files; none is open then. Null is fine. */
 void zc_files_free(zc_files *files);
 
-/* The bytes of the file at path, of which nothing is read now; it stays open. As zc_files_open; ZC_TOO_LONG, ZC_NO_MEMORY:
-   then it isn't open, unless it was. O(1). */
+/* The bytes of the file at path, of which nothing is read now; it stays open. As zc_files_open; ZC_TOO_LONG,
+   ZC_NO_MEMORY: then it isn't open, unless it was. O(1). */
 int zc_lazy_from_path(zc_files *files, const char *path, zc_lazy *out);
 
 /* As zc_lazy_from_path, but a file of at most ZC_SHORT_FILE bytes is read into memory now, and closed. O(n) of such a
@@ -415,8 +418,8 @@ int zc_lazy_rchr(zc_files *files, zc_lazy *x, uint64_t end, unsigned char byte, 
    O(n) for a count of up to 65,536, and count / 65,536 times as long beyond. */
 int zc_lazy_find(zc_files *files, zc_lazy *x, uint64_t start, const void *bytes, size_t count, uint64_t *place);
 
-/* Writes the order of x and y, which lie in the same files, to *order, as zc_cmp. ZC_READ_FAILED: *order stays. It takes
-   no memory. O(n) at most: it reads both up to where they differ, and in parts in common too. */
+/* Writes the order of x and y, which lie in the same files, to *order, as zc_cmp. ZC_READ_FAILED: *order stays. It
+   takes no memory. O(n) at most: it reads both up to where they differ, and in parts in common too. */
 int zc_lazy_cmp(zc_files *files, zc_lazy *x, zc_lazy *y, int32_t *order);
 
 /* The bytes of x as a cord in memory. ZC_READ_FAILED, ZC_NO_MEMORY. O(n). */

@@ -1,15 +1,16 @@
 // zomtsje.hpp: cords in C++17 over zomtsje.h. Everything is in this header; link libzomtsje.
 //
-// A zomtsje::cord is a value as std::string is one, but a copy shares the bytes, and joins and cuts copy at most 64 of them:
+// A zomtsje::cord is a value as std::string is one, but a copy shares the bytes, and joins and cuts copy at most 64
+// of them:
 //
 //     zomtsje::cord text = "one three";
 //     const zomtsje::cord old = text;
 //     text.insert(4, "two ");
 //     std::cout << text << " was " << old << '\n';
 //
-// Memory that is refused throws std::bad_alloc, a text beyond zomtsje::cord::max_size std::length_error, a place that isn't
-// there std::out_of_range, and a system call that fails std::system_error; what a call was to change is then as it was. Cords
-// that share parts are used by one thread at a time, for reads too. Costs are those of zomtsje.h.
+// Memory that is refused throws std::bad_alloc, a text beyond zomtsje::cord::max_size std::length_error, a place that
+// isn't there std::out_of_range, and a system call that fails std::system_error; what a call was to change is then as
+// it was. Cords that share parts are used by one thread at a time, for reads too. Costs are those of zomtsje.h.
 #ifndef ZOMTSJE_HPP
 #define ZOMTSJE_HPP
 
@@ -474,7 +475,8 @@ public:
     file_set &operator=(const file_set &) = delete;
     ~file_set() { zc_files_free(&files_); }
 
-    // The bytes of a file, of which nothing is read now; with is_short_read a file of up to 131,072 bytes is read and closed.
+    // The bytes of a file, of which nothing is read now; with is_short_read a file of up to 131,072 bytes is read and
+    // closed.
     inline lazy_cord open(const std::string &path, bool is_short_read = false);
     zc_files *raw() noexcept { return &files_; }
 

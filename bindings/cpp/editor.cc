@@ -2,8 +2,8 @@
 //
 //     editor FILE < COMMANDS
 //
-// A command a line: 'i PLACE TEXT' inserts, 'd PLACE COUNT' deletes, 'f TEXT' tells where the text stands first, 'u' takes
-// the last change back, 's PATH' saves under another name.
+// A command a line: 'i PLACE TEXT' inserts, 'd PLACE COUNT' deletes, 'f TEXT' tells where the text stands first, 'u'
+// takes the last change back, 's PATH' saves under another name.
 #include <fcntl.h>
 #include <iostream>
 #include <sstream>

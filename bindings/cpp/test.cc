@@ -1,5 +1,5 @@
-// Tests of zomtsje.hpp. Each row says what it expects, of std::string where it has the same; the first that fails ends the
-// program with status 1.
+// Tests of zomtsje.hpp. Each row says what it expects, of std::string where it has the same; the first that fails
+// ends the program with status 1.
 #include <zomtsje.hpp>
 
 #include <cstdio>

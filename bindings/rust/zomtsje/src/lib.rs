@@ -15,13 +15,14 @@
 //!
 //! # Memory
 //!
-//! A cord has at most [`MAX_LEN`] bytes. As with `Vec`, a method that would pass that panics, and one that is refused memory
-//! ends the program; those whose names begin with `try_` answer an [`Error`] instead, and change nothing.
+//! A cord has at most [`MAX_LEN`] bytes. As with `Vec`, a method that would pass that panics, and one that is refused
+//! memory ends the program; those whose names begin with `try_` answer an [`Error`] instead, and change nothing.
 //!
 //! # Threads
 //!
-//! Cords that have parts in common count them together, without atomics, and a call moves the handle that it reads. So no
-//! type here is `Send` or `Sync`: each cord, with all that share its parts, stays on its thread. Send its bytes instead.
+//! Cords that have parts in common count them together, without atomics, and a call moves the handle that it reads.
+//! So no type here is `Send` or `Sync`: each cord, with all that share its parts, stays on its thread. Send its bytes
+//! instead.
 #![warn(missing_docs)]
 
 mod builder;
