@@ -1,6 +1,6 @@
 // A sink whose bytes become a text.
-ghost use Rattle.std.specs.Prelude.{◌≡◌, ◌<◌, ◌≤◌, ◌++◌, [], length, take, is_err, is_ok, IfOk, IsOkUnless, OnErr};
-ghost use Rattle.cord_io.specs.Device.{count_after, finished_after};
+ghost use Rattle.std.specs.Prelude.{◌≡◌, ◌<◌, ◌≤◌, ◌++◌, [], length, take, is_err, is_ok, IfOk, IsOkUnless, OnErr, refl};
+ghost use Rattle.cord_io.specs.Device.{count_after, failed_calls, finished_after, never_finished};
 
 use crate::{Text, TextBuilder};
 use cord_io::{CordError, Sink, WriteFault};
@@ -29,14 +29,16 @@ pub struct TextSink {
     alloc: Global,
     text: TextBuilder,
     ends: u64,
-    failures: u64,
+    failed_puts: u64,
+    failed_finishes: u64,
 }
 
 impl TextSink {
     /// The sink that has taken nothing. Refused for want of memory alone.
     pub fn new(alloc: Global) -> Result<TextSink, CordError>
         ensures taken { IfOk result (λ made. ⟦<TextSink as Sink>⟧.taken made ≡ []) }
-        ensures finished { IfOk result (λ made. ⟦<TextSink as Sink>⟧.finished made ≡ 0) }
+        ensures finished { IfOk result (λ made. ⟦<TextSink as Sink>⟧.finished made ≡ never_finished) }
+        ensures failed { IfOk result (λ made. ⟦<TextSink as Sink>⟧.failed_puts made ≡ 0) }
         ensures count { IfOk result (λ made. ⟦<TextSink as Sink>⟧.failures made ≡ 0) }
         ensures refused { IsOkUnless result CordError.NoMemory }
     {
@@ -45,7 +47,8 @@ impl TextSink {
             alloc,
             text,
             ends: 0,
-            failures: 0,
+            failed_puts: 0,
+            failed_finishes: 0,
         })
     }
 
@@ -55,6 +58,7 @@ impl TextSink {
         ensures text { IfOk result (λ t. t ≡ ⟦<TextSink as Sink>⟧.taken self.old) }
         ensures taken { ⟦<TextSink as Sink>⟧.taken self.new ≡ ⟦<TextSink as Sink>⟧.taken self.old }
         ensures finished { ⟦<TextSink as Sink>⟧.finished self.new ≡ ⟦<TextSink as Sink>⟧.finished self.old }
+        ensures failed { ⟦<TextSink as Sink>⟧.failed_puts self.new ≡ ⟦<TextSink as Sink>⟧.failed_puts self.old }
         ensures count { ⟦<TextSink as Sink>⟧.failures self.new ≡ ⟦<TextSink as Sink>⟧.failures self.old }
         ensures refused { IsOkUnless result CordError.NoMemory }
     {
@@ -65,12 +69,16 @@ impl TextSink {
 impl Sink for TextSink {
     ghost taken = { λ s. s.text };
 
-    ghost finished = { λ s. s.ends };
+    ghost finished = { λ s. record { ended = s.ends; failed = s.failed_finishes } };
 
-    ghost failures = { λ s. s.failures };
+    ghost failed_puts = { λ s. s.failed_puts };
+
+    ghost failures = { λ s. failed_calls s.failed_puts (record { ended = s.ends; failed = s.failed_finishes }) };
+
+    ghost failures_are = { λ s. refl };
 
     fn failures(&self) -> u64 {
-        self.failures
+        self.failed_puts.saturating_add(self.failed_finishes)
     }
 
     fn put(&mut self, bytes: &[u8]) -> Result<usize, WriteFault>
@@ -80,6 +88,8 @@ impl Sink for TextSink {
             ≡ ⟦<TextSink as Sink>⟧.taken self.old ++ take k bytes.now) }
         ensures refused { OnErr result (⟦<TextSink as Sink>⟧.taken self.new ≡ ⟦<TextSink as Sink>⟧.taken self.old) }
         ensures finished { ⟦<TextSink as Sink>⟧.finished self.new ≡ ⟦<TextSink as Sink>⟧.finished self.old }
+        ensures failed { ⟦<TextSink as Sink>⟧.failed_puts self.new
+            ≡ count_after (is_err result) (⟦<TextSink as Sink>⟧.failed_puts self.old) }
         ensures count { ⟦<TextSink as Sink>⟧.failures self.new
             ≡ count_after (is_err result) (⟦<TextSink as Sink>⟧.failures self.old) }
 
@@ -87,7 +97,7 @@ impl Sink for TextSink {
         ensures whole { IfOk result (λ k. k ≡ length bytes.now) }
     {
         if self.text.push_bytes(self.alloc, bytes).is_err() {
-            self.failures = self.failures.saturating_add(1);
+            self.failed_puts = self.failed_puts.saturating_add(1);
             return Err(WriteFault);
         }
         Ok(bytes.len())
@@ -97,14 +107,15 @@ impl Sink for TextSink {
         ensures taken { ⟦<TextSink as Sink>⟧.taken self.new ≡ ⟦<TextSink as Sink>⟧.taken self.old }
         ensures finished { ⟦<TextSink as Sink>⟧.finished self.new
             ≡ finished_after (is_ok result) (⟦<TextSink as Sink>⟧.finished self.old) }
+        ensures failed { ⟦<TextSink as Sink>⟧.failed_puts self.new ≡ ⟦<TextSink as Sink>⟧.failed_puts self.old }
         ensures count { ⟦<TextSink as Sink>⟧.failures self.new
             ≡ count_after (is_err result) (⟦<TextSink as Sink>⟧.failures self.old) }
 
         // It can be told 2^64 - 1 times.
-        ensures ends { OnErr result (⟦<TextSink as Sink>⟧.finished self.old ≡ u64.MAX) }
+        ensures ends { OnErr result ((⟦<TextSink as Sink>⟧.finished self.old).ended ≡ u64.MAX) }
     {
         if self.ends == u64::MAX {
-            self.failures = self.failures.saturating_add(1);
+            self.failed_finishes = self.failed_finishes.saturating_add(1);
             return Err(WriteFault);
         }
         self.ends += 1;

@@ -62,6 +62,7 @@ pub extern "C" fn zc_lazy_part(
     ensures some { start < text_len (cord_of x.old) → 0 < length bytes.old → 0 < got.new }
     ensures room { got.new ≤ length bytes.old }
     ensures rest { drop got.new bytes.new ≡ drop got.new bytes.old }
+    ensures unwritten { result ≡ IN_FILE → bytes.new ≡ bytes.old }
     ensures code { (result ≡ OK) ⊎ (result ≡ IN_FILE) }
     ensures x { cord_of x.new ≡ cord_of x.old }
 {

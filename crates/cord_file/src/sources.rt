@@ -1,6 +1,6 @@
 // A table of entries: two functions, and the files that were opened.
 ghost use Rattle.std.specs.Prelude.{◌≡◌, ◌+◌, ◌<◌, ◌≤◌, ℕ, length, take, drop, [], MatchResult, vec_len, is_err, OnOk};
-ghost use Rattle.std.specs.Prelude.{IsSomeAnd};
+ghost use Rattle.std.specs.Prelude.{IsSomeAnd, IsOk};
 ghost use Rattle.cord_io.specs.Device.{Folder, count_after};
 ghost use Rattle.cord_file.specs.declared.TheConstants.{MAX_FILES};
 ghost use Rattle.cord_file.specs.Opening.{OpensNone};
@@ -130,6 +130,9 @@ impl<F: Files> Source for Sources<F> {
             ≡ count_after (is_err result) (F.failures (device_in self.old)) }
         ensures bytes { (folder : Folder) → F.keeps (device_in self.new) folder → OnOk result
             (out.new ≡ take (length out.new) (drop start (table_in (opened_in self.old) folder id.0))) }
+
+        // The entries 0 and 1 never fail.
+        ensures functions { id.0 < 2 → IsOk result }
 
         // A path that is open keeps its entry, and the device opens no file.
         ensures opened { opened_in self.new ≡ opened_in self.old }

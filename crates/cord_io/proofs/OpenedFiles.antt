@@ -1,7 +1,7 @@
 -- Files of the machine of which one is read.
-use Rattle.std.proofs.Common.{take, drop, get_or, inl, inr, ◌≡◌, ◌≢◌, ℕ, zero, suc, ◌<◌, ◌≤◌, List, [], ◌∷◌, ◌++◌, Option, None, Some, refl}
+use Rattle.std.proofs.Common.{take, drop, get_or, inl, inr, ◌≡◌, ◌≢◌, ℕ, zero, suc, ◌<◌, ◌≤◌, List, [], ◌∷◌, ◌++◌, Option, None, Some, Result, Ok, Err, refl}
 use Rattle.std.proofs.Common.{sym, ◌∙◌, ap, subst}
-use Rattle.std.specs.Prelude.{IsSome, IsSomeAnd, slice_get, slice_set, length}
+use Rattle.std.specs.Prelude.{IsSome, IsSomeAnd, slice_get, slice_set, length, Bool, true, false, if◌then◌else◌}
 use Rattle.std.specs.Option.{option_map}
 use Rattle.std.specs.String.{string_bytes}
 use Rattle.std.proofs.lemmas.Bool.{cases_eq}
@@ -9,8 +9,11 @@ use Rattle.std.proofs.lemmas.List.{length-take-le}
 use Rattle.std.proofs.lemmas.Option.{slice_get_read, slice_get_within}
 use Rattle.cord_io.specs.Device.{Folder, bytes_at, HandsOut}
 use Rattle.cord_io.specs.Disk.{told_of, opened_of}
-use Rattle.cord_io.specs.DiskTold.{AgreesWithReaders}
-use Rattle.cord_io.specs.Told.{Told, has_bytes, Agrees}
+use Rattle.cord_io.specs.Given.{AgreesWithReaders, IsGiven}
+use Rattle.cord_io.specs.Told.{Told, has_len, has_bytes, is_missing, Agrees, Holds}
+use Rattle.cord_io.specs.inner.Missing.{after_finding}
+use Rattle.cord_io.specs.declared.faults.OpenFault.{OpenFault}
+use Rattle.cord_io.specs.declared.faults.OpenFault.TheVariants.{NotFound, Failed}
 use Rattle.cord_io.specs.declared.opened.OpenedFile.{OpenedFile}
 use Rattle.cord_io.proofs.Folders.{get_set_same, get_set_other}
 
@@ -111,3 +114,65 @@ pub readers_beside : {F : Type 0} (folder : Folder) (files more : List (OpenedFi
     AgreesWithReaders folder more → AgreesWithReaders folder files
 readers_beside folder files more file is all n other at =
     all n other (ap (λ fs. slice_get fs n) is ∙ get_kept files file n (subst IsSome (sym at) refl) ∙ at)
+
+-- ---- what was told is what the machine gave
+-- still where the machine was asked for a path
+given_found : {F T : Type 0} (path : List ℕ) (r : Result T OpenFault) (missing : List Told) (files : List (OpenedFile F)) (told : List Told) →
+    IsGiven missing files told → IsGiven (after_finding path r missing) files told
+given_found path (Ok x) missing files told given = given
+given_found path (Err NotFound) missing files told given = λ folder agrees all. given folder agrees.1 all
+given_found path (Err Failed) missing files told given = given
+
+pub given_asked : {F T : Type 0} (path : List ℕ) (r : Result T OpenFault) (missing after : List Told) (files : List (OpenedFile F))
+    (told : List Told) → after ≡ after_finding path r missing → IsGiven missing files told → IsGiven after files told
+given_asked path r missing after files told is given =
+    subst (λ m. IsGiven m files told) (sym is) (given_found path r missing files told given)
+
+-- still where one more file is open
+pub given_beside : {F : Type 0} (missing : List Told) (files more : List (OpenedFile F)) (file : OpenedFile F) (told : List Told) →
+    more ≡ files ++ file ∷ [] → IsGiven missing files told → IsGiven missing more told
+given_beside missing files more file told is given =
+    λ folder agrees all. given folder agrees (readers_beside folder files more file is all)
+
+pub given_pushed : {F : Type 0} (missing : List Told) (files more : List (OpenedFile F)) (file : OpenedFile F) (told : List Told) (b : Bool) →
+    more ≡ (if b then files ++ file ∷ [] else files) → IsGiven missing files told → IsGiven missing more told
+given_pushed missing files more file told true is given = given_beside missing files more file told is given
+given_pushed missing files more file told false is given = subst (λ fs. IsGiven missing fs told) (sym is) given
+
+-- and its length was told
+pub given_len : {F : Type 0} (missing : List Told) (files more : List (OpenedFile F)) (file : OpenedFile F) (path : List ℕ)
+    (told after : List Told) → more ≡ files ++ file ∷ [] → file.reader.trace.told ≡ has_len path file.len ∷ [] →
+    after ≡ has_len path file.len ∷ told → IsGiven missing more told → IsGiven missing more after
+given_len missing files more file path told after is len one given = λ folder agrees all.
+    let here : slice_get more (length files) ≡ Some file = ap (λ fs. slice_get fs (length files)) is ∙ get_pushed files file in
+    let gave : Agrees folder (has_len path file.len ∷ []) = subst (Agrees folder) len (all (length files) file here) in
+    subst (Agrees folder) (sym one) (gave.0, given folder agrees all)
+
+-- still where one was read
+pub given_read : {F : Type 0} (missing : List Told) (files : List (OpenedFile F)) (n : ℕ) (old new : OpenedFile F) (told : List Told) →
+    slice_get files n ≡ Some old →
+    ((folder : Folder) → Agrees folder new.reader.trace.told → Agrees folder old.reader.trace.told) → IsGiven missing files told →
+    IsGiven missing (slice_set files n new) told
+given_read missing files n old new told here earlier given =
+    λ folder agrees all. given folder agrees (readers_before folder files n old new here (earlier folder) all)
+
+-- and bytes of it were told
+pub given_bytes : {F : Type 0} (missing : List Told) (files : List (OpenedFile F)) (n : ℕ) (old new : OpenedFile F) (k start : ℕ)
+    (out : List ℕ) (told after : List Told) → slice_get files n ≡ Some old → k ≤ length out →
+    ((folder : Folder) → Agrees folder new.reader.trace.told →
+    take k out ≡ take k (drop start (bytes_at folder (string_bytes old.reader.path)))) →
+    after ≡ has_bytes (string_bytes old.reader.path) start (take k out) ∷ told → IsGiven missing (slice_set files n new) told →
+    IsGiven missing (slice_set files n new) after
+given_bytes missing files n old new k start out told after here fits read one given = λ folder agrees all.
+    let path : List ℕ = string_bytes old.reader.path in
+    let text : take k out ≡ take k (drop start (bytes_at folder path)) = read folder (all n new (get_set_same files n old new here)) in
+    let holds : Holds folder (has_bytes path start (take k out)) =
+    text ∙ ap (λ m. take m (drop start (bytes_at folder path))) (sym (length-take-le k out fits)) in
+    subst (Agrees folder) (sym one) (holds, given folder agrees all)
+
+-- what the machine told before it was asked for a path
+pub missing_before : {T : Type 0} (folder : Folder) (path : List ℕ) (r : Result T OpenFault) (missing after : List Told) →
+    after ≡ after_finding path r missing → Agrees folder after → Agrees folder missing
+missing_before folder path (Ok x) missing after is agrees = subst (Agrees folder) is agrees
+missing_before folder path (Err NotFound) missing after is agrees = (subst (Agrees folder) is agrees).1
+missing_before folder path (Err Failed) missing after is agrees = subst (Agrees folder) is agrees

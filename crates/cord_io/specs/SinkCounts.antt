@@ -14,6 +14,6 @@ abbrev pub sink_counts : {S : Type 0} → sinks.Ghosts S → S → S → SinkCou
 sink_counts s old new = record {
   failed_before = s.failures old;
   failed_after = s.failures new;
-  ended_before = s.finished old;
-  ended_after = s.finished new;
+  ended_before = (s.finished old).ended;
+  ended_after = (s.finished new).ended;
 }

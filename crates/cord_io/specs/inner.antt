@@ -1,5 +1,6 @@
 pub mod Answers
 pub mod Functions
 pub mod Memory
+pub mod Missing
 pub mod ReadAhead
 pub mod SinkAnswers

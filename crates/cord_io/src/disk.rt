@@ -1,19 +1,20 @@
 // The machine's files.
-ghost use Rattle.std.specs.Prelude.{◌≡◌, ◌<◌, ◌≤◌, ◌↔◌, ℕ, [], None, length, take, drop, is_err, IfOk, OnErr, IsErrOf};
+ghost use Rattle.std.specs.Prelude.{◌≡◌, ◌<◌, ◌≤◌, ◌∷◌, ℕ, [], None, length, take, drop, is_err, IfOk, OnErr, IsErrOf};
 ghost use Rattle.std.specs.Prelude.{IsSomeAnd};
 ghost use Rattle.std.specs.String.{string_bytes};
-ghost use Rattle.std.specs.IoError.{error_kind};
 ghost use Rattle.cord_io.specs.Device.{Folder, file_at, bytes_at, count_after, open_failed, HandsOut};
+ghost use Rattle.cord_io.specs.Given.{IsGiven, IsGiven-prop};
+ghost use Rattle.cord_io.specs.Told.{has_len};
+ghost use Rattle.cord_io.specs.inner.Missing.{after_finding};
 
 use crate::failures::Failures;
+use crate::machine::Machine;
 use crate::opened::OpenedFile;
 use crate::trace::{Answer, Trace};
 use crate::{FileNo, Files, OpenFault, ReadFault};
 use std::alloc::{AllocError, Global};
-use std::fs::OpenFile;
-use std::io::{self, ErrorKind, Seek, SeekFrom};
 use std::os::unix::fs::FileExt;
-use std::{fs, rt};
+use std::rt;
 
 /// The machine's files. They keep each folder with which all that they told agrees: a trace, which only proofs read and
 /// which costs nothing, holds each answer once and nothing else. Every fault of the machine but a missing path is a
@@ -24,29 +25,18 @@ use std::{fs, rt};
 /// gives at most 64 KiB.
 #[derive(Drop)]
 pub struct DiskFiles<R: rt::Files> {
-    runtime: R,
+    answers: Answers<R, R::File>,
     alloc: Global,
-    opened: Vec<OpenedFile<R::File>>,
-    trace: Trace,
     failures: Failures,
 }
 
-// Why a file wasn't opened: only the machine's "no such file" is `NotFound`.
-fn fault_of(error: &io::Error) -> OpenFault
-    ensures { (result ≡ OpenFault.NotFound) ↔ (error_kind error.now ≡ ErrorKind.NotFound) }
-{
-    match error.kind() {
-        ErrorKind::NotFound => OpenFault::NotFound,
-        _ => OpenFault::Failed,
-    }
-}
-
-// The length of an opened file that isn't a directory: the place that a seek to the end answers.
-fn len_of<F: Seek + OpenFile>(file: &mut F) -> io::Result<u64> {
-    if file.metadata()?.is_dir() {
-        return Err(io::Error::from(ErrorKind::IsADirectory));
-    }
-    file.seek(SeekFrom::End(0))
+// The machine, its files that are open, and all that was told of them, which is what the machine gave.
+#[derive(Drop)]
+struct Answers<R, F> {
+    machine: Machine<R>,
+    opened: Vec<OpenedFile<F>>,
+    trace: Trace,
+    ghost given: { IsGiven machine.trace.told opened.items trace.told } by { IsGiven-prop machine.trace.told opened.items trace.told },
 }
 
 impl<R: rt::Files> DiskFiles<R>
@@ -62,10 +52,12 @@ where
         ensures count { ⟦<DiskFiles<R> as Files>⟧.failures result ≡ 0 }
     {
         DiskFiles {
-            runtime,
+            answers: Answers {
+                machine: Machine::new(runtime),
+                opened: Vec::new(alloc),
+                trace: Trace::new(),
+            },
             alloc,
-            opened: Vec::new(alloc),
-            trace: Trace::new(),
             failures: Failures::none(),
         }
     }
@@ -73,19 +65,22 @@ where
     // Room for one more file, and its path to keep.
     fn room_for(&mut self, path: &str) -> Result<String, AllocError>
         ensures path { IfOk result (λ p. string_bytes p ≡ path.now) }
-        ensures opened { self.new.opened.items ≡ self.old.opened.items }
-        ensures told { self.new.trace.told ≡ self.old.trace.told }
+        ensures opened { self.new.answers.opened.items ≡ self.old.answers.opened.items }
+        ensures missing { self.new.answers.machine.trace.told ≡ self.old.answers.machine.trace.told }
+        ensures told { self.new.answers.trace.told ≡ self.old.answers.trace.told }
         ensures count { self.new.failures ≡ self.old.failures }
     {
-        self.opened.reserve(1)?;
+        self.answers.opened.reserve(1)?;
         String::from_str(self.alloc, path)
     }
 
     // Opens a file. Where memory was refused it is asked for once more, so that a want that passes is no fault.
     fn opened_file(&mut self, path: &str) -> Result<OpenedFile<R::File>, OpenFault>
         ensures path { IfOk result (λ f. string_bytes f.reader.path ≡ path.now) }
-        ensures opened { self.new.opened.items ≡ self.old.opened.items }
-        ensures told { self.new.trace.told ≡ self.old.trace.told }
+        ensures len { IfOk result (λ f. f.reader.trace.told ≡ has_len path.now f.len ∷ []) }
+        ensures opened { self.new.answers.opened.items ≡ self.old.answers.opened.items }
+        ensures missing { self.new.answers.machine.trace.told ≡ after_finding path.now result self.old.answers.machine.trace.told }
+        ensures told { self.new.answers.trace.told ≡ self.old.answers.trace.told }
         ensures count { self.new.failures ≡ self.old.failures }
     {
         let room = match self.room_for(path) {
@@ -93,9 +88,8 @@ where
             room => room,
         };
         let path_kept = room.map_err(|_| OpenFault::Failed)?;
-        let mut file = fs::open(&self.runtime, path).map_err(|error| fault_of(&error))?;
-        let len = len_of(&mut file).map_err(|_| OpenFault::Failed)?;
-        Ok(OpenedFile::new(self.alloc, file, path_kept, len))
+        let file = self.answers.machine.open(path)?;
+        OpenedFile::new(self.alloc, file, path_kept).map_err(|_| OpenFault::Failed)
     }
 }
 
@@ -108,9 +102,9 @@ where
     ghost use Rattle.cord_io.specs.Told.{Agrees};
 
     // The folder holds what each answer told.
-    ghost keeps = { λ s folder. Agrees folder s.trace.told };
+    ghost keeps = { λ s folder. Agrees folder s.answers.trace.told };
 
-    ghost opened = { λ s. opened_of s.opened.items };
+    ghost opened = { λ s. opened_of s.answers.opened.items };
 
     ghost failures = { λ s. s.failures };
 
@@ -134,21 +128,25 @@ where
         // Each answer is told once, and nothing else is.
         ensures told { told_by self.new ≡ after_opening path.now result (told_by self.old) }
 
-        // What the machine gave stays.
+        // What the machine gave stays. The length is what it answered, and only its own "no such file" is `NotFound`.
         ensures machine_earlier { (folder : Folder) → AgreesWithMachine folder self.new →
             AgreesWithMachine folder self.old }
+        ensures machine_found { (folder : Folder) → AgreesWithMachine folder self.new → IfOk result (λ r.
+            IsSomeAnd (file_at folder path.now) (λ bytes. r.1 ≡ length bytes)) }
+        ensures machine_not_found { (folder : Folder) → AgreesWithMachine folder self.new →
+            IsErrOf result OpenFault.NotFound → file_at folder path.now ≡ None }
     {
         match self.opened_file(path) {
             Err(OpenFault::NotFound) => {
-                self.trace = self.trace.then(&Answer::Missing(path));
+                self.answers.trace = self.answers.trace.then(&Answer::Missing(path));
                 return Err(OpenFault::NotFound);
             }
             Err(OpenFault::Failed) => {}
             Ok(file) => {
                 let len = file.len;
-                if let Ok(no) = u32::try_from(self.opened.len()) {
-                    if self.opened.push(file).is_ok() {
-                        self.trace = self.trace.then(&Answer::Len(path, len));
+                if let Ok(no) = u32::try_from(self.answers.opened.len()) {
+                    if self.answers.opened.push(file).is_ok() {
+                        self.answers.trace = self.answers.trace.then(&Answer::Len(path, len));
                         return Ok((FileNo(no), len));
                     }
                 }
@@ -182,11 +180,14 @@ where
             IsSomeAnd (⟦<DiskFiles<R> as Files>⟧.opened self.old no.0) (λ told.
             take k out.new ≡ take k (drop start (bytes_at folder told.0)))) }
     {
-        let opened = &mut self.opened[no.0 as usize];
+        let opened = &mut self.answers.opened[no.0 as usize];
         match opened.read(self.alloc, start, out) {
             Ok(count) => {
                 let path = opened.reader.path.as_str();
-                self.trace = self.trace.then(&Answer::Bytes(path, start, &out[..count]));
+                self.answers.trace = self
+                    .answers
+                    .trace
+                    .then(&Answer::Bytes(path, start, &out[..count]));
                 Ok(count)
             }
             Err(_) => {

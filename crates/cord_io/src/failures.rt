@@ -1,5 +1,5 @@
 // How often a device failed.
-ghost use Rattle.std.specs.Prelude.{◌≡◌, ℕ};
+ghost use Rattle.std.specs.Prelude.{◌≡◌, ◌+◌, ◌-◌, ◌^◌, ℕ, min};
 ghost use Rattle.cord_io.specs.Device.{raised};
 
 use std::marker::Model;
@@ -37,5 +37,31 @@ impl Failures {
     {
         let count = &mut self.count;
         *count = count.saturating_add(1);
+    }
+}
+
+// The failures of a sink: those of `put`, and those of `finish`.
+#[derive(Drop)]
+pub(crate) struct SinkFailures {
+    pub(crate) puts: Failures,
+    pub(crate) finishes: Failures,
+}
+
+impl SinkFailures {
+    // No failure yet.
+    pub(crate) fn none() -> Self
+        ensures { (result.puts ≡ 0) × (result.finishes ≡ 0) }
+    {
+        SinkFailures {
+            puts: Failures::none(),
+            finishes: Failures::none(),
+        }
+    }
+
+    // How many there were of both.
+    pub(crate) fn count(&self) -> u64
+        ensures { result ≡ min (self.now.puts + self.now.finishes) (2 ^ 64 - 1) }
+    {
+        self.puts.count().saturating_add(self.finishes.count())
     }
 }

@@ -51,6 +51,8 @@ impl<F: Files> Files for FuseFiles<F> {
 
     ghost keeps = { λ s. F.keeps s.inner };
 
+    ghost steady = { F.steady };
+
     ghost opened = { λ s. F.opened s.inner };
 
     ghost failures = { λ s. s.failures };

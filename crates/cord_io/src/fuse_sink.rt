@@ -1,8 +1,8 @@
 // A sink that passes so many calls to the sink inside, and then fails each.
-ghost use Rattle.std.specs.Prelude.{◌≡◌, ◌-◌, ◌<◌, ◌≤◌, ◌++◌, length, take, is_err, is_ok, IfOk, IsErr, OnErr};
-ghost use Rattle.cord_io.specs.Device.{count_after, finished_after};
+ghost use Rattle.std.specs.Prelude.{◌≡◌, ◌-◌, ◌<◌, ◌≤◌, ◌++◌, length, take, is_err, is_ok, IfOk, IsErr, OnErr, refl};
+ghost use Rattle.cord_io.specs.Device.{count_after, failed_calls, finished_after};
 
-use crate::failures::Failures;
+use crate::failures::SinkFailures;
 use crate::{Sink, WriteFault};
 
 /// A sink that passes `k` calls of `put` and `finish` to the sink inside, offers it at most `most` bytes in each `put`,
@@ -12,7 +12,7 @@ pub struct FuseSink<S> {
     inner: S,
     passes: u64,
     most: u64,
-    failures: Failures,
+    failures: SinkFailures,
     ghost some: { 1 ≤ most },
 }
 
@@ -26,14 +26,15 @@ impl<S: Sink> FuseSink<S> {
         ensures passes { passes_left result ≡ k }
         ensures most { most_offered result ≡ most }
         ensures taken { ⟦<FuseSink<S> as Sink>⟧.taken result ≡ S.taken inner }
-        ensures finished { ⟦<FuseSink<S> as Sink>⟧.finished result ≡ S.finished inner }
+        ensures finished { ⟦<FuseSink<S> as Sink>⟧.finished result ≡ (record { ended = (S.finished inner).ended; failed = 0 }) }
+        ensures failed { ⟦<FuseSink<S> as Sink>⟧.failed_puts result ≡ 0 }
         ensures count { ⟦<FuseSink<S> as Sink>⟧.failures result ≡ 0 }
     {
         FuseSink {
             inner,
             passes: k,
             most,
-            failures: Failures::none(),
+            failures: SinkFailures::none(),
         }
     }
 
@@ -41,7 +42,7 @@ impl<S: Sink> FuseSink<S> {
     pub fn inner(&self) -> &S
         ensures value { result.now ≡ sink_inside self.now }
         ensures taken { ⟦<FuseSink<S> as Sink>⟧.taken self.now ≡ S.taken result.now }
-        ensures finished { ⟦<FuseSink<S> as Sink>⟧.finished self.now ≡ S.finished result.now }
+        ensures finished { (⟦<FuseSink<S> as Sink>⟧.finished self.now).ended ≡ (S.finished result.now).ended }
     {
         &self.inner
     }
@@ -52,9 +53,14 @@ impl<S: Sink> Sink for FuseSink<S> {
 
     ghost taken = { λ s. S.taken s.inner };
 
-    ghost finished = { λ s. S.finished s.inner };
+    ghost finished = { λ s. record { ended = (S.finished s.inner).ended; failed = s.failures.finishes } };
 
-    ghost failures = { λ s. s.failures };
+    ghost failed_puts = { λ s. s.failures.puts };
+
+    ghost failures = { λ s. failed_calls s.failures.puts
+        (record { ended = (S.finished s.inner).ended; failed = s.failures.finishes }) };
+
+    ghost failures_are = { λ s. refl };
 
     fn failures(&self) -> u64 {
         self.failures.count()
@@ -66,7 +72,9 @@ impl<S: Sink> Sink for FuseSink<S> {
         ensures taken { IfOk result (λ k. S.taken (sink_inside self.new)
             ≡ S.taken (sink_inside self.old) ++ take k bytes.now) }
         ensures refused { OnErr result (S.taken (sink_inside self.new) ≡ S.taken (sink_inside self.old)) }
-        ensures finished { S.finished (sink_inside self.new) ≡ S.finished (sink_inside self.old) }
+        ensures finished { ⟦<FuseSink<S> as Sink>⟧.finished self.new ≡ ⟦<FuseSink<S> as Sink>⟧.finished self.old }
+        ensures failed { ⟦<FuseSink<S> as Sink>⟧.failed_puts self.new
+            ≡ count_after (is_err result) (⟦<FuseSink<S> as Sink>⟧.failed_puts self.old) }
         ensures count { ⟦<FuseSink<S> as Sink>⟧.failures self.new
             ≡ count_after (is_err result) (⟦<FuseSink<S> as Sink>⟧.failures self.old) }
 
@@ -76,11 +84,14 @@ impl<S: Sink> Sink for FuseSink<S> {
         ensures left { passes_left self.new ≡ passes_left self.old - 1 }
         ensures passed { 0 < passes_left self.old → S.failures (sink_inside self.new)
             ≡ count_after (is_err result) (S.failures (sink_inside self.old)) }
+        ensures passed_puts { 0 < passes_left self.old → S.failed_puts (sink_inside self.new)
+            ≡ count_after (is_err result) (S.failed_puts (sink_inside self.old)) }
+        ensures unfinished { S.finished (sink_inside self.new) ≡ S.finished (sink_inside self.old) }
         ensures spent { passes_left self.old ≡ 0 → IsErr result }
         ensures kept { passes_left self.old ≡ 0 → sink_inside self.new ≡ sink_inside self.old }
     {
         if self.passes == 0 {
-            self.failures.raise();
+            self.failures.puts.raise();
             return Err(WriteFault);
         }
         self.passes -= 1;
@@ -88,7 +99,7 @@ impl<S: Sink> Sink for FuseSink<S> {
         match self.inner.put(&bytes[..offered]) {
             Ok(count) => Ok(count),
             Err(WriteFault) => {
-                self.failures.raise();
+                self.failures.puts.raise();
                 Err(WriteFault)
             }
         }
@@ -96,8 +107,9 @@ impl<S: Sink> Sink for FuseSink<S> {
 
     fn finish(&mut self) -> Result<(), WriteFault>
         ensures taken { S.taken (sink_inside self.new) ≡ S.taken (sink_inside self.old) }
-        ensures finished { S.finished (sink_inside self.new)
-            ≡ finished_after (is_ok result) (S.finished (sink_inside self.old)) }
+        ensures finished { ⟦<FuseSink<S> as Sink>⟧.finished self.new
+            ≡ finished_after (is_ok result) (⟦<FuseSink<S> as Sink>⟧.finished self.old) }
+        ensures failed { ⟦<FuseSink<S> as Sink>⟧.failed_puts self.new ≡ ⟦<FuseSink<S> as Sink>⟧.failed_puts self.old }
         ensures count { ⟦<FuseSink<S> as Sink>⟧.failures self.new
             ≡ count_after (is_err result) (⟦<FuseSink<S> as Sink>⟧.failures self.old) }
 
@@ -106,18 +118,20 @@ impl<S: Sink> Sink for FuseSink<S> {
         ensures left { passes_left self.new ≡ passes_left self.old - 1 }
         ensures passed { 0 < passes_left self.old → S.failures (sink_inside self.new)
             ≡ count_after (is_err result) (S.failures (sink_inside self.old)) }
+        ensures passed_finishes { 0 < passes_left self.old → S.finished (sink_inside self.new)
+            ≡ finished_after (is_ok result) (S.finished (sink_inside self.old)) }
         ensures spent { passes_left self.old ≡ 0 → IsErr result }
         ensures kept { passes_left self.old ≡ 0 → sink_inside self.new ≡ sink_inside self.old }
     {
         if self.passes == 0 {
-            self.failures.raise();
+            self.failures.finishes.raise();
             return Err(WriteFault);
         }
         self.passes -= 1;
         match self.inner.finish() {
             Ok(()) => Ok(()),
             Err(WriteFault) => {
-                self.failures.raise();
+                self.failures.finishes.raise();
                 Err(WriteFault)
             }
         }

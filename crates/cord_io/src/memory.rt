@@ -1,6 +1,6 @@
 // Files in memory.
 ghost use Rattle.std.specs.Prelude.{◌≡◌, ◌<◌, ◌≤◌, ℕ, None, length, take, drop, IfSome, IfNone, IsTrue, ◌-◌, min};
-ghost use Rattle.std.specs.Prelude.{is_err, IsOk, IfOk, IsSomeAnd};
+ghost use Rattle.std.specs.Prelude.{is_err, IsOk, IfOk, IsSomeAnd, ⊤};
 ghost use Rattle.std.specs.Vec.{vec_len};
 ghost use Rattle.cord_io.specs.Device.{Folder, file_at, bytes_at, count_after};
 ghost use Rattle.cord_io.specs.Memory.{folder_of, paths_differ};
@@ -77,6 +77,8 @@ impl Files for MemFiles {
     // The map that was added.
     ghost keeps = { λ s folder. folder ≡ folder_of s.entries.items };
 
+    ghost steady = { ⊤ };
+
     ghost opened = { λ s. opened_of s.entries.items };
 
     ghost failures = { λ _. 0 };
@@ -100,6 +102,8 @@ impl Files for MemFiles {
         requires room { 0 < length out.old }
         ensures earlier { (folder : Folder) → ⟦<MemFiles as Files>⟧.keeps self.new folder →
             ⟦<MemFiles as Files>⟧.keeps self.old folder }
+        ensures later { (folder : Folder) → ⟦<MemFiles as Files>⟧.keeps self.old folder →
+            ⟦<MemFiles as Files>⟧.keeps self.new folder }
         ensures ok { IsOk result }
         ensures count { ⟦<MemFiles as Files>⟧.failures self.new
             ≡ count_after (is_err result) (⟦<MemFiles as Files>⟧.failures self.old) }

@@ -1,8 +1,8 @@
 // A sink in memory.
-ghost use Rattle.std.specs.Prelude.{◌≡◌, ◌<◌, ◌+◌, ◌++◌, [], length, take, is_err, IsOk, IfOk, OnErr};
-ghost use Rattle.cord_io.specs.Device.{count_after};
+ghost use Rattle.std.specs.Prelude.{◌≡◌, ◌<◌, ◌+◌, ◌++◌, [], length, take, true, is_err, IsOk, IfOk, OnErr, refl};
+ghost use Rattle.cord_io.specs.Device.{count_after, failed_calls, finished_after, never_finished};
 
-use crate::failures::Failures;
+use crate::failures::SinkFailures;
 use crate::tally::{SinkAnswer, Tally};
 use crate::{Sink, WriteFault};
 use std::alloc::Global;
@@ -12,20 +12,21 @@ use std::alloc::Global;
 pub struct MemSink {
     bytes: Vec<u8>,
     tally: Tally,
-    failures: Failures,
+    failures: SinkFailures,
 }
 
 impl MemSink {
     /// A sink that has taken nothing.
     pub fn new(alloc: Global) -> Self
         ensures taken { ⟦<MemSink as Sink>⟧.taken result ≡ [] }
-        ensures finished { ⟦<MemSink as Sink>⟧.finished result ≡ 0 }
+        ensures finished { ⟦<MemSink as Sink>⟧.finished result ≡ never_finished }
+        ensures failed { ⟦<MemSink as Sink>⟧.failed_puts result ≡ 0 }
         ensures count { ⟦<MemSink as Sink>⟧.failures result ≡ 0 }
     {
         MemSink {
             bytes: Vec::new(alloc),
             tally: Tally::new(),
-            failures: Failures::none(),
+            failures: SinkFailures::none(),
         }
     }
 
@@ -40,9 +41,13 @@ impl MemSink {
 impl Sink for MemSink {
     ghost taken = { λ s. s.bytes.items };
 
-    ghost finished = { λ s. s.tally.ends };
+    ghost finished = { λ s. record { ended = s.tally.ends.ended; failed = s.failures.finishes } };
 
-    ghost failures = { λ s. s.failures };
+    ghost failed_puts = { λ s. s.failures.puts };
+
+    ghost failures = { λ s. failed_calls s.failures.puts (record { ended = s.tally.ends.ended; failed = s.failures.finishes }) };
+
+    ghost failures_are = { λ s. refl };
 
     fn failures(&self) -> u64 {
         self.failures.count()
@@ -55,11 +60,13 @@ impl Sink for MemSink {
             ++ take k bytes.now) }
         ensures refused { OnErr result (⟦<MemSink as Sink>⟧.taken self.new ≡ ⟦<MemSink as Sink>⟧.taken self.old) }
         ensures finished { ⟦<MemSink as Sink>⟧.finished self.new ≡ ⟦<MemSink as Sink>⟧.finished self.old }
+        ensures failed { ⟦<MemSink as Sink>⟧.failed_puts self.new
+            ≡ count_after (is_err result) (⟦<MemSink as Sink>⟧.failed_puts self.old) }
         ensures count { ⟦<MemSink as Sink>⟧.failures self.new
             ≡ count_after (is_err result) (⟦<MemSink as Sink>⟧.failures self.old) }
     {
         if self.bytes.extend_from_slice(bytes).is_err() {
-            self.failures.raise();
+            self.failures.puts.raise();
             return Err(WriteFault);
         }
         Ok(bytes.len())
@@ -68,7 +75,9 @@ impl Sink for MemSink {
     fn finish(&mut self) -> Result<(), WriteFault>
         ensures ok { IsOk result }
         ensures taken { ⟦<MemSink as Sink>⟧.taken self.new ≡ ⟦<MemSink as Sink>⟧.taken self.old }
-        ensures finished { ⟦<MemSink as Sink>⟧.finished self.new ≡ ⟦<MemSink as Sink>⟧.finished self.old + 1 }
+        ensures finished { ⟦<MemSink as Sink>⟧.finished self.new
+            ≡ finished_after true (⟦<MemSink as Sink>⟧.finished self.old) }
+        ensures failed { ⟦<MemSink as Sink>⟧.failed_puts self.new ≡ ⟦<MemSink as Sink>⟧.failed_puts self.old }
         ensures count { ⟦<MemSink as Sink>⟧.failures self.new ≡ ⟦<MemSink as Sink>⟧.failures self.old }
     {
         self.tally = self.tally.then(&SinkAnswer::Ended);

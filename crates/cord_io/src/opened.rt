@@ -1,15 +1,16 @@
 // A file of the machine that is read ahead.
-ghost use Rattle.std.specs.Prelude.{◌≡◌, ◌<◌, ◌≤◌, [], length, take, drop, IfOk, IfSome};
+ghost use Rattle.std.specs.Prelude.{◌≡◌, ◌<◌, ◌≤◌, [], ◌∷◌, length, take, drop, IfOk, IfSome};
 ghost use Rattle.std.specs.String.{string_bytes};
 ghost use Rattle.cord_io.specs.Device.{Folder, bytes_at};
-ghost use Rattle.cord_io.specs.Told.{Agrees};
+ghost use Rattle.cord_io.specs.Told.{Agrees, has_len};
 ghost use Rattle.cord_io.specs.inner.ReadAhead.{IsAhead};
 
 use crate::memory::copy_from;
 use crate::reader::Reader;
 use crate::span::Span;
 use std::alloc::Global;
-use std::io;
+use std::fs::OpenFile;
+use std::io::{self, Seek};
 use std::os::unix::fs::FileExt;
 
 // How many bytes the machine is asked for at once at most, where they are many: so few that the processor still has
@@ -29,23 +30,26 @@ pub(crate) struct OpenedFile<F> {
     ghost ahead: { IsAhead reader.trace.told (string_bytes reader.path) start count bytes.items },
 }
 
-impl<F: FileExt> OpenedFile<F> {
-    // A file that was opened, and of which nothing is read.
-    pub(crate) fn new(alloc: Global, file: F, path: String, len: u64) -> Self
-        ensures path { result.reader.path ≡ path }
-        ensures len { result.len ≡ len }
-        ensures trace { result.reader.trace.told ≡ [] }
+impl<F: Seek + OpenFile + Drop> OpenedFile<F> {
+    // A file that was opened, whose length the machine gave, and of which nothing is read.
+    pub(crate) fn new(alloc: Global, file: F, path: String) -> io::Result<Self>
+        ensures path { IfOk result (λ f. f.reader.path ≡ path) }
+        ensures trace { IfOk result (λ f. f.reader.trace.told ≡ has_len (string_bytes path) f.len ∷ []) }
     {
-        OpenedFile {
-            reader: Reader::new(file, path),
+        let mut reader = Reader::new(file, path);
+        let len = reader.measure()?;
+        Ok(OpenedFile {
+            reader,
             len,
             bytes: Vec::new(alloc),
             start: 0,
             count: 0,
             span: Span::new(),
-        }
+        })
     }
+}
 
+impl<F: FileExt> OpenedFile<F> {
     // Reads at least one byte from a place on: of those that were read ahead, or else from the machine.
     pub(crate) fn read(&mut self, alloc: Global, start: u64, out: &mut [u8]) -> io::Result<usize>
         requires room { 0 < length out.old }

@@ -3,10 +3,11 @@ ghost use Rattle.std.specs.Prelude.{◌≡◌, ◌<◌, ◌≤◌, [], length, I
 ghost use Rattle.std.specs.String.{string_bytes};
 ghost use Rattle.cord_io.specs.Device.{Folder};
 ghost use Rattle.cord_io.specs.Told.{Agrees};
-ghost use Rattle.cord_io.specs.ReadAhead.{after_asking};
+ghost use Rattle.cord_io.specs.ReadAhead.{after_asking, after_measuring};
 
 use crate::trace::{Answer, Trace};
-use std::io::{self, ErrorKind};
+use std::fs::OpenFile;
+use std::io::{self, ErrorKind, Seek, SeekFrom};
 use std::os::unix::fs::FileExt;
 
 // An opened file of the machine: its path, and all that it gave, which only proofs read.
@@ -17,7 +18,7 @@ pub(crate) struct Reader<F> {
     pub(crate) trace: Trace,
 }
 
-impl<F: FileExt> Reader<F> {
+impl<F: Seek + OpenFile> Reader<F> {
     // A file that has given nothing.
     pub(crate) fn new(file: F, path: String) -> Self
         ensures path { result.path ≡ path }
@@ -30,6 +31,30 @@ impl<F: FileExt> Reader<F> {
         }
     }
 
+    // Asks the machine for the length of the file, which isn't a directory.
+    pub(crate) fn measure(&mut self) -> io::Result<u64>
+        ensures path { self.new.path ≡ self.old.path }
+        ensures trace { self.new.trace.told
+            ≡ after_measuring (string_bytes self.old.path) result self.old.trace.told }
+    {
+        let len = self.end()?;
+        self.trace = self.trace.then(&Answer::Len(self.path.as_str(), len));
+        Ok(len)
+    }
+
+    // The machine's own answer: the place that a seek to the end answers.
+    fn end(&mut self) -> io::Result<u64>
+        ensures path { self.new.path ≡ self.old.path }
+        ensures trace { self.new.trace.told ≡ self.old.trace.told }
+    {
+        if self.file.metadata()?.is_dir() {
+            return Err(io::Error::from(ErrorKind::IsADirectory));
+        }
+        self.file.seek(SeekFrom::End(0))
+    }
+}
+
+impl<F: FileExt> Reader<F> {
     // Asks the machine for bytes from a place on, of which it gives at least one.
     pub(crate) fn ask(&mut self, start: u64, out: &mut [u8]) -> io::Result<usize>
         ensures some { IfOk result (λ k. (0 < k) × (k ≤ length out.new)) }

@@ -15,6 +15,10 @@ pub trait Files {
     /// All that the device has answered so far is what the folder holds.
     ghost keeps: { Self → Folder → Type 0 };
 
+    /// It has no answer but those of the folders that it keeps, so it keeps them on. Files in memory are so; of files
+    /// that change, or of which nothing is known, it isn't claimed.
+    ghost steady: { Type 0 } = { ⊥ };
+
     /// The path and the length told of each number that was handed out.
     ghost opened: { Self → ℕ → Option (List ℕ × ℕ) };
 
@@ -29,6 +33,7 @@ pub trait Files {
     /// no such file, or `Failed`, which tells nothing and raises the count.
     fn open(&mut self, path: &str) -> Result<(FileNo, u64), OpenFault>
         ensures earlier { (folder : Folder) → keeps self.new folder → keeps self.old folder }
+        ensures later { steady → (folder : Folder) → keeps self.old folder → keeps self.new folder }
         ensures count { failures self.new ≡ count_after (open_failed result) (failures self.old) }
         ensures opened { IfOk result (λ r. HandsOut (opened self.old) (opened self.new) r.0.0 path.now r.1) }
         ensures none_opened { OnErr result ((n : ℕ) → opened self.new n ≡ opened self.old n) }
@@ -43,6 +48,7 @@ pub trait Files {
         requires inside { IsSomeAnd (opened self.old no.0) (λ told. start < told.1) }
         requires room { 0 < length out.old }
         ensures earlier { (folder : Folder) → keeps self.new folder → keeps self.old folder }
+        ensures later { steady → (folder : Folder) → keeps self.old folder → keeps self.new folder }
         ensures count { failures self.new ≡ count_after (is_err result) (failures self.old) }
         ensures opened { (n : ℕ) → opened self.new n ≡ opened self.old n }
         ensures some { IfOk result (λ k. (0 < k) × (k ≤ length out.new)) }

@@ -1,10 +1,10 @@
 // A sink over any writer, as a standard stream.
-ghost use Rattle.std.specs.Prelude.{◌≡◌, ◌<◌, ◌≤◌, ◌++◌, [], length, take, is_err, is_ok, IfOk, OnErr};
+ghost use Rattle.std.specs.Prelude.{◌≡◌, ◌<◌, ◌≤◌, ◌++◌, [], length, take, is_err, is_ok, IfOk, OnErr, refl};
 ghost use Rattle.std.specs.Io.KnownBytes.{WriteAppends, Keeps};
-ghost use Rattle.cord_io.specs.Device.{count_after, finished_after};
+ghost use Rattle.cord_io.specs.Device.{count_after, failed_calls, finished_after, never_finished};
 
-use crate::failures::Failures;
-use crate::tally::{SinkAnswer, Tally};
+use crate::failures::SinkFailures;
+use crate::writer::Writer;
 use crate::{Sink, WriteFault};
 use std::io::Write;
 
@@ -13,38 +13,44 @@ use std::io::Write;
 /// the writer.
 #[derive(Drop)]
 pub struct StdSink<W> {
-    writer: W,
-    tally: Tally,
-    failures: Failures,
+    writer: Writer<W>,
+    failures: SinkFailures,
 }
 
 impl<W: Write> StdSink<W> {
-    ghost use Rattle.cord_io.specs.Standard.{writer_in};
+    ghost use Rattle.cord_io.specs.Standard.{writer_in, flushes_of};
 
     /// A sink over a writer.
     pub fn new(writer: W) -> Self
         ensures count { ⟦<StdSink<W> as Sink>⟧.failures result ≡ 0 }
         ensures taken { ⟦<StdSink<W> as Sink>⟧.taken result ≡ [] }
-        ensures finished { ⟦<StdSink<W> as Sink>⟧.finished result ≡ 0 }
+        ensures finished { ⟦<StdSink<W> as Sink>⟧.finished result ≡ never_finished }
+        ensures failed { ⟦<StdSink<W> as Sink>⟧.failed_puts result ≡ 0 }
+        ensures flushed { flushes_of result ≡ never_finished }
         ensures writer { writer_in result ≡ writer }
     {
         StdSink {
-            writer,
-            tally: Tally::new(),
-            failures: Failures::none(),
+            writer: Writer::new(writer),
+            failures: SinkFailures::none(),
         }
     }
 }
 
 impl<W: Write> Sink for StdSink<W> {
-    ghost use Rattle.cord_io.specs.Standard.{writer_in};
+    ghost use Rattle.cord_io.specs.Standard.{writer_in, flushes_of};
 
-    // What it told that it took, whether or not the writer tells its bytes.
-    ghost taken = { λ s. s.tally.bytes };
+    // What the writer answered that it took, whether or not it tells its bytes.
+    ghost taken = { λ s. s.writer.tally.bytes };
 
-    ghost finished = { λ s. s.tally.ends };
+    // The flushes of the writer that worked, and the calls that failed.
+    ghost finished = { λ s. record { ended = s.writer.tally.ends.ended; failed = s.failures.finishes } };
 
-    ghost failures = { λ s. s.failures };
+    ghost failed_puts = { λ s. s.failures.puts };
+
+    ghost failures = { λ s. failed_calls s.failures.puts
+        (record { ended = s.writer.tally.ends.ended; failed = s.failures.finishes }) };
+
+    ghost failures_are = { λ s. refl };
 
     fn failures(&self) -> u64 {
         self.failures.count()
@@ -57,20 +63,22 @@ impl<W: Write> Sink for StdSink<W> {
             ≡ ⟦<StdSink<W> as Sink>⟧.taken self.old ++ take k bytes.now) }
         ensures refused { OnErr result (⟦<StdSink<W> as Sink>⟧.taken self.new ≡ ⟦<StdSink<W> as Sink>⟧.taken self.old) }
         ensures finished { ⟦<StdSink<W> as Sink>⟧.finished self.new ≡ ⟦<StdSink<W> as Sink>⟧.finished self.old }
+        ensures failed { ⟦<StdSink<W> as Sink>⟧.failed_puts self.new
+            ≡ count_after (is_err result) (⟦<StdSink<W> as Sink>⟧.failed_puts self.old) }
         ensures count { ⟦<StdSink<W> as Sink>⟧.failures self.new
             ≡ count_after (is_err result) (⟦<StdSink<W> as Sink>⟧.failures self.old) }
 
         // Where the writer tells its bytes, they grow by those that are told to be taken.
         ensures written { WriteAppends (W.contents (writer_in self.old)) (W.contents (writer_in self.new)) result
             bytes.now }
+
+        // It flushes nothing.
+        ensures flushed { flushes_of self.new ≡ flushes_of self.old }
     {
-        match self.writer.write(bytes) {
-            Ok(count) if count > 0 => {
-                self.tally = self.tally.then(&SinkAnswer::Took(&bytes[..count]));
-                Ok(count)
-            }
-            _ => {
-                self.failures.raise();
+        match self.writer.offer(bytes) {
+            Ok(count) => Ok(count),
+            Err(WriteFault) => {
+                self.failures.puts.raise();
                 Err(WriteFault)
             }
         }
@@ -80,17 +88,18 @@ impl<W: Write> Sink for StdSink<W> {
         ensures taken { ⟦<StdSink<W> as Sink>⟧.taken self.new ≡ ⟦<StdSink<W> as Sink>⟧.taken self.old }
         ensures finished { ⟦<StdSink<W> as Sink>⟧.finished self.new
             ≡ finished_after (is_ok result) (⟦<StdSink<W> as Sink>⟧.finished self.old) }
+        ensures failed { ⟦<StdSink<W> as Sink>⟧.failed_puts self.new ≡ ⟦<StdSink<W> as Sink>⟧.failed_puts self.old }
         ensures count { ⟦<StdSink<W> as Sink>⟧.failures self.new
             ≡ count_after (is_err result) (⟦<StdSink<W> as Sink>⟧.failures self.old) }
         ensures written { Keeps (W.contents (writer_in self.old)) (W.contents (writer_in self.new)) }
+
+        // It flushes the writer by one call, and answers what that did.
+        ensures flushed { flushes_of self.new ≡ finished_after (is_ok result) (flushes_of self.old) }
     {
         match self.writer.flush() {
-            Ok(()) => {
-                self.tally = self.tally.then(&SinkAnswer::Ended);
-                Ok(())
-            }
-            Err(_) => {
-                self.failures.raise();
+            Ok(()) => Ok(()),
+            Err(WriteFault) => {
+                self.failures.finishes.raise();
                 Err(WriteFault)
             }
         }

@@ -1,6 +1,6 @@
 // The text of a cord in a vector.
-ghost use Rattle.std.specs.Prelude.{◌≡◌, ◌<◌, length, is_err, IfOk};
-ghost use Rattle.cord_io.specs.Device.{Folder};
+ghost use Rattle.std.specs.Prelude.{◌≡◌, ◌<◌, length, is_err, IfOk, refl};
+ghost use Rattle.cord_io.specs.Device.{Folder, failed_calls};
 ghost use Rattle.cord_io.specs.Frames.{LeavesSource};
 ghost use Rattle.cord_core.specs.Cord.{text_len, bytes_of, CordFitsIn};
 ghost use Rattle.cord_iter.specs.Output.{CountsReads};
@@ -44,7 +44,8 @@ pub fn to_vec<S: Source>(alloc: Global, cord: &Cord, src: &mut S) -> Result<Vec<
 {
     let mut sink = Collector {
         bytes: Vec::with_capacity(alloc, cord.len() as usize)?,
-        failures: 0,
+        failed_puts: 0,
+        failed_finishes: 0,
     };
     put(cord, src, &mut sink).map_err(|error| match error {
         CordError::WriteFailed => CordError::NoMemory,
@@ -57,23 +58,28 @@ pub fn to_vec<S: Source>(alloc: Global, cord: &Cord, src: &mut S) -> Result<Vec<
 #[derive(Drop)]
 struct Collector {
     bytes: Vec<u8>,
-    failures: u64,
+    failed_puts: u64,
+    failed_finishes: u64,
 }
 
 impl Sink for Collector {
     ghost taken = { λ s. s.bytes.items };
 
-    ghost finished = { λ _. 0 };
+    ghost finished = { λ s. record { ended = 0; failed = s.failed_finishes } };
 
-    ghost failures = { λ s. s.failures };
+    ghost failed_puts = { λ s. s.failed_puts };
+
+    ghost failures = { λ s. failed_calls s.failed_puts (record { ended = 0; failed = s.failed_finishes }) };
+
+    ghost failures_are = { λ s. refl };
 
     fn failures(&self) -> u64 {
-        self.failures
+        self.failed_puts.saturating_add(self.failed_finishes)
     }
 
     fn put(&mut self, bytes: &[u8]) -> Result<usize, WriteFault> {
         if self.bytes.extend_from_slice(bytes).is_err() {
-            self.failures = self.failures.saturating_add(1);
+            self.failed_puts = self.failed_puts.saturating_add(1);
             return Err(WriteFault);
         }
         Ok(bytes.len())
@@ -81,7 +87,7 @@ impl Sink for Collector {
 
     // It has no end.
     fn finish(&mut self) -> Result<(), WriteFault> {
-        self.failures = self.failures.saturating_add(1);
+        self.failed_finishes = self.failed_finishes.saturating_add(1);
         Err(WriteFault)
     }
 }

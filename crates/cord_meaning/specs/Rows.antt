@@ -267,8 +267,26 @@ empty_turns n = Repeat 1 (numeral n) ∷ End 2 ∷ []
 
 -- the sink has finished, and nothing has failed
 abbrev pub nothing_failed : Counts
-nothing_failed = record { files_before = 0; files_after = 0; sink_before = 0; sink_after = 0; finished_before = 0; finished_after = 1 }
+nothing_failed = record {
+  files_before = 0;
+  files_after = 0;
+  sink_before = 0;
+  sink_after = 0;
+  puts_before = 0;
+  puts_after = 0;
+  finished_before = 0;
+  finished_after = 1;
+}
 
--- the sink has failed
+-- a `put` has failed
 abbrev pub sink_failed : Counts
-sink_failed = record { files_before = 0; files_after = 0; sink_before = 0; sink_after = 1; finished_before = 0; finished_after = 0 }
+sink_failed = record {
+  files_before = 0;
+  files_after = 0;
+  sink_before = 0;
+  sink_after = 1;
+  puts_before = 0;
+  puts_after = 1;
+  finished_before = 0;
+  finished_after = 0;
+}

@@ -1,5 +1,5 @@
 // Scripts whose runs are computed: each clause is a worked row, whose bytes and end the check computes.
-ghost use Rattle.std.specs.Prelude.{◌≡◌, ◌+◌, ℕ, [], ◌∷◌, codes};
+ghost use Rattle.std.specs.Prelude.{◌≡◌, ◌<◌, ◌+◌, ℕ, [], ◌∷◌, codes};
 ghost use Rattle.cord_io.specs.declared.TheConstants.{MAX_LEN};
 ghost use Rattle.cord_meaning.specs.Ends.{Counts, EndsHonestly};
 ghost use Rattle.cord_meaning.specs.Meaning.{Means, MeansWithin};
@@ -81,8 +81,14 @@ pub fn wrong_ends_are_not_honest()
         EndsHonestly Rows.file_twice Rows.one_file [] [] n (ReadFailed 1) → ⊥ }
     ensures read_failure_as_no_memory { (n : Counts) → n.files_after ≡ n.files_before + 1 →
         EndsHonestly Rows.file_twice Rows.one_file [] [] n (NoMemory 1) → ⊥ }
-    ensures write_failure_as_no_memory { (n : Counts) → n.sink_after ≡ n.sink_before + 1 →
+    ensures write_failure_as_no_memory { (n : Counts) → n.puts_before < n.puts_after →
+        EndsHonestly Rows.hello [] [] [] n (NoMemory 2) → ⊥ }
+    ensures write_failure_as_read_failure { (n : Counts) → n.puts_before < n.puts_after →
+        EndsHonestly Rows.file_twice Rows.one_file [] [] n (ReadFailed 1) → ⊥ }
+    ensures failed_and_finished { (n : Counts) → n.sink_after ≡ n.sink_before + 1 →
         n.finished_after ≡ n.finished_before + 1 → EndsHonestly Rows.hello [] [] [] n (NoMemory 2) → ⊥ }
+    ensures no_put_failed { (n : Counts) → n.puts_after ≡ n.puts_before →
+        EndsHonestly Rows.hello [] [] (codes "hel") n (WriteFailed 2) → ⊥ }
     ensures nothing_reads_there { (n : Counts) → EndsHonestly Rows.hello [] [] [] n (ReadFailed 1) → ⊥ }
     ensures nothing_puts_there { (n : Counts) → EndsHonestly Rows.hello [] [] [] n (WriteFailed 1) → ⊥ }
 {}

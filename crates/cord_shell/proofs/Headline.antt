@@ -228,13 +228,16 @@ module _ (keeps : Folder → Type 0) (folder : Folder) (kept : keeps folder) (pa
 
 -- new devices have counted nothing and taken nothing
 pub comes_of_new : (keeps : Folder → Type 0) (words : List (List ℕ)) (outcome : Outcome) (out old : List ℕ) (n : Counts)
-    → n.files_before ≡ 0 → n.sink_before ≡ 0 → n.finished_before ≡ 0 → old ≡ [] → ComesTo keeps words old out n outcome
-    → ComesTo keeps words [] out (record n { files_before = 0; sink_before = 0; finished_before = 0 }) outcome
-comes_of_new keeps words outcome out old n files failed finished taken h =
-    subst (λ (x : List ℕ). ComesTo keeps words x out (record n { files_before = 0; sink_before = 0; finished_before = 0 }) outcome) taken
-    (subst (λ (k : ℕ). ComesTo keeps words old out (record n { files_before = 0; sink_before = 0; finished_before = k }) outcome) finished
+    → n.files_before ≡ 0 → n.sink_before ≡ 0 → n.puts_before ≡ 0 → n.finished_before ≡ 0 → old ≡ [] → ComesTo keeps words old out n outcome
+    → ComesTo keeps words [] out (record n { files_before = 0; sink_before = 0; puts_before = 0; finished_before = 0 }) outcome
+comes_of_new keeps words outcome out old n files failed puts finished taken h =
+    subst (λ (x : List ℕ). ComesTo keeps words x out
+    (record n { files_before = 0; sink_before = 0; puts_before = 0; finished_before = 0 }) outcome) taken
+    (subst (λ (k : ℕ). ComesTo keeps words old out
+    (record n { files_before = 0; sink_before = 0; puts_before = 0; finished_before = k }) outcome) finished
+    (subst (λ (k : ℕ). ComesTo keeps words old out (record n { files_before = 0; sink_before = 0; puts_before = k }) outcome) puts
     (subst (λ (k : ℕ). ComesTo keeps words old out (record n { files_before = 0; sink_before = k }) outcome) failed
-    (subst (λ (k : ℕ). ComesTo keeps words old out (record n { files_before = k }) outcome) files h)))
+    (subst (λ (k : ℕ). ComesTo keeps words old out (record n { files_before = k }) outcome) files h))))
 
 pub tells_of_new : (message said old : List ℕ) (n : SinkCounts) → n.failed_before ≡ 0 → n.ended_before ≡ 0 → old ≡ [] →
     Tells old said n message

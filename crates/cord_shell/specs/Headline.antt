@@ -19,14 +19,20 @@ use Rattle.cord_shell.specs.Outcomes.{line_text, message_of_end, status_of_end, 
 use Rattle.cord_io.specs.SinkCounts.{SinkCounts}
 use Rattle.cord_shell.specs.Tells.{IsCut, IsUntouched, IsWritten, Tells, sink_of}
 
--- what a stream told: the bytes that it took, and how often it failed and ended
+-- what a stream told: the bytes that it took, how often it failed, in a `put` alone too, and how often it ended
 pub record Stream : Type 0 where
   pub taken : List ℕ
   pub failures : ℕ
+  pub failed_puts : ℕ
   pub ends : ℕ
 
 abbrev pub stream : {S : Type 0} → Ghosts S → S → Stream
-stream sink s = record { taken = sink.taken s; failures = sink.failures s; ends = sink.finished s }
+stream sink s = record {
+  taken = sink.taken s;
+  failures = sink.failures s;
+  failed_puts = sink.failed_puts s;
+  ends = (sink.finished s).ended;
+}
 
 -- the exit status, how often the files failed, standard output and standard error
 pub record Answer : Type 0 where
@@ -47,6 +53,8 @@ counts_of a = record {
   files_after = a.files_failed;
   sink_before = 0;
   sink_after = a.out.failures;
+  puts_before = 0;
+  puts_after = a.out.failed_puts;
   finished_before = 0;
   finished_after = a.out.ends;
 }

@@ -132,6 +132,32 @@ fn texts_are_split(rt: HostRuntime) {
     expect_bytes(&rt, alloc, &turned(&rt, alloc, &text, 12), b"hello world");
 }
 
+// A text of 40 leaves of 65 bytes, each of which was joined to those before it.
+fn grown(rt: &impl Abort, alloc: Global) -> Text {
+    let mut text = Text::empty();
+    for _ in 0..40 {
+        text = text
+            .append_bytes(alloc, &[b'x'; 65])
+            .expect(rt, "no memory");
+    }
+    text
+}
+
+fn depth_of(text: &Text) -> u32 {
+    text.as_cord().depth()
+}
+
+// The Fibonacci number 2,584 is the greatest of at most 2,600, and the 18th.
+#[test]
+fn balanced_texts_are_flat(rt: HostRuntime) {
+    let alloc = rt.alloc();
+    let text = grown(&rt, alloc);
+    assert!(rt; depth_of(&text) == 39);
+    let flat = text.balance(alloc).expect(&rt, "no memory");
+    assert!(rt; depth_of(&flat) <= 18);
+    assert!(rt; flat.compare(&text) == Ordering::Equal);
+}
+
 fn found(rt: &impl Abort, alloc: Global, text: &Text, pattern: &[u8], start: u64) -> Option<u64> {
     text.find(alloc, pattern, start).expect(rt, "no memory")
 }

@@ -27,6 +27,7 @@ pub(crate) fn end_of_run(run: Result<(), StopAt>) -> End
 /// `WriteFailed(0)` where all was put and the sink couldn't finish.
 pub(crate) fn close_output<S: Sink>(own: End, sink: &mut S) -> End
     ensures taken { S.taken sink.new ≡ S.taken sink.old }
+    ensures puts { S.failed_puts sink.new ≡ S.failed_puts sink.old }
     ensures closes { Closes (sink_counts ⟦<S as Sink>⟧ sink.old sink.new) own result }
 {
     match own {

@@ -40,5 +40,5 @@ returns-clause-cut c = record {
     );
   };
   fails = inr (inr (inl (refl, tt)));
-  names = record { sink_failed = refl; unfinished = refl; files_kept = refl };
+  names = record { sink_failed = refl; put = λ _. omega arith; unfinished = refl; files_kept = refl };
 }

@@ -70,7 +70,16 @@ pub returns-clause-read_failure_as_no_memory : goal.returns-clause-read_failure_
 returns-clause-read_failure_as_no_memory c = λ n rose h. let same = h.names.files_kept in absurd (omega (arith, same, rose))
 
 pub returns-clause-write_failure_as_no_memory : goal.returns-clause-write_failure_as_no_memory
-returns-clause-write_failure_as_no_memory c = λ n rose once h. let asked = h.names.asked in absurd (omega (arith, rose, once, asked))
+returns-clause-write_failure_as_no_memory c = λ n rose h. let same = h.names.puts_kept in absurd (omega (arith, same, rose))
+
+pub returns-clause-write_failure_as_read_failure : goal.returns-clause-write_failure_as_read_failure
+returns-clause-write_failure_as_read_failure c = λ n rose h. let same = h.names.puts_kept in absurd (omega (arith, same, rose))
+
+pub returns-clause-no_put_failed : goal.returns-clause-no_put_failed
+returns-clause-no_put_failed c = λ n same h. let rose = h.names.put (omega arith) in absurd (omega (arith, same, rose))
+
+pub returns-clause-failed_and_finished : goal.returns-clause-failed_and_finished
+returns-clause-failed_and_finished c = λ n rose once h. let asked = h.names.asked in absurd (omega (arith, rose, once, asked))
 
 pub returns-clause-nothing_reads_there : goal.returns-clause-nothing_reads_there
 returns-clause-nothing_reads_there c =

@@ -14,8 +14,10 @@ returns-in-Ok-clause-honest g c = λ statements plan alike grammar script reads 
       files_after = g.F.Files.failures (device_in c.run_over-end.new.sources);
       sink_before = g.S.Sink.failures c.args.sink.now;
       sink_after = g.S.Sink.failures c.run_over-end.new.sink;
-      finished_before = g.S.Sink.finished c.args.sink.now;
-      finished_after = g.S.Sink.finished c.run_over-end.new.sink;
+      puts_before = g.S.Sink.failed_puts c.args.sink.now;
+      puts_after = g.S.Sink.failed_puts c.run_over-end.new.sink;
+      finished_before = (g.S.Sink.finished c.args.sink.now).ended;
+      finished_after = (g.S.Sink.finished c.run_over-end.new.sink).ended;
     } in
     let m : Counts = record n { files_before = g.F.Files.failures c.args.files; files_after = g.F.Files.failures c.close.result } in
     let names = subst (λ (k : ℕ). NamesCause (record n { files_before = k; files_after = g.F.Files.failures c.close.result }) e)

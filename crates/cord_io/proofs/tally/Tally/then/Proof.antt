@@ -1,5 +1,5 @@
 -- `then` makes a tally of nothing: it reads neither argument.
-use Rattle.std.proofs.Common.{◌+◌, ◌++◌, [], ◌∷◌, refl}
+use Rattle.std.proofs.Common.{◌++◌, [], ◌∷◌, refl}
 use mir.Syntax.{named}
 use types.Kit.{‵, raw, ◌⊛◌, ◌$◌, ◌∵◌, !, qed, done, keep, move, split, join, suffices}
 use types.Run.{no_more, returns, enter}
@@ -35,7 +35,7 @@ then_spec 𝓤 𝓛 𝓜 𝓡 wired =
     (λ κs. (shr_vals, (shr_vals, tt)))
     (λ κs. (shr_Tells (named 0) κs.0 Row, (shr_Tells (named 1) κs.1.0 (arg.the_row (named_lft 3 2 tt κs)), tt))) (λ κs qs bounds a n are.
     let y : W.Ghost = ((κs, qs, bounds, a, (shr_vals a.0, (shr_vals a.1.0, tt))), n) in
-    let made : Tally = record { bytes = a.0.now.bytes ++ bytes_by a.1.0.now; ends = a.0.now.ends + ends_by a.1.0.now } in
+    let made : Tally = record { bytes = a.0.now.bytes ++ bytes_by a.1.0.now; ends = ends_by a.1.0.now a.0.now.ends } in
     qed 𝓛 ((raw (alive 𝓛 f.signature κs qs) ⊛ ‵ (owns (types_at f.signature.params κs) a y.0.4)) ∷ raw ((c κs a).requires n) ∷ []) ∵
     -- [the tokens]
     split ! $ keep ! (0 ∷ []) $

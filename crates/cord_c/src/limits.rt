@@ -1,0 +1,10 @@
+// The limits as numerals, which no contract takes from the code.
+ghost use Rattle.std.specs.Prelude.{◌≡◌};
+ghost use Rattle.cord_c.specs.declared.chunks.TheConstants.{CHUNK};
+ghost use Rattle.cord_c.specs.declared.extensible.TheConstants.{ROOM};
+
+/// The most bytes of a chunk, and the most that are gathered, as numerals.
+pub fn limits_are()
+    ensures chunk { CHUNK ≡ 4096 }
+    ensures room { ROOM ≡ 4096 }
+{}

@@ -1,4 +1,0 @@
-use Rattle.cord_io.proofs.memory_sink.MemSinkSink.finish.Goals as goal
-
-pub returns-clause-finished : goal.returns-clause-finished
-returns-clause-finished c = c.then-self.ensures.1
