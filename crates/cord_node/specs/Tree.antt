@@ -65,6 +65,13 @@ abbrev pub is_leaf : Node → Bool
 is_leaf (Leaf bytes start len mark) = true
 is_leaf _ = false
 
+-- it is a `Cat` of these two
+abbrev pub HasSides : Node → Node → Node → Type 0
+HasSides left right (Leaf bytes start len mark) = ⊥
+HasSides left right (Run byte len) = ⊥
+HasSides left right (Func id start len) = ⊥
+HasSides left right (Cat' p first q second len depth mark) = (first ≡ left) × (second ≡ right)
+
 -- two leaves that are so short together that their join is one leaf
 abbrev pub are_merged : Node → Node → Bool
 are_merged left right = is_leaf left && is_leaf right && nat_le (len_of left + len_of right) SMALL_LEN

@@ -1,7 +1,7 @@
 // Nodes made of parts and of other nodes.
 ghost use Rattle.std.specs.Prelude.{◌≡◌, ◌+◌, ◌<◌, ◌≤◌, [], ◌∷◌, ◌++◌, true, false, max, length, map, IfOk};
 ghost use Rattle.std.specs.Rc.{rc_slice_items};
-ghost use Rattle.cord_node.specs.Tree.{cells, known, len_of, depth_of, is_leaf, are_merged, joined_depth, IsSound};
+ghost use Rattle.cord_node.specs.Tree.{cells, known, len_of, depth_of, is_leaf, HasSides, are_merged, joined_depth, IsSound};
 ghost use Rattle.cord_node.specs.Tables.{IsJoinOver};
 ghost use Rattle.cord_node.specs.Kept.{parts, leaf_part, Kept};
 
@@ -84,6 +84,7 @@ fn cat(alloc: Global, left: &Rc<Node>, right: &Rc<Node>) -> Result<Rc<Node>, All
     requires shallow { max (depth_of left.now.value) (depth_of right.now.value) + 1 ≤ MAX_DEPTH }
     ensures sound { IfOk result (λ node. IsSound node.value) }
     ensures form { IfOk result (λ node. is_leaf node.value ≡ false) }
+    ensures sides { IfOk result (λ node. HasSides left.now.value right.now.value node.value) }
     ensures text { IfOk result (λ node. cells node.value ≡ cells left.now.value ++ cells right.now.value) }
     ensures parts { IfOk result (λ node. parts node.value ≡ parts left.now.value ++ parts right.now.value) }
     ensures len { IfOk result (λ node. len_of node.value ≡ len_of left.now.value + len_of right.now.value) }
@@ -141,6 +142,8 @@ pub fn join(alloc: Global, left: &Rc<Node>, right: &Rc<Node>) -> Result<Rc<Node>
     ensures len { IfOk result (λ node. len_of node.value ≡ len_of left.now.value + len_of right.now.value) }
 
     ensures form { IfOk result (λ node. is_leaf node.value ≡ are_merged left.now.value right.now.value) }
+    ensures sides { IfOk result (λ node. are_merged left.now.value right.now.value ≡ false →
+        HasSides left.now.value right.now.value node.value) }
     ensures depth { IfOk result (λ node. depth_of node.value ≡ joined_depth left.now.value right.now.value) }
     ensures depth_bound { IfOk result (λ node. depth_of node.value
         ≤ max (depth_of left.now.value) (depth_of right.now.value) + 1) }
