@@ -3,7 +3,7 @@ ghost use Rattle.std.specs.Prelude.{◌≡◌, ℕ, ◌+◌, ◌<◌, ◌≤◌,
 ghost use Rattle.cord_node.specs.Tree.{cells, known, len_of, IsSound};
 ghost use Rattle.cord_node.specs.Kept.{parts, Kept};
 ghost use Rattle.cord_core.specs.Cord.{text, text_len, parts_of, IsCord, all_text, all_len, all_parts};
-ghost use Rattle.cord_core.specs.Depths.{HasCatDepth, IsCatWithBytes};
+ghost use Rattle.cord_core.specs.Depths.{HasCatDepth, HasCatSides, IsCatWithBytes};
 ghost use Rattle.cord_core.specs.Equations.{IsCatOf, IsAppended, IsAllOf};
 ghost use Rattle.cord_core.specs.Refusals.{IsRefusal};
 
@@ -23,6 +23,7 @@ fn joined(alloc: Global, left: &Rc<Node>, right: &Rc<Node>) -> Result<Rc<Node>, 
     ensures text { IfOk result (λ node. cells node.value ≡ cells left.now.value ++ cells right.now.value) }
     ensures len { IfOk result (λ node. len_of node.value ≡ len_of left.now.value + len_of right.now.value) }
     ensures depth { IfOk result (λ node. HasCatDepth (Some left.now.value) (Some right.now.value) (Some node.value)) }
+    ensures sides { IfOk result (λ node. HasCatSides (Some left.now.value) (Some right.now.value) (Some node.value)) }
     ensures kept { IfOk result (λ node. Kept (parts left.now.value ++ parts right.now.value) (parts node.value)) }
 {
     if left.depth().max(right.depth()) < MAX_DEPTH {
@@ -43,6 +44,7 @@ impl Cord {
         ensures len { IfOk result (λ c. text_len c ≡ text_len left.now + text_len right.now) }
         ensures sound { IfOk result IsCord }
         ensures depth { IfOk result (HasCatDepth left.now right.now) }
+        ensures sides { IfOk result (HasCatSides left.now right.now) }
         ensures kept { IfOk result (λ c. Kept (parts_of left.now ++ parts_of right.now) (parts_of c)) }
 
         ensures too_long { result ≡ Err CordError.TooLong → MAX_LEN < text_len left.now + text_len right.now }

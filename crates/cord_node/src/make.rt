@@ -1,7 +1,8 @@
 // Nodes made of parts and of other nodes.
 ghost use Rattle.std.specs.Prelude.{◌≡◌, ◌+◌, ◌<◌, ◌≤◌, [], ◌∷◌, ◌++◌, true, false, max, length, map, IfOk};
 ghost use Rattle.std.specs.Rc.{rc_slice_items};
-ghost use Rattle.cord_node.specs.Tree.{cells, known, len_of, depth_of, is_leaf, HasSides, are_merged, joined_depth, IsSound};
+ghost use Rattle.cord_node.specs.Tree.{cells, known, len_of, depth_of, is_leaf, are_merged, joined_depth, IsSound};
+ghost use Rattle.cord_node.specs.Tree.{HasSides};
 ghost use Rattle.cord_node.specs.Tables.{IsJoinOver};
 ghost use Rattle.cord_node.specs.Kept.{parts, leaf_part, Kept};
 

@@ -14,5 +14,6 @@ returns-clause-cat c = record {
   sound = c.in_ok-tail.ensures.sound;
   form = c.in_ok-tail.ensures.form;
   depth_is = c.in_ok-cord.ensures.depth;
+  sides = c.in_ok-cord.ensures.sides;
   kept = c.in_ok-cord.ensures.kept;
 }
