@@ -1,21 +1,22 @@
--- The statement of a line whose words are settled.
+-- The statement of a line, and what it leaves.
 use Rattle.std.proofs.Common.{Some, None, append_assoc, ◌≡◌, ◌∙◌, ℕ, List, [], ◌∷◌, ◌++◌, refl, sym, ap, subst}
 use Rattle.std.proofs.lemmas.List.Elements.{All-head}
 use Rattle.cord_script.specs.declared.verbs.Verb.{Verb}
 use Rattle.cord_script.specs.declared.words.Word.TheVariants.{Plain}
 use Rattle.cord_syntax.specs.declared.statements.Statement.{Statement}
+use Rattle.cord_syntax.specs.Lines.{line_of}
 use Rattle.cord_script.specs.Words.{IsPlain, IsIdle, HasWord}
+use Rattle.cord_script.specs.Flaws.{block_flaw}
 use Rattle.cord_script.specs.Forms.{Form, form_of, effect_of, terms_of}
-use Rattle.cord_script.specs.Forms.Effect.{Stays}
-use Rattle.cord_script.specs.Script.{Scope, FitsBlocks}
-use Rattle.cord_script.specs.inner.Settled.{SaysSettled}
+use Rattle.cord_script.specs.Script.{Scope, FitsBlocks, after, paths_after, blocks_after}
+use Rattle.cord_script.specs.inner.LineReading.{LineView, SaysLine, left_after}
 use Rattle.cord_script.specs.inner.Steps.{Adds}
 use Rattle.cord_script.specs.inner.Verbal.{verb_word, verb_effect, verb_form}
+use Rattle.cord_script.proofs.Allowed.{block_right}
 use Rattle.cord_script.proofs.Unique.{Begins}
 use Rattle.cord_script.proofs.Found.{not_idle}
 use Rattle.cord_script.proofs.Tabled.{form_is}
 use Rattle.cord_script.proofs.Contexts.{same_effect}
-use Rattle.cord_script.proofs.Settled.{settled_allowed, settled_after}
 
 -- no statement's word begins with `#`
 comment_form : (cs : List ℕ) → form_of (35 ∷ cs) ≡ None
@@ -34,15 +35,40 @@ word_shows (c ∷ cs) form line rest is h =
     } in
     not_idle line (cs ++ rest) c begins (λ e. let none : Some form ≡ None = sym is ∙ ap (λ k. form_of (k ∷ cs)) e ∙ comment_form cs in cc)
 
--- a line that begins with the verb's word, before words that say a settled statement of the verb
-pub adds : (v : Verb) (n : ℕ) (line rest : List ℕ) (scope : Scope) (s : Statement) (ss grown : List Statement) →
-    HasWord line (Plain (verb_word v)) rest → verb_effect v ≡ Stays → SaysSettled scope.names v n rest s → grown ≡ ss ++ s ∷ [] →
-    Adds n line scope ss grown
-adds v n line rest scope s ss grown first effect h added =
-    let stays : effect_of s ≡ Stays = same_effect v h.words s h.word h.says h.suits ∙ effect in
+-- what a statement leaves is what its verb and its words leave
+leaves : (v : Verb) (n : ℕ) (old new : LineView) (s : Statement) → SaysLine v n old new s → effect_of s ≡ verb_effect v →
+    after s old.scope ≡ left_after (verb_effect v) n new.name new.path old.scope
+leaves v n old new s h effect =
+    ap (λ names. record {
+      names = names;
+      paths = paths_after (terms_of s) old.scope.paths;
+      blocks = blocks_after (effect_of s) (line_of s) old.scope.blocks;
+    }) (sym h.names)
+    ∙ ap (λ paths. record {
+      names = (left_after (verb_effect v) n new.name new.path old.scope).names;
+      paths = paths;
+      blocks = blocks_after (effect_of s) (line_of s) old.scope.blocks;
+    }) (sym h.paths)
+    ∙ ap (λ e. record {
+      names = (left_after (verb_effect v) n new.name new.path old.scope).names;
+      paths = (left_after (verb_effect v) n new.name new.path old.scope).paths;
+      blocks = blocks_after e (line_of s) old.scope.blocks;
+    }) effect
+    ∙ ap (λ m. record {
+      names = (left_after (verb_effect v) n new.name new.path old.scope).names;
+      paths = (left_after (verb_effect v) n new.name new.path old.scope).paths;
+      blocks = blocks_after (verb_effect v) m old.scope.blocks;
+    }) h.line
+
+-- a line that begins with the verb's word, before words that say a statement of the verb
+pub adds : (v : Verb) (n : ℕ) (line : List ℕ) (old new : LineView) (left : Scope) (s : Statement) (ss grown : List Statement) →
+    HasWord line (Plain (verb_word v)) old.rest → block_flaw (verb_effect v) old.scope.blocks ≡ None → SaysLine v n old new s →
+    left ≡ left_after (verb_effect v) n new.name new.path old.scope → grown ≡ ss ++ s ∷ [] → Adds n line old.scope left ss grown
+adds v n line old new left s ss grown first fits h is added =
+    let effect : effect_of s ≡ verb_effect v = same_effect v h.words s h.word h.says h.suits in
     record {
       words = Plain (verb_word v) ∷ h.words;
-      has = (h.has.0, (rest, first, h.has.1), h.has.2);
+      has = (h.has.0, (old.rest, first, h.has.1), h.has.2);
       statement = s;
       says = record {
         says = record {
@@ -52,11 +78,11 @@ adds v n line rest scope s ss grown first effect h added =
           word = ap (λ k. Plain k ∷ h.words) (sym h.word);
           terms = h.says;
           suits = h.suits;
-          allowed = settled_allowed scope (terms_of s) h.settled;
-          blocks = subst (λ e. FitsBlocks e scope.blocks) (sym stays) tt;
+          allowed = h.allowed;
+          blocks = subst (λ e. FitsBlocks e old.scope.blocks) (sym effect) (block_right (verb_effect v) old.scope.blocks fits);
         };
-        leaves = settled_after scope s h.settled stays;
+        leaves = leaves v n old new s h effect ∙ sym is;
       };
       added = added;
-      shows = word_shows (verb_word v) (verb_form v) line rest (form_is v) first;
+      shows = word_shows (verb_word v) (verb_form v) line old.rest (form_is v) first;
     }

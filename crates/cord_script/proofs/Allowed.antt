@@ -1,5 +1,5 @@
--- What the checks of a statement's fields tell.
-use Rattle.std.proofs.Common.{inl, inr, Some, None, ◌≡◌, ◌<◌, ℕ, List, [], ◌∷◌, true, refl, ◌∙◌, ap, length, map}
+-- Terms without a flaw are allowed.
+use Rattle.std.proofs.Common.{inl, inr, None, ◌≡◌, ◌<◌, ℕ, List, [], ◌∷◌, true, refl, ◌∙◌, ap, length, map}
 use Rattle.std.specs.Prelude.{Option, ◌⊎◌, ◌||◌, nat_lt, if◌then◌else◌}
 use Rattle.std.proofs.lemmas.Bool.{ltb-true}
 use Rattle.cord_script.specs.declared.TheConstants.{MAX_PATHS, MAX_BLOCKS}
@@ -10,20 +10,15 @@ use Rattle.cord_operands.specs.declared.operands.Number.TheVariants.{Numeral, Na
 use Rattle.cord_script.specs.declared.table.Known.{Known}
 use Rattle.cord_script.specs.declared.words.Word.{Word}
 use Rattle.cord_script.specs.declared.refusals.RefusalKind.{RefusalKind}
-use Rattle.cord_script.specs.declared.refusals.RefusalKind.TheVariants.{TooMany, TooDeep, WrongCount}
-use Rattle.cord_printf.specs.declared.pieces.Piece.{Piece}
-use Rattle.cord_script.specs.declared.words.Word.TheVariants.{Plain, Quoted}
-use Rattle.cord_script.specs.Forms.{Term, Effect, Form, Shape}
-use Rattle.cord_script.specs.Forms.Shape.{Words, Joined, Printed}
-use Rattle.cord_script.specs.Formats.{Converts}
+use Rattle.cord_script.specs.declared.refusals.RefusalKind.TheVariants.{TooMany, TooDeep}
+use Rattle.cord_script.specs.Forms.{Term, Effect}
 use Rattle.cord_script.specs.Forms.Effect.{Stays, OpensRepeat, OpensIf, Turns, Closes}
 use Rattle.cord_script.specs.Forms.Term.{Target, Operand, Value, Literal, FilePath, Applies, Compares, Formats}
 use Rattle.cord_script.specs.Script.{Scope, Block, kind_of, is_among, IsTerm, AreTerms, IsAllowed, AreAllowed, FitsBlocks}
 use Rattle.cord_script.specs.Script.Block.{InRepeat, InIf, InElse}
-use Rattle.cord_script.specs.Flaws.{words_flaw, is_count, wants_of, HasFormat, HasFormFlaw, first_of, unless, first_pair, kind_flaw}
+use Rattle.cord_script.specs.Flaws.{first_of, unless, first_pair, kind_flaw}
 use Rattle.cord_script.specs.Flaws.{operand_flaw, word_target_flaw, word_path_flaw, names_flaw, block_flaw}
-use Rattle.cord_script.specs.declared.fields.Field.{Field}
-use Rattle.cord_script.specs.inner.Fields.{want_of, term_of, wanted_by, IsReadAs, IsFormatOf, AreFields, HasFieldFlaw, IsChecked}
+use Rattle.cord_script.specs.inner.Fields.{want_of}
 use Rattle.cord_script.specs.inner.ContextViews.{operand_term_flaw, target_term_flaw, path_term_flaw, first_term, terms_flaw}
 use Rattle.cord_script.proofs.Checked.{neither, holds, kind_right, target_right}
 use Rattle.cord_script.proofs.Terms.{either, name_begins, numeral_known}
@@ -138,77 +133,3 @@ block_right Turns (InRepeat line ∷ blocks) h = cc
 block_right Turns (InElse line ∷ blocks) h = cc
 block_right Closes [] h = cc
 block_right Closes (block ∷ blocks) h = λ e. cc
-
-in_front : (a b c : Option RefusalKind) (kind : RefusalKind) → first_of a b ≡ Some kind → first_of a (first_of b c) ≡ Some kind
-in_front None None c kind h = cc
-in_front None (Some k) c kind h = h
-in_front (Some k) b c kind h = h
-
-behind_two : (a b c d : Option RefusalKind) (kind : RefusalKind) → a ≡ None → b ≡ None → first_of c d ≡ Some kind →
-    first_of a (first_of b (first_of c d)) ≡ Some kind
-behind_two None None c d kind p q h = h
-behind_two _ _ c d kind p q h = cc
-
--- words that are wrong are a flaw of the form
-pub words_wrong : (scope : Scope) (form : Form) (ws : List Word) (kind : RefusalKind) → HasFieldFlaw form.shape ws kind →
-    HasFormFlaw scope (Some form) ws kind
-words_wrong scope form ws kind h = (
-  h.0,
-  h.1,
-  in_front (unless (is_count form.shape (length ws)) WrongCount) (words_flaw form.shape h.0 ws)
-      (first_of (names_flaw scope (wants_of form.shape h.0 ws) ws) (block_flaw form.effect scope.blocks)) kind h.2,
-)
-
-read_converts : (text : List ℕ) (format : Option (List Piece)) → IsReadAs text format → Converts text (wanted_by format)
-read_converts text None h = h
-read_converts text (Some pieces) h = (pieces, h, refl)
-
-none_wanted : (format : Option (List Piece)) → format ≡ None → wanted_by format ≡ None
-none_wanted format h = ap wanted_by h
-
--- what the conversions of the format want
-pub format_wants_are : (shape : Shape) (ws : List Word) (format : Option (List Piece)) → IsFormatOf shape ws format →
-    HasFormat shape ws (wanted_by format)
-format_wants_are (Words xs) ws format h = none_wanted format h
-format_wants_are Joined ws format h = none_wanted format h
-format_wants_are Printed [] format h = none_wanted format h
-format_wants_are Printed (t ∷ []) format h = none_wanted format h
-format_wants_are Printed (t ∷ Plain p ∷ ws) format h = none_wanted format h
-format_wants_are Printed (t ∷ Quoted text ∷ ws) format h = read_converts text format h
-
--- what is wrong after right words is a flaw of the form
-later_wrong : (scope : Scope) (form : Form) (ws : List Word) (ps : List Field) (format : Option (List Piece)) (kind : RefusalKind) →
-    AreFields form.shape ws ps format → first_of (terms_flaw scope (map term_of ps)) (block_flaw form.effect scope.blocks) ≡ Some kind →
-    HasFormFlaw scope (Some form) ws kind
-later_wrong scope form ws ps format kind h wrong =
-    let same = ap (λ k. names_flaw scope k ws) h.wanted ∙ names_same scope ws (map term_of ps) h.terms in (
-      wanted_by format,
-      format_wants_are form.shape ws format h.has,
-      behind_two (unless (is_count form.shape (length ws)) WrongCount)
-          (words_flaw form.shape (wanted_by format) ws) (names_flaw scope (wants_of form.shape (wanted_by format) ws) ws)
-          (block_flaw form.effect scope.blocks) kind (ap (λ b. unless b WrongCount) h.count) h.fit
-          (ap (λ k. first_of k (block_flaw form.effect scope.blocks)) same ∙ wrong),
-    )
-
--- names that are wrong
-pub names_wrong : (scope : Scope) (form : Form) (ws : List Word) (ps : List Field) (format : Option (List Piece)) (kind : RefusalKind) →
-    AreFields form.shape ws ps format → terms_flaw scope (map term_of ps) ≡ Some kind → HasFormFlaw scope (Some form) ws kind
-names_wrong scope form ws ps format kind h wrong = later_wrong scope form ws ps format kind h
-    (ap (λ k. first_of k (block_flaw form.effect scope.blocks)) wrong)
-
--- a statement that the open blocks do not take
-pub blocks_wrong : (scope : Scope) (form : Form) (ws : List Word) (ps : List Field) (format : Option (List Piece)) (kind : RefusalKind) →
-    AreFields form.shape ws ps format → terms_flaw scope (map term_of ps) ≡ None → block_flaw form.effect scope.blocks ≡ Some kind →
-    HasFormFlaw scope (Some form) ws kind
-blocks_wrong scope form ws ps format kind h names wrong = later_wrong scope form ws ps format kind h
-    (ap (λ k. first_of k (block_flaw form.effect scope.blocks)) names ∙ wrong)
-
--- a line that is right
-pub checked : (scope : Scope) (form : Form) (ws : List Word) (ps : List Field) (format : Option (List Piece)) →
-    AreFields form.shape ws ps format → terms_flaw scope (map term_of ps) ≡ None → block_flaw form.effect scope.blocks ≡ None →
-    IsChecked form scope ws ps format
-checked scope form ws ps format h names blocks = record {
-  says = h;
-  allowed = all_allowed scope (map term_of ps) names;
-  fits = block_right form.effect scope.blocks blocks;
-}

@@ -40,7 +40,7 @@ above low high c h = not_true (nat_le low c && nat_le c high) (λ t.
     let q = leb-true c high p.1 in
     omega arith)
 
-below : (low high c : ℕ) → c < low → (nat_le low c && nat_le c high) ≡ false
+pub below : (low high c : ℕ) → c < low → (nat_le low c && nat_le c high) ≡ false
 below low high c h = not_true (nat_le low c && nat_le c high) (λ t.
     let p = both (nat_le low c) (nat_le c high) t in
     let q = leb-true low c p.0 in

@@ -1,11 +1,9 @@
-pub mod Building
-pub mod Built
 pub mod ContextViews
 pub mod Contexts
+pub mod Diagnosis
 pub mod Fields
+pub mod LineReading
 pub mod Reading
-pub mod Settled
-pub mod SourceFields
 pub mod Steps
 pub mod Tables
 pub mod Verbal

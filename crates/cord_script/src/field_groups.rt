@@ -1,13 +1,11 @@
 // Fields that stand one after another in several statements. What follows a refused one isn't asked for.
-ghost use Rattle.std.specs.Prelude.{◌≡◌, [], ◌∷◌, take, drop, IfOk, OnOk};
-ghost use Rattle.cord_script.specs.declared.kinds.Want.{Want};
+ghost use Rattle.std.specs.Prelude.{◌≡◌, [], ◌∷◌, IfOk};
 ghost use Rattle.cord_script.specs.Forms.Term.{Target, Operand, Value, FilePath};
-ghost use Rattle.cord_script.specs.inner.SourceFields.{GivesAll, paired};
+ghost use Rattle.cord_script.specs.inner.LineReading.{IsFresh, GivesAll, paired};
 
-use crate::field_source::FieldSource;
-use crate::kinds::{Kind, Want};
+use crate::kinds::Kind;
+use crate::line_words::{LineWords, Unread};
 use crate::{Name, Number, Path, Shared};
-use std::alloc::Global;
 
 /// The fields before and the next one, unless that is refused.
 #[inline(always)]
@@ -19,156 +17,137 @@ pub fn paired<A: Drop, B: Drop, E: Drop>(before: A, next: Result<B, E>) -> Resul
 
 /// The target, a cord, and a path.
 #[inline(always)]
-pub fn target_and_path<F: FieldSource>(fields: &mut F) -> Result<(Name, Path), F::Error>
-    requires { take 2 (F.wants fields.old) ≡ Want.Target Kind.Cord ∷ Want.Path ∷ [] }
-    ensures left { OnOk result (F.wants fields.new ≡ drop 2 (F.wants fields.old)) }
-    ensures gave { IfOk result (λ all. GivesAll F.gives fields.old
-        (Target Kind.Cord all.0 ∷ FilePath all.1 ∷ []) fields.new) }
+pub fn target_and_path(words: &mut LineWords) -> Result<(Name, Path), Unread>
+    requires { IsFresh words.old }
+    ensures { IfOk result (λ all. GivesAll words.old
+        (Target Kind.Cord all.0 ∷ FilePath all.1 ∷ []) words.new) }
 {
-    let front = fields.target(Kind::Cord)?;
-    paired(front, fields.path())
+    let front = words.target(Kind::Cord)?;
+    paired(front, words.path())
 }
 
 /// The target and a number.
 #[inline(always)]
-pub fn target_and_number<F: FieldSource>(
-    target: Kind,
-    fields: &mut F,
-) -> Result<(Name, Number), F::Error>
-    requires { take 2 (F.wants fields.old) ≡ Want.Target target ∷ Want.Number ∷ [] }
-    ensures left { OnOk result (F.wants fields.new ≡ drop 2 (F.wants fields.old)) }
-    ensures gave { IfOk result (λ all. GivesAll F.gives fields.old
-        (Target target all.0 ∷ Value all.1 ∷ []) fields.new) }
+pub fn target_and_number(target: Kind, words: &mut LineWords) -> Result<(Name, Number), Unread>
+    requires { IsFresh words.old }
+    ensures { IfOk result (λ all. GivesAll words.old
+        (Target target all.0 ∷ Value all.1 ∷ []) words.new) }
 {
-    let front = fields.target(target)?;
-    paired(front, fields.number())
+    let front = words.target(target)?;
+    paired(front, words.number())
 }
 
 /// The target and a name that is used.
 #[inline(always)]
-pub fn target_and_operand<F: FieldSource>(
+pub fn target_and_operand(
     target: Kind,
     operand: Kind,
-    fields: &mut F,
-) -> Result<(Name, Name), F::Error>
-    requires { take 2 (F.wants fields.old) ≡ Want.Target target ∷ Want.Operand operand ∷ [] }
-    ensures left { OnOk result (F.wants fields.new ≡ drop 2 (F.wants fields.old)) }
-    ensures gave { IfOk result (λ all. GivesAll F.gives fields.old
-        (Target target all.0 ∷ Operand operand all.1 ∷ []) fields.new) }
+    words: &mut LineWords,
+) -> Result<(Name, Name), Unread>
+    requires { IsFresh words.old }
+    ensures { IfOk result (λ all. GivesAll words.old
+        (Target target all.0 ∷ Operand operand all.1 ∷ []) words.new) }
 {
-    let front = fields.target(target)?;
-    paired(front, fields.operand(operand))
+    let front = words.target(target)?;
+    paired(front, words.operand(operand))
 }
 
 /// The target and two numbers.
 #[inline(always)]
-pub fn target_and_numbers<F: FieldSource>(
+pub fn target_and_numbers(
     target: Kind,
-    fields: &mut F,
-) -> Result<((Name, Number), Number), F::Error>
-    requires { take 3 (F.wants fields.old) ≡ Want.Target target ∷ Want.Number ∷ Want.Number ∷ [] }
-    ensures left { OnOk result (F.wants fields.new ≡ drop 3 (F.wants fields.old)) }
-    ensures gave { IfOk result (λ all. GivesAll F.gives fields.old
-        (Target target all.0.0 ∷ Value all.0.1 ∷ Value all.1 ∷ []) fields.new) }
+    words: &mut LineWords,
+) -> Result<((Name, Number), Number), Unread>
+    requires { IsFresh words.old }
+    ensures { IfOk result (λ all. GivesAll words.old
+        (Target target all.0.0 ∷ Value all.0.1 ∷ Value all.1 ∷ []) words.new) }
 {
-    let front = target_and_number(target, fields)?;
-    paired(front, fields.number())
+    let front = target_and_number(target, words)?;
+    paired(front, words.number())
 }
 
 /// The target and two cords.
 #[inline(always)]
-pub fn target_and_operands<F: FieldSource>(
+pub fn target_and_operands(
     target: Kind,
-    fields: &mut F,
-) -> Result<((Name, Name), Name), F::Error>
-    requires { take 3 (F.wants fields.old) ≡
-        Want.Target target ∷ Want.Operand Kind.Cord ∷ Want.Operand Kind.Cord ∷ [] }
-    ensures left { OnOk result (F.wants fields.new ≡ drop 3 (F.wants fields.old)) }
-    ensures gave { IfOk result (λ all. GivesAll F.gives fields.old
-        (Target target all.0.0 ∷ Operand Kind.Cord all.0.1 ∷ Operand Kind.Cord all.1 ∷ []) fields.new) }
+    words: &mut LineWords,
+) -> Result<((Name, Name), Name), Unread>
+    requires { IsFresh words.old }
+    ensures { IfOk result (λ all. GivesAll words.old
+        (Target target all.0.0 ∷ Operand Kind.Cord all.0.1 ∷ Operand Kind.Cord all.1 ∷ []) words.new) }
 {
-    let front = target_and_operand(target, Kind::Cord, fields)?;
-    paired(front, fields.operand(Kind::Cord))
+    let front = target_and_operand(target, Kind::Cord, words)?;
+    paired(front, words.operand(Kind::Cord))
 }
 
 /// The target, a cord and a number.
 #[inline(always)]
-pub fn target_operand_number<F: FieldSource>(
+pub fn target_operand_number(
     target: Kind,
-    fields: &mut F,
-) -> Result<((Name, Name), Number), F::Error>
-    requires { take 3 (F.wants fields.old) ≡ Want.Target target ∷ Want.Operand Kind.Cord ∷ Want.Number ∷ [] }
-    ensures left { OnOk result (F.wants fields.new ≡ drop 3 (F.wants fields.old)) }
-    ensures gave { IfOk result (λ all. GivesAll F.gives fields.old
-        (Target target all.0.0 ∷ Operand Kind.Cord all.0.1 ∷ Value all.1 ∷ []) fields.new) }
+    words: &mut LineWords,
+) -> Result<((Name, Name), Number), Unread>
+    requires { IsFresh words.old }
+    ensures { IfOk result (λ all. GivesAll words.old
+        (Target target all.0.0 ∷ Operand Kind.Cord all.0.1 ∷ Value all.1 ∷ []) words.new) }
 {
-    let front = target_and_operand(target, Kind::Cord, fields)?;
-    paired(front, fields.number())
+    let front = target_and_operand(target, Kind::Cord, words)?;
+    paired(front, words.number())
 }
 
 /// The target, a cord and two numbers.
 #[inline(always)]
-pub fn target_operand_numbers<F: FieldSource>(
+pub fn target_operand_numbers(
     target: Kind,
-    fields: &mut F,
-) -> Result<(((Name, Name), Number), Number), F::Error>
-    requires { take 4 (F.wants fields.old) ≡
-        Want.Target target ∷ Want.Operand Kind.Cord ∷ Want.Number ∷ Want.Number ∷ [] }
-    ensures left { OnOk result (F.wants fields.new ≡ drop 4 (F.wants fields.old)) }
-    ensures gave { IfOk result (λ all. GivesAll F.gives fields.old
-        (Target target all.0.0.0 ∷ Operand Kind.Cord all.0.0.1 ∷ Value all.0.1 ∷ Value all.1 ∷ []) fields.new) }
+    words: &mut LineWords,
+) -> Result<(((Name, Name), Number), Number), Unread>
+    requires { IsFresh words.old }
+    ensures { IfOk result (λ all. GivesAll words.old
+        (Target target all.0.0.0 ∷ Operand Kind.Cord all.0.0.1 ∷ Value all.0.1 ∷ Value all.1 ∷ []) words.new) }
 {
-    let front = target_operand_number(target, fields)?;
-    paired(front, fields.number())
+    let front = target_operand_number(target, words)?;
+    paired(front, words.number())
 }
 
 /// The target, a cord, a number and another cord.
 #[inline(always)]
-pub fn target_operand_number_operand<F: FieldSource>(
+pub fn target_operand_number_operand(
     target: Kind,
-    fields: &mut F,
-) -> Result<(((Name, Name), Number), Name), F::Error>
-    requires { take 4 (F.wants fields.old) ≡
-        Want.Target target ∷ Want.Operand Kind.Cord ∷ Want.Number ∷ Want.Operand Kind.Cord ∷ [] }
-    ensures left { OnOk result (F.wants fields.new ≡ drop 4 (F.wants fields.old)) }
-    ensures gave { IfOk result (λ all. GivesAll F.gives fields.old
+    words: &mut LineWords,
+) -> Result<(((Name, Name), Number), Name), Unread>
+    requires { IsFresh words.old }
+    ensures { IfOk result (λ all. GivesAll words.old
         (Target target all.0.0.0 ∷ Operand Kind.Cord all.0.0.1 ∷ Value all.0.1 ∷ Operand Kind.Cord all.1 ∷ [])
-        fields.new) }
+        words.new) }
 {
-    let front = target_operand_number(target, fields)?;
-    paired(front, fields.operand(Kind::Cord))
+    let front = target_operand_number(target, words)?;
+    paired(front, words.operand(Kind::Cord))
 }
 
 // The target, a cord and a number on the heap.
 #[inline(always)]
-fn target_operand_shared<F: FieldSource>(
-    alloc: Global,
+fn target_operand_shared(
     target: Kind,
-    fields: &mut F,
-) -> Result<((Name, Name), Shared<Number>), F::Error>
-    requires { take 3 (F.wants fields.old) ≡ Want.Target target ∷ Want.Operand Kind.Cord ∷ Want.Number ∷ [] }
-    ensures left { OnOk result (F.wants fields.new ≡ drop 3 (F.wants fields.old)) }
-    ensures gave { IfOk result (λ all. GivesAll F.gives fields.old
-        (Target target all.0.0 ∷ Operand Kind.Cord all.0.1 ∷ Value all.1 ∷ []) fields.new) }
+    words: &mut LineWords,
+) -> Result<((Name, Name), Shared<Number>), Unread>
+    requires { IsFresh words.old }
+    ensures { IfOk result (λ all. GivesAll words.old
+        (Target target all.0.0 ∷ Operand Kind.Cord all.0.1 ∷ Value all.1 ∷ []) words.new) }
 {
-    let front = target_and_operand(target, Kind::Cord, fields)?;
-    paired(front, fields.shared_number(alloc))
+    let front = target_and_operand(target, Kind::Cord, words)?;
+    paired(front, words.shared_number())
 }
 
 /// The target, a cord, a number on the heap and another cord.
 #[inline(always)]
-pub fn target_operand_shared_operand<F: FieldSource>(
-    alloc: Global,
+pub fn target_operand_shared_operand(
     target: Kind,
-    fields: &mut F,
-) -> Result<(((Name, Name), Shared<Number>), Name), F::Error>
-    requires { take 4 (F.wants fields.old) ≡
-        Want.Target target ∷ Want.Operand Kind.Cord ∷ Want.Number ∷ Want.Operand Kind.Cord ∷ [] }
-    ensures left { OnOk result (F.wants fields.new ≡ drop 4 (F.wants fields.old)) }
-    ensures gave { IfOk result (λ all. GivesAll F.gives fields.old
+    words: &mut LineWords,
+) -> Result<(((Name, Name), Shared<Number>), Name), Unread>
+    requires { IsFresh words.old }
+    ensures { IfOk result (λ all. GivesAll words.old
         (Target target all.0.0.0 ∷ Operand Kind.Cord all.0.0.1 ∷ Value all.0.1 ∷ Operand Kind.Cord all.1 ∷ [])
-        fields.new) }
+        words.new) }
 {
-    let front = target_operand_shared(alloc, target, fields)?;
-    paired(front, fields.operand(Kind::Cord))
+    let front = target_operand_shared(target, words)?;
+    paired(front, words.operand(Kind::Cord))
 }

@@ -1,56 +1,14 @@
-// What the words of a statement say.
+// What a word says that is a path, a function or a relation.
 ghost use Rattle.std.specs.Prelude.{◌≡◌, ◌≢◌, true, false, Some, IfOk, IfErr, IfSome, IfNone, ℕ, List};
 ghost use Rattle.std.specs.Str.{is_utf8};
-ghost use Rattle.cord_script.specs.Tests.{each, is_name, is_path, begins_numeral, function_word, relation_word};
-ghost use Rattle.cord_script.specs.Forms.Term.{Value};
-ghost use Rattle.cord_script.specs.Script.{IsTerm, kind_of};
-ghost use Rattle.cord_script.specs.Flaws.{misfit, name_misfit, number_misfit, text_misfit, path_misfit};
-ghost use Rattle.cord_script.specs.Flaws.{function_misfit, relation_misfit};
-ghost use Rattle.cord_script.specs.inner.Fields.{IsField, is_path_text, is_no_zero, term_of};
-ghost use Rattle.cord_script.specs.inner.Settled.{IsSettled};
+ghost use Rattle.cord_script.specs.Tests.{each, is_path, begins_numeral, function_word, relation_word};
+ghost use Rattle.cord_script.specs.Flaws.{path_misfit, function_misfit, relation_misfit};
+ghost use Rattle.cord_script.specs.inner.Fields.{is_path_text, is_no_zero};
 
-use crate::kinds::{Kind, Want};
-use crate::names::has_kind;
-use crate::numerals::{is_digit, numeral_of};
-use crate::table::Table;
+use crate::numerals::is_digit;
 use crate::words::Word;
-use crate::{Function, MAX_PATH, Name, Number, Path, RefusalKind, Relation, Text};
+use crate::{Function, MAX_PATH, Path, RefusalKind, Relation};
 use memchr::memchr;
-use std::alloc::Global;
-
-/// What a word of a statement says.
-#[derive(Drop)]
-pub enum Field {
-    /// The name that the line assigns.
-    Target(Kind, Name),
-    /// The name of a cord or an extensible cord that the line uses.
-    Operand(Kind, Name),
-    /// A numeral or the name of a number.
-    Value(Number),
-    /// A text.
-    Literal(Text),
-    /// The path of a file.
-    FilePath(Path),
-    /// The word of a function.
-    Applies(Function),
-    /// The word of a relation.
-    Compares(Relation),
-    /// The text of a format.
-    Formats(Text),
-}
-
-// Where a name is wanted.
-#[inline(always)]
-fn name_of(alloc: Global, names: &Table, word: Word) -> Result<(Name, Option<Kind>), RefusalKind>
-    ensures name { IfOk result (λ r. (word.entry ≡ Word.Plain r.0) × (is_name r.0 ≡ true)) }
-    ensures kind { IfOk result (λ r. IfSome r.1 (λ kind. kind_of names.now r.0 ≡ Some kind)) }
-    ensures flaw { IfErr result (λ kind. kind ≢ RefusalKind.NoMemory → name_misfit word.entry ≡ Some kind) }
-{
-    let Word::Plain(name) = word else {
-        return Err(RefusalKind::BadName);
-    };
-    Ok(names.name_of(alloc, name.as_slice())?)
-}
 
 /// Whether a word begins as a numeral: with a digit or `-`.
 pub fn begins_numeral(word: &[u8]) -> bool
@@ -59,37 +17,6 @@ pub fn begins_numeral(word: &[u8]) -> bool
     match word {
         [] => false,
         [first, ..] => is_digit(*first) || *first == b'-',
-    }
-}
-
-// Where a number operand is wanted.
-#[inline(always)]
-fn number_of(alloc: Global, names: &Table, word: Word) -> Result<(Number, bool), RefusalKind>
-    ensures number { IfOk result (λ r. IsTerm word.entry (Value r.0)) }
-    ensures settled { IfOk result (λ r. r.1 ≡ true → IsSettled names.now (Value r.0)) }
-    ensures flaw { IfErr result (λ kind. kind ≢ RefusalKind.NoMemory → number_misfit word.entry ≡ Some kind) }
-{
-    let Word::Plain(name) = word else {
-        return Err(RefusalKind::BadNumber);
-    };
-    if begins_numeral(name.as_slice()) {
-        return match numeral_of(name.as_slice()) {
-            None => Err(RefusalKind::BadNumber),
-            Some(value) => Ok((Number::Numeral(value), true)),
-        };
-    }
-    let (name, has) = names.name_of(alloc, name.as_slice())?;
-    Ok((Number::Named(name), has_kind(has, Kind::Number)))
-}
-
-// Where a quoted word is wanted.
-fn text_of(word: Word) -> Result<Text, RefusalKind>
-    ensures text { IfOk result (λ text. word.entry ≡ Word.Quoted text) }
-    ensures flaw { IfErr result (λ kind. text_misfit word.entry ≡ Some kind) }
-{
-    match word {
-        Word::Plain(_) => Err(RefusalKind::WrongKind),
-        Word::Quoted(text) => Ok(text),
     }
 }
 
@@ -118,8 +45,23 @@ fn utf8_path(bytes: Vec<u8>) -> Option<Path>
     }
 }
 
-// Where a path is wanted.
-fn path_of(word: Word) -> Result<Path, RefusalKind>
+// Whether bytes are UTF-8.
+fn is_utf8(bytes: &[u8]) -> bool
+    ensures { result ≡ is_utf8 bytes.now }
+{
+    str::from_utf8(bytes).is_ok()
+}
+
+/// Whether bytes are a path.
+#[tactic(auto, using(crate::proofs::Paths::path_told))]
+pub fn is_path(bytes: &[u8]) -> bool
+    ensures { result ≡ is_path bytes.now }
+{
+    is_path_text(bytes) && is_utf8(bytes)
+}
+
+/// Where a path is wanted.
+pub fn path_of(word: Word) -> Result<Path, RefusalKind>
     ensures path { IfOk result (λ path. (word.entry ≡ Word.Quoted path) × (is_path path ≡ true)) }
     ensures flaw { IfErr result (λ kind. path_misfit word.entry ≡ Some kind) }
 {
@@ -170,38 +112,4 @@ pub fn relation_of(word: &Word) -> Result<Relation, RefusalKind>
         return Ok(Relation::Greater);
     }
     Err(RefusalKind::BadName)
-}
-
-/// What a word says where this is wanted, or what is wrong with it; and whether it is settled: it is no path, and
-/// a name in it is known and of its kind.
-#[inline(always)]
-pub fn field_of(
-    alloc: Global,
-    names: &Table,
-    want: Want,
-    word: Word,
-) -> Result<(Field, bool), RefusalKind>
-    ensures field { IfOk result (λ r. IsField want word.entry r.0) }
-    ensures settled { IfOk result (λ r. r.1 ≡ true → IsSettled names.now (term_of r.0)) }
-    ensures flaw { IfErr result (λ kind. kind ≢ RefusalKind.NoMemory → misfit want word.entry ≡ Some kind) }
-{
-    match want {
-        Want::Target(kind) => {
-            let (name, has) = name_of(alloc, names, word)?;
-            Ok((Field::Target(kind, name), has_kind(has, kind)))
-        }
-        Want::Operand(kind) => {
-            let (name, has) = name_of(alloc, names, word)?;
-            Ok((Field::Operand(kind, name), has_kind(has, kind)))
-        }
-        Want::Number => {
-            let (number, settled) = number_of(alloc, names, word)?;
-            Ok((Field::Value(number), settled))
-        }
-        Want::Text => Ok((Field::Literal(text_of(word)?), true)),
-        Want::Path => Ok((Field::FilePath(path_of(word)?), false)),
-        Want::Function => Ok((Field::Applies(function_of(&word)?), true)),
-        Want::Relation => Ok((Field::Compares(relation_of(&word)?), true)),
-        Want::Format => Ok((Field::Formats(text_of(word)?), true)),
-    }
 }

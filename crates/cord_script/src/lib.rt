@@ -1,20 +1,19 @@
 //! Scripts: from bytes to statements.
 #![tactic(auto)]
 
+mod added;
 mod blocks;
 mod context;
-mod cursor;
-mod direct;
+mod diagnosis;
 mod field_groups;
-mod field_lists;
-mod field_source;
 mod fields;
+mod flaws;
+mod formats;
 mod grammar;
 mod kinds;
 mod laws;
 mod limits;
 mod line;
-mod line_fields;
 mod line_words;
 mod names;
 mod numerals;

@@ -54,16 +54,6 @@ pub fn is_same(a: Kind, b: Kind) -> bool
     )
 }
 
-/// Whether a name has this kind.
-pub fn has_kind(has: Option<Kind>, kind: Kind) -> bool
-    ensures { result ≡ true → has ≡ Some kind }
-{
-    match has {
-        Some(known) => is_same(known, kind),
-        None => false,
-    }
-}
-
 /// What is wrong with an operand of this kind.
 pub fn kind_flaw(has: Option<Kind>, kind: Kind) -> Option<RefusalKind>
     ensures { result ≡ kind_flaw has kind }

@@ -10,14 +10,12 @@ ghost use Rattle.cord_script.specs.inner.Steps.{Takes, HasWrong};
 
 use crate::blocks::open_flaw;
 use crate::context::Context;
-use crate::direct::take_settled;
-use crate::fields::Field;
-use crate::line::read_statement;
-use crate::words::{Word, blanks, head, tail, uncons, words_of};
+use crate::diagnosis::refusal_of;
+use crate::line::take_statement;
+use crate::words::{blanks, head, tail, uncons};
 use crate::{MAX_LINES, MAX_SCRIPT, Refusal, RefusalKind, Script, Statement};
 use memchr::memchr;
 use std::alloc::Global;
-use std::collections::VecDeque;
 
 // No statement stands on the line.
 fn is_idle(line: &[u8]) -> bool
@@ -41,37 +39,11 @@ fn first_line(bytes: &[u8]) -> (&[u8], &[u8])
     }
 }
 
-// Adds the statement that the words of a line say.
-#[cold]
-#[inline(never)]
-fn take_words<'a>(
-    alloc: Global,
-    number: u32,
-    line: &'a [u8],
-    words: &mut VecDeque<Word<'a>>,
-    buffer: &mut Vec<Field>,
-    context: &mut Context,
-    statements: &mut Vec<Statement>,
-) -> Result<(), RefusalKind>
-    requires { ¬ IsIdle line.now }
-    ensures takes { OnOk result
-        (Takes number line.now (scope_of context.old) (scope_of context.new) statements.old.items
-        statements.new.items) }
-    ensures flaw { IfErr result (λ kind. kind ≢ RefusalKind.NoMemory → HasWrong line.now (scope_of context.old) kind) }
-{
-    words_of(alloc, line, words)?;
-    let statement = read_statement(alloc, number, context, words, buffer)?;
-    statements.push(statement)?;
-    Ok(())
-}
-
 // Adds the statement of a line, if it has one.
-fn take_line<'a>(
+fn take_line(
     alloc: Global,
     number: u32,
-    line: &'a [u8],
-    words: &mut VecDeque<Word<'a>>,
-    buffer: &mut Vec<Field>,
+    line: &[u8],
     context: &mut Context,
     statements: &mut Vec<Statement>,
 ) -> Result<(), RefusalKind>
@@ -80,13 +52,13 @@ fn take_line<'a>(
         statements.new.items) }
     ensures flaw { IfErr result (λ kind. kind ≢ RefusalKind.NoMemory → HasWrong line.now (scope_of context.old) kind) }
 {
-    if take_settled(alloc, number, line, context, statements)? {
+    if take_statement(alloc, number, line, context, statements)? {
         return Ok(());
     }
     if is_idle(line) {
         return Ok(());
     }
-    take_words(alloc, number, line, words, buffer, context, statements)
+    Err(refusal_of(alloc, context, line))
 }
 
 /// Reads a script: lines that end with byte 10, or with the script, and on each one statement, a comment or nothing.
@@ -113,8 +85,6 @@ pub fn parse(alloc: Global, script: &[u8]) -> Result<Script, Refusal>
         });
     }
     let mut statements = Vec::new(alloc);
-    let mut words = VecDeque::new(alloc);
-    let mut buffer = Vec::new(alloc);
     let mut context = Context::nothing(alloc);
     let mut rest = script;
     let mut number = 1u32;
@@ -126,15 +96,7 @@ pub fn parse(alloc: Global, script: &[u8]) -> Result<Script, Refusal>
             });
         }
         let (line, after) = first_line(rest);
-        if let Err(kind) = take_line(
-            alloc,
-            number,
-            line,
-            &mut words,
-            &mut buffer,
-            &mut context,
-            &mut statements,
-        ) {
+        if let Err(kind) = take_line(alloc, number, line, &mut context, &mut statements) {
             return Err(Refusal { line: number, kind });
         }
         rest = after;

@@ -1,27 +1,20 @@
-// Statements of their fields, family by family.
-ghost use Rattle.std.specs.Prelude.{◌≡◌, [], ◌∷◌, Some, map, IfOk, IfErr, OnOk};
+// The statements of lines, family by family, of the words that follow their verbs.
+ghost use Rattle.std.specs.Prelude.{◌≡◌, IfOk};
 ghost use Rattle.cord_script.specs.declared.verbs.Verb.{Verb};
-ghost use Rattle.cord_script.specs.Forms.Term.{Target};
-ghost use Rattle.cord_script.specs.inner.Fields.{want_of, next_want};
-ghost use Rattle.cord_script.specs.inner.Verbal.{fixed_wants};
-ghost use Rattle.cord_script.specs.inner.Building.{format_of, verb_of};
-ghost use Rattle.cord_script.specs.inner.Built.{IsJoined, IsPrintedAs, AreFieldsOf, IsStatementOf};
-ghost use Rattle.cord_script.specs.inner.SourceFields.{IsBuilt};
+ghost use Rattle.cord_script.specs.inner.LineReading.{IsFresh, IsBuilt};
 
-use crate::cursor::FieldCursor;
 use crate::field_groups::{
     paired, target_and_number, target_and_numbers, target_and_operand, target_and_operands,
     target_and_path, target_operand_number, target_operand_number_operand, target_operand_numbers,
     target_operand_shared_operand,
 };
-use crate::field_lists::Builder;
-use crate::field_source::FieldSource;
-use crate::kinds::{Kind, Want};
+use crate::formats::wants_of_pieces;
+use crate::kinds::Kind;
+use crate::line_words::{LineWords, Unread};
 use crate::verbs::{
-    Composition, Computation, Control, Derivation, FixedVerb, Growth, Look, Origin, Search,
+    Composition, Computation, Control, Derivation, FixedVerb, Growth, Look, Origin, Search, Verb,
 };
-use crate::{RefusalKind, Shared, Statement};
-use cord_printf::Format;
+use crate::{Shared, Statement};
 use std::alloc::Global;
 
 // The fields of a variant, as they are nested where one after another was asked for.
@@ -44,26 +37,25 @@ macro_rules! statement {
 
 // A statement that makes a cord of no other name's value.
 #[inline(always)]
-fn origin_of<F: FieldSource>(verb: Origin, line: u32, fields: &mut F) -> Result<Statement, F::Error>
-    requires { F.wants fields.old ≡ fixed_wants (FixedVerb.Origin verb) }
-    ensures built { IfOk result (IsBuilt F.gives (Verb.Fixed (FixedVerb.Origin verb)) line fields.old fields.new) }
-    ensures done { OnOk result (F.wants fields.new ≡ []) }
+fn origin_of(verb: Origin, line: u32, words: &mut LineWords) -> Result<Statement, Unread>
+    requires { IsFresh words.old }
+    ensures { IfOk result (IsBuilt (Verb.Fixed (FixedVerb.Origin verb)) line words.old words.new) }
 {
     match verb {
         Origin::Let => statement!(
             line,
             Let,
-            (target, text) = paired(fields.target(Kind::Cord)?, fields.text())
+            (target, text) = paired(words.target(Kind::Cord)?, words.text())
         ),
-        Origin::File => statement!(line, File, (target, path) = target_and_path(fields)),
-        Origin::Eager => statement!(line, Eager, (target, path) = target_and_path(fields)),
-        Origin::Lazy => statement!(line, Lazy, (target, path) = target_and_path(fields)),
+        Origin::File => statement!(line, File, (target, path) = target_and_path(words)),
+        Origin::Eager => statement!(line, Eager, (target, path) = target_and_path(words)),
+        Origin::Lazy => statement!(line, Lazy, (target, path) = target_and_path(words)),
         Origin::FromFn => statement!(
             line,
             FromFn,
             (target, function, count) = paired(
-                paired(fields.target(Kind::Cord)?, fields.function())?,
-                fields.number()
+                paired(words.target(Kind::Cord)?, words.function())?,
+                words.number()
             )
         ),
     }
@@ -71,136 +63,115 @@ fn origin_of<F: FieldSource>(verb: Origin, line: u32, fields: &mut F) -> Result<
 
 // A statement that makes a cord that an expression gives.
 #[inline(always)]
-fn composition_of<F: FieldSource>(
-    verb: Composition,
-    line: u32,
-    fields: &mut F,
-) -> Result<Statement, F::Error>
-    requires { F.wants fields.old ≡ fixed_wants (FixedVerb.Composition verb) }
-    ensures built { IfOk result (IsBuilt F.gives (Verb.Fixed (FixedVerb.Composition verb)) line fields.old fields.new) }
-    ensures done { OnOk result (F.wants fields.new ≡ []) }
+fn composition_of(verb: Composition, line: u32, words: &mut LineWords) -> Result<Statement, Unread>
+    requires { IsFresh words.old }
+    ensures { IfOk result (IsBuilt (Verb.Fixed (FixedVerb.Composition verb)) line words.old words.new) }
 {
     match verb {
         Composition::Chars => statement!(
             line,
             Chars,
-            (target, byte, count) = target_and_numbers(Kind::Cord, fields)
+            (target, byte, count) = target_and_numbers(Kind::Cord, words)
         ),
         Composition::Nul => statement!(
             line,
             Nul,
-            (target, count) = target_and_number(Kind::Cord, fields)
+            (target, count) = target_and_number(Kind::Cord, words)
         ),
         Composition::Cat => statement!(
             line,
             Cat,
-            (target, left, right) = target_and_operands(Kind::Cord, fields)
+            (target, left, right) = target_and_operands(Kind::Cord, words)
         ),
         Composition::Catc => statement!(
             line,
             Catc,
-            (target, operand, byte) = target_operand_number(Kind::Cord, fields)
+            (target, operand, byte) = target_operand_number(Kind::Cord, words)
         ),
         Composition::Substr => statement!(
             line,
             Substr,
-            (target, operand, start, count) = target_operand_numbers(Kind::Cord, fields)
+            (target, operand, start, count) = target_operand_numbers(Kind::Cord, words)
         ),
     }
 }
 
 // A statement that makes a cord anew of a cord or an extensible cord.
 #[inline(always)]
-fn derivation_of<F: FieldSource>(
-    verb: Derivation,
-    line: u32,
-    fields: &mut F,
-) -> Result<Statement, F::Error>
-    requires { F.wants fields.old ≡ fixed_wants (FixedVerb.Derivation verb) }
-    ensures built { IfOk result (IsBuilt F.gives (Verb.Fixed (FixedVerb.Derivation verb)) line fields.old fields.new) }
-    ensures done { OnOk result (F.wants fields.new ≡ []) }
+fn derivation_of(verb: Derivation, line: u32, words: &mut LineWords) -> Result<Statement, Unread>
+    requires { IsFresh words.old }
+    ensures { IfOk result (IsBuilt (Verb.Fixed (FixedVerb.Derivation verb)) line words.old words.new) }
 {
     match verb {
         Derivation::Balance => statement!(
             line,
             Balance,
-            (target, operand) = target_and_operand(Kind::Cord, Kind::Cord, fields)
+            (target, operand) = target_and_operand(Kind::Cord, Kind::Cord, words)
         ),
         Derivation::EcToCord => statement!(
             line,
             EcToCord,
-            (target, extensible) = target_and_operand(Kind::Cord, Kind::Extensible, fields)
+            (target, extensible) = target_and_operand(Kind::Cord, Kind::Extensible, words)
         ),
     }
 }
 
 // A statement that computes a number, which needs no byte.
 #[inline(always)]
-fn computation_of<F: FieldSource>(
-    verb: Computation,
-    line: u32,
-    fields: &mut F,
-) -> Result<Statement, F::Error>
-    requires { F.wants fields.old ≡ fixed_wants (FixedVerb.Computation verb) }
-    ensures built { IfOk result (IsBuilt F.gives (Verb.Fixed (FixedVerb.Computation verb)) line fields.old fields.new) }
-    ensures done { OnOk result (F.wants fields.new ≡ []) }
+fn computation_of(verb: Computation, line: u32, words: &mut LineWords) -> Result<Statement, Unread>
+    requires { IsFresh words.old }
+    ensures { IfOk result (IsBuilt (Verb.Fixed (FixedVerb.Computation verb)) line words.old words.new) }
 {
     match verb {
         Computation::Assign => statement!(
             line,
             Assign,
-            (target, value) = target_and_number(Kind::Number, fields)
+            (target, value) = target_and_number(Kind::Number, words)
         ),
         Computation::Len => statement!(
             line,
             Len,
-            (target, operand) = target_and_operand(Kind::Number, Kind::Cord, fields)
+            (target, operand) = target_and_operand(Kind::Number, Kind::Cord, words)
         ),
         Computation::Add => statement!(
             line,
             Add,
-            (target, left, right) = target_and_numbers(Kind::Number, fields)
+            (target, left, right) = target_and_numbers(Kind::Number, words)
         ),
         Computation::Sub => statement!(
             line,
             Sub,
-            (target, left, right) = target_and_numbers(Kind::Number, fields)
+            (target, left, right) = target_and_numbers(Kind::Number, words)
         ),
     }
 }
 
 // A statement that looks at bytes.
 #[inline(always)]
-fn look_of<F: FieldSource>(
-    alloc: Global,
-    verb: Look,
-    line: u32,
-    fields: &mut F,
-) -> Result<Statement, F::Error>
-    requires { F.wants fields.old ≡ fixed_wants (FixedVerb.Look verb) }
-    ensures built { IfOk result (IsBuilt F.gives (Verb.Fixed (FixedVerb.Look verb)) line fields.old fields.new) }
-    ensures done { OnOk result (F.wants fields.new ≡ []) }
+fn look_of(verb: Look, line: u32, words: &mut LineWords) -> Result<Statement, Unread>
+    requires { IsFresh words.old }
+    ensures { IfOk result (IsBuilt (Verb.Fixed (FixedVerb.Look verb)) line words.old words.new) }
 {
     match verb {
         Look::Fetch => statement!(
             line,
             Fetch,
-            (target, operand, index) = target_operand_number(Kind::Number, fields)
+            (target, operand, index) = target_operand_number(Kind::Number, words)
         ),
         Look::Cmp => statement!(
             line,
             Cmp,
-            (target, left, right) = target_and_operands(Kind::Number, fields)
+            (target, left, right) = target_and_operands(Kind::Number, words)
         ),
         Look::Ncmp => statement!(
             line,
             Ncmp,
             (target, left, left_start, right, right_start, count) = paired(
                 paired(
-                    target_operand_shared_operand(alloc, Kind::Number, fields)?,
-                    fields.shared_number(alloc)
+                    target_operand_shared_operand(Kind::Number, words)?,
+                    words.shared_number()
                 )?,
-                fields.shared_number(alloc)
+                words.shared_number()
             )
         ),
     }
@@ -208,79 +179,72 @@ fn look_of<F: FieldSource>(
 
 // A statement that searches a cord.
 #[inline(always)]
-fn search_of<F: FieldSource>(verb: Search, line: u32, fields: &mut F) -> Result<Statement, F::Error>
-    requires { F.wants fields.old ≡ fixed_wants (FixedVerb.Search verb) }
-    ensures built { IfOk result (IsBuilt F.gives (Verb.Fixed (FixedVerb.Search verb)) line fields.old fields.new) }
-    ensures done { OnOk result (F.wants fields.new ≡ []) }
+fn search_of(verb: Search, line: u32, words: &mut LineWords) -> Result<Statement, Unread>
+    requires { IsFresh words.old }
+    ensures { IfOk result (IsBuilt (Verb.Fixed (FixedVerb.Search verb)) line words.old words.new) }
 {
     match verb {
         Search::Str => statement!(
             line,
             Str,
-            (target, operand, start, pattern) = target_operand_number_operand(Kind::Number, fields)
+            (target, operand, start, pattern) = target_operand_number_operand(Kind::Number, words)
         ),
         Search::Chr => statement!(
             line,
             Chr,
-            (target, operand, start, byte) = target_operand_numbers(Kind::Number, fields)
+            (target, operand, start, byte) = target_operand_numbers(Kind::Number, words)
         ),
         Search::Rchr => statement!(
             line,
             Rchr,
-            (target, operand, start, byte) = target_operand_numbers(Kind::Number, fields)
+            (target, operand, start, byte) = target_operand_numbers(Kind::Number, words)
         ),
     }
 }
 
 // A statement that makes an extensible cord, or one that grows.
 #[inline(always)]
-fn growth_of<F: FieldSource>(verb: Growth, line: u32, fields: &mut F) -> Result<Statement, F::Error>
-    requires { F.wants fields.old ≡ fixed_wants (FixedVerb.Growth verb) }
-    ensures built { IfOk result (IsBuilt F.gives (Verb.Fixed (FixedVerb.Growth verb)) line fields.old fields.new) }
-    ensures done { OnOk result (F.wants fields.new ≡ []) }
+fn growth_of(verb: Growth, line: u32, words: &mut LineWords) -> Result<Statement, Unread>
+    requires { IsFresh words.old }
+    ensures { IfOk result (IsBuilt (Verb.Fixed (FixedVerb.Growth verb)) line words.old words.new) }
 {
     match verb {
-        Growth::EcInit => statement!(line, EcInit, (target) = fields.target(Kind::Extensible)),
+        Growth::EcInit => statement!(line, EcInit, (target) = words.target(Kind::Extensible)),
         Growth::EcPut => statement!(
             line,
             EcPut,
-            (extensible, byte) = paired(fields.operand(Kind::Extensible)?, fields.number())
+            (extensible, byte) = paired(words.operand(Kind::Extensible)?, words.number())
         ),
         Growth::EcCat => statement!(
             line,
             EcCat,
             (extensible, operand) = paired(
-                fields.operand(Kind::Extensible)?,
-                fields.operand(Kind::Cord)
+                words.operand(Kind::Extensible)?,
+                words.operand(Kind::Cord)
             )
         ),
         Growth::EcStr => statement!(
             line,
             EcStr,
-            (extensible, text) = paired(fields.operand(Kind::Extensible)?, fields.text())
+            (extensible, text) = paired(words.operand(Kind::Extensible)?, words.text())
         ),
     }
 }
 
 // A statement that says which lines run next.
 #[inline(always)]
-fn control_of<F: FieldSource>(
-    verb: Control,
-    line: u32,
-    fields: &mut F,
-) -> Result<Statement, F::Error>
-    requires { F.wants fields.old ≡ fixed_wants (FixedVerb.Control verb) }
-    ensures built { IfOk result (IsBuilt F.gives (Verb.Fixed (FixedVerb.Control verb)) line fields.old fields.new) }
-    ensures done { OnOk result (F.wants fields.new ≡ []) }
+fn control_of(verb: Control, line: u32, words: &mut LineWords) -> Result<Statement, Unread>
+    requires { IsFresh words.old }
+    ensures { IfOk result (IsBuilt (Verb.Fixed (FixedVerb.Control verb)) line words.old words.new) }
 {
     match verb {
-        Control::Repeat => statement!(line, Repeat, (count) = fields.number()),
+        Control::Repeat => statement!(line, Repeat, (count) = words.number()),
         Control::If => statement!(
             line,
             If,
             (left, relation, right) = paired(
-                paired(fields.number()?, fields.relation())?,
-                fields.number()
+                paired(words.number()?, words.relation())?,
+                words.number()
             )
         ),
         Control::Else => Ok(Statement::Else { line }),
@@ -290,22 +254,43 @@ fn control_of<F: FieldSource>(
 
 // A `put`.
 #[inline(always)]
-fn put_of<F: FieldSource>(line: u32, fields: &mut F) -> Result<Statement, F::Error>
-    requires { F.wants fields.old ≡ fixed_wants FixedVerb.Put }
-    ensures built { IfOk result (IsBuilt F.gives (Verb.Fixed FixedVerb.Put) line fields.old fields.new) }
-    ensures done { OnOk result (F.wants fields.new ≡ []) }
+fn put_of(line: u32, words: &mut LineWords) -> Result<Statement, Unread>
+    requires { IsFresh words.old }
+    ensures { IfOk result (IsBuilt (Verb.Fixed FixedVerb.Put) line words.old words.new) }
 {
-    statement!(line, Put, (operand) = fields.operand(Kind::Cord))
+    statement!(line, Put, (operand) = words.operand(Kind::Cord))
+}
+
+// The statement of a verb whose number of words is fixed.
+#[inline(always)]
+fn fixed_statement_of(
+    verb: FixedVerb,
+    line: u32,
+    words: &mut LineWords,
+) -> Result<Statement, Unread>
+    requires { IsFresh words.old }
+    ensures { IfOk result (IsBuilt (Verb.Fixed verb) line words.old words.new) }
+{
+    match verb {
+        FixedVerb::Origin(origin) => origin_of(origin, line, words),
+        FixedVerb::Composition(composition) => composition_of(composition, line, words),
+        FixedVerb::Derivation(derivation) => derivation_of(derivation, line, words),
+        FixedVerb::Put => put_of(line, words),
+        FixedVerb::Computation(computation) => computation_of(computation, line, words),
+        FixedVerb::Look(look) => look_of(look, line, words),
+        FixedVerb::Search(search) => search_of(search, line, words),
+        FixedVerb::Growth(growth) => growth_of(growth, line, words),
+        FixedVerb::Control(control) => control_of(control, line, words),
+    }
 }
 
 // A `catn`.
-fn catn_of(alloc: Global, line: u32, fields: &mut FieldCursor) -> Result<Statement, RefusalKind>
-    requires { IsJoined fields.old }
-    ensures statement { IfOk result (IsStatementOf Verb.Catn line fields.old) }
-    ensures flaw { IfErr result (λ kind. kind ≡ RefusalKind.NoMemory) }
+fn catn_of(line: u32, words: &mut LineWords) -> Result<Statement, Unread>
+    requires { IsFresh words.old }
+    ensures { IfOk result (IsBuilt Verb.Catn line words.old words.new) }
 {
-    let target = fields.cord_target();
-    let parts = fields.cords(alloc)?;
+    let target = words.target(Kind::Cord)?;
+    let parts = words.cords()?;
     Ok(Statement::Catn {
         line,
         target,
@@ -314,82 +299,39 @@ fn catn_of(alloc: Global, line: u32, fields: &mut FieldCursor) -> Result<Stateme
 }
 
 // A `sprintf`.
-fn sprintf_of(
-    alloc: Global,
-    line: u32,
-    format: Shared<Format>,
-    fields: &mut FieldCursor,
-) -> Result<Statement, RefusalKind>
-    requires { IsPrintedAs format fields.old }
-    ensures statement { IfOk result (IsStatementOf Verb.Sprintf line fields.old) }
-    ensures flaw { IfErr result (λ kind. kind ≡ RefusalKind.NoMemory) }
+#[cold]
+#[inline(never)]
+fn sprintf_of(alloc: Global, line: u32, words: &mut LineWords) -> Result<Statement, Unread>
+    requires { IsFresh words.old }
+    ensures { IfOk result (IsBuilt Verb.Sprintf line words.old words.new) }
 {
-    let target = fields.cord_target();
-    let text = fields.shared_format(alloc)?;
-    let arguments = fields.arguments(alloc)?;
+    let target = words.target(Kind::Cord)?;
+    let (text, format) = words.format()?;
+    let wants = wants_of_pieces(alloc, format.pieces())?;
+    let arguments = words.arguments(&wants)?;
     Ok(Statement::Sprintf {
         line,
         target,
-        text,
-        format,
-        arguments,
+        text: Shared::new(alloc, text)?,
+        format: Shared::new(alloc, format)?,
+        arguments: Shared::new(alloc, arguments)?,
     })
 }
 
-/// The statement of a verb that has a fixed number of words, and of the fields that are given.
+/// The statement of a verb, of the words that are left in its line.
 #[inline(always)]
-pub fn fixed_statement_of<F: FieldSource>(
-    alloc: Global,
-    verb: FixedVerb,
-    line: u32,
-    fields: &mut F,
-) -> Result<Statement, F::Error>
-    requires { F.wants fields.old ≡ fixed_wants verb }
-    ensures built { IfOk result (IsBuilt F.gives (Verb.Fixed verb) line fields.old fields.new) }
-    ensures done { OnOk result (F.wants fields.new ≡ []) }
-{
-    match verb {
-        FixedVerb::Origin(origin) => origin_of(origin, line, fields),
-        FixedVerb::Composition(composition) => composition_of(composition, line, fields),
-        FixedVerb::Derivation(derivation) => derivation_of(derivation, line, fields),
-        FixedVerb::Put => put_of(line, fields),
-        FixedVerb::Computation(computation) => computation_of(computation, line, fields),
-        FixedVerb::Look(look) => look_of(alloc, look, line, fields),
-        FixedVerb::Search(search) => search_of(search, line, fields),
-        FixedVerb::Growth(growth) => growth_of(growth, line, fields),
-        FixedVerb::Control(control) => control_of(control, line, fields),
-    }
-}
-
-// The statement of checked fields, whose number the verb fixes.
-fn checked_statement_of(
-    alloc: Global,
-    verb: FixedVerb,
-    line: u32,
-    fields: &mut FieldCursor,
-) -> Result<Statement, RefusalKind>
-    requires { map want_of fields.old ≡ fixed_wants verb }
-    ensures statement { IfOk result (IsStatementOf (Verb.Fixed verb) line fields.old) }
-    ensures flaw { IfErr result (λ kind. kind ≡ RefusalKind.NoMemory) }
-{
-    let statement = fixed_statement_of(alloc, verb, line, fields)?;
-    Ok(statement)
-}
-
-/// The statement of fields, by what makes it of them.
 pub fn statement_of(
     alloc: Global,
-    builder: Builder,
+    verb: Verb,
     line: u32,
-    fields: &mut FieldCursor,
-) -> Result<Statement, RefusalKind>
-    requires { AreFieldsOf (verb_of builder) fields.old (format_of builder) }
-    ensures statement { IfOk result (IsStatementOf (verb_of builder) line fields.old) }
-    ensures flaw { IfErr result (λ kind. kind ≡ RefusalKind.NoMemory) }
+    words: &mut LineWords,
+) -> Result<Statement, Unread>
+    requires { IsFresh words.old }
+    ensures { IfOk result (IsBuilt verb line words.old words.new) }
 {
-    match builder {
-        Builder::Fixed(verb) => checked_statement_of(alloc, verb, line, fields),
-        Builder::Catn => catn_of(alloc, line, fields),
-        Builder::Sprintf(format) => sprintf_of(alloc, line, format, fields),
+    match verb {
+        Verb::Fixed(fixed) => fixed_statement_of(fixed, line, words),
+        Verb::Catn => catn_of(line, words),
+        Verb::Sprintf => sprintf_of(alloc, line, words),
     }
 }

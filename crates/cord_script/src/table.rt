@@ -7,8 +7,9 @@ ghost use Rattle.cord_script.specs.Flaws.{unless};
 ghost use Rattle.cord_operands.specs.Keys.{key_of};
 
 use crate::kinds::Kind;
+use crate::line_words::Unread;
 use crate::names::{is_name, is_same};
-use crate::{Name, RefusalKind, key_of, slot_of};
+use crate::{MAX_NAMES, Name, RefusalKind, key_of, slot_of};
 use std::alloc::Global;
 use std::marker::Model;
 
@@ -133,32 +134,26 @@ impl Table {
     }
 
     /// The kind of a name, from the first line that assigns it.
-    pub fn kind_of(&self, name: &Name) -> Option<Kind>
+    pub fn kind_of(&self, name: &[u8]) -> Option<Kind>
         ensures { result ≡ kind_of self.now name.now }
     {
-        match self.find(name.key(), name.as_slice()) {
+        match self.find(key_of(name), name) {
             Some(entry) => Some(entry.kind),
             None => None,
         }
     }
 
-    /// The name of these bytes, which it shares with the table where it is known, and the kind that it has there.
-    /// Bytes that are known are a name, so that only others are looked at once more.
-    #[inline(always)]
-    pub fn name_of(&self, alloc: Global, bytes: &[u8]) -> Result<(Name, Option<Kind>), RefusalKind>
-        ensures name { IfOk result (λ r. r.0 ≡ bytes.now) }
-        ensures is_name { IfOk result (λ r. is_name bytes.now ≡ true) }
-        ensures kind { IfOk result (λ r. IfSome r.1 (λ kind. kind_of self.now bytes.now ≡ Some kind)) }
-        ensures flaw { IfErr result (λ kind. kind ≢ RefusalKind.NoMemory →
-            unless (is_name bytes.now) RefusalKind.BadName ≡ Some kind) }
+    /// The name of these bytes, where they are a name that isn't known, and one more may be.
+    pub fn new_name(&self, alloc: Global, bytes: &[u8]) -> Result<Name, Unread>
+        ensures name { IfOk result (λ name. name ≡ bytes.now) }
+        ensures is_name { IfOk result (λ name. is_name name ≡ true) }
+        ensures new { IfOk result (λ name. kind_of self.now name ≡ None) }
+        ensures room { OnOk result (length self.now < MAX_NAMES) }
     {
-        if let Some(entry) = self.find(key_of(bytes), bytes) {
-            return Ok((entry.name.clone()?, Some(entry.kind)));
+        if self.known.len() >= MAX_NAMES || !is_name(bytes) || self.kind_of(bytes).is_some() {
+            return Err(Unread);
         }
-        if !is_name(bytes) {
-            return Err(RefusalKind::BadName);
-        }
-        Ok((Name::of(alloc, bytes, self.next_hint())?, None))
+        Ok(Name::of(alloc, bytes, self.next_hint())?)
     }
 
     /// The name of these bytes, which it shares with the table, where it is known and of this kind.
@@ -195,31 +190,29 @@ impl Table {
         }
     }
 
-    /// Adds a name, if it is new.
-    pub fn assign(&mut self, name: &Name, kind: Kind) -> Result<(), RefusalKind>
-        requires { is_name name.now ≡ true }
-        ensures names { OnOk result (self.new ≡ with_name self.old name.now kind) }
+    /// Adds a name with its kind, if it is new.
+    pub fn assign(&mut self, known: Known) -> Result<(), RefusalKind>
+        requires { is_name known.name ≡ true }
+        ensures names { OnOk result (self.new ≡ with_name self.old known.name known.kind) }
         ensures flaw { IfErr result (λ e. e ≡ RefusalKind.NoMemory) }
     {
-        if self.find(name.key(), name.as_slice()).is_some() {
+        if self.kind_of(known.name.as_slice()).is_some() {
             return Ok(());
         }
-        self.push(name, kind)
+        self.push(known)
     }
 
     // Adds a name that is new.
-    fn push(&mut self, name: &Name, kind: Kind) -> Result<(), RefusalKind>
-        requires new { kind_of self.old name.now ≡ None }
-        requires is_name { is_name name.now ≡ true }
-        ensures names { OnOk result (self.new ≡ self.old ++ record { name = name.now; kind = kind } ∷ []) }
+    fn push(&mut self, known: Known) -> Result<(), RefusalKind>
+        requires new { kind_of self.old known.name ≡ None }
+        requires is_name { is_name known.name ≡ true }
+        ensures names { OnOk result (self.new ≡ self.old ++ known ∷ []) }
         ensures flaw { IfErr result (λ e. e ≡ RefusalKind.NoMemory) }
     {
         let place = self.known.len();
-        self.known.push(Known {
-            name: name.clone()?,
-            kind,
-        })?;
-        self.guess(name.key(), place);
+        let key = known.name.key();
+        self.known.push(known)?;
+        self.guess(key, place);
         Ok(())
     }
 }

@@ -10,7 +10,6 @@ ghost use Rattle.cord_script.specs.inner.Reading.{digit_of, hex_of, escape_of, u
 
 use crate::{MAX_TEXT, RefusalKind, Text};
 use std::alloc::Global;
-use std::collections::VecDeque;
 use std::marker::Model;
 
 /// The bytes of a plain word, which stand in the script.
@@ -235,22 +234,18 @@ pub fn next_word(alloc: Global, line: &[u8]) -> Result<Option<(Word<'_>, &[u8])>
     Ok(Some((word, tail(rest, len))))
 }
 
-/// Puts the words of a line, in order, in the place of those that were there, whose room they take.
-pub fn words_of<'a>(
-    alloc: Global,
-    line: &'a [u8],
-    words: &mut VecDeque<Word<'a>>,
-) -> Result<(), RefusalKind>
-    ensures words { OnOk result (HasWords line.now words.new.items) }
+/// The words of a line, in order.
+pub fn words_of(alloc: Global, line: &[u8]) -> Result<Vec<Word<'_>>, RefusalKind>
+    ensures words { IfOk result (λ words. HasWords line.now words.items) }
     ensures flaw { IfErr result (λ kind. kind ≢ RefusalKind.NoMemory → HasBadBytes line.now kind) }
 {
-    words.clear();
+    let mut words = Vec::new(alloc);
     let mut rest = line;
     'words: loop {
         match next_word(alloc, rest)? {
-            None => return Ok(()),
+            None => return Ok(words),
             Some((word, behind)) => {
-                words.push_back(word)?;
+                words.push(word)?;
                 rest = behind;
             }
         }

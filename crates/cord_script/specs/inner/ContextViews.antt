@@ -7,8 +7,6 @@ use Rattle.cord_script.specs.declared.table.Known.{Known}
 use Rattle.cord_script.specs.declared.blocks.Open.{Open}
 use Rattle.cord_script.specs.declared.blocks.Open.TheVariants as blocks
 use Rattle.cord_script.specs.declared.context.Context.{Context}
-use Rattle.cord_script.specs.declared.context.Pass.{Pass}
-use Rattle.cord_script.specs.declared.context.Pass.TheVariants as passes
 use Rattle.cord_script.specs.declared.refusals.RefusalKind.{RefusalKind}
 use Rattle.cord_script.specs.declared.refusals.RefusalKind.TheVariants.{TooMany}
 use Rattle.cord_script.specs.Forms.{Term}
@@ -48,12 +46,6 @@ abbrev pub path_term_flaw : List (List ℕ) → Term → Option RefusalKind
 path_term_flaw paths (FilePath path) = unless (is_among paths path || nat_lt (length paths) MAX_PATHS) TooMany
 path_term_flaw paths _ = None
 
--- what is wrong with a term in a pass
-abbrev pub term_flaw : Pass → Scope → Term → Option RefusalKind
-term_flaw passes.Operands scope t = operand_term_flaw scope.names t
-term_flaw passes.Target scope t = target_term_flaw scope.names t
-term_flaw passes.Paths scope t = path_term_flaw scope.paths t
-
 -- the first that is wrong with terms, from left to right
 abbrev pub first_term : (Term → Option RefusalKind) → List Term → Option RefusalKind
 first_term test [] = None
@@ -61,5 +53,5 @@ first_term test (t ∷ ts) = first_of (test t) (first_term test ts)
 
 -- what is wrong with the names of a line: the operands, the target, the path
 abbrev pub terms_flaw : Scope → List Term → Option RefusalKind
-terms_flaw scope ts = first_of (first_term (term_flaw passes.Operands scope) ts)
-    (first_of (first_term (term_flaw passes.Target scope) ts) (first_term (term_flaw passes.Paths scope) ts))
+terms_flaw scope ts = first_of (first_term (operand_term_flaw scope.names) ts)
+    (first_of (first_term (target_term_flaw scope.names) ts) (first_term (path_term_flaw scope.paths) ts))

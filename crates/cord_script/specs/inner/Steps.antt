@@ -17,12 +17,12 @@ Tells n line old new (Some s) = (¬ IsIdle line) × (words : List Word) × HasWo
 abbrev pub Takes : ℕ → List ℕ → Scope → Scope → List Statement → List Statement → Type 0
 Takes n line old new ss grown = (found : Option Statement) × Tells n line old new found × (grown ≡ ss ++ option_to_list found)
 
--- the words of a line say a statement that changes nothing for the lines after it, and it is added to the others
-pub record Adds (n : ℕ) (line : List ℕ) (scope : Scope) (ss grown : List Statement) : Type 0 where
+-- the words of a line say a statement, which is added to the others
+pub record Adds (n : ℕ) (line : List ℕ) (old new : Scope) (ss grown : List Statement) : Type 0 where
   pub words : List Word
   pub has : HasWords line words
   pub statement : Statement
-  pub says : SaysAfter n scope scope words statement
+  pub says : SaysAfter n old new words statement
   pub added : grown ≡ ss ++ statement ∷ []
   pub shows : ¬ IsIdle line
 

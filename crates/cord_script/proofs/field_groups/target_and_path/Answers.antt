@@ -1,10 +1,10 @@
 use Rattle.std.proofs.Common.{ℕ, List, [], ◌∷◌}
 use Rattle.cord_script.specs.declared.kinds.Kind.TheVariants as kinds
 use Rattle.cord_script.specs.Forms.Term.{Target, FilePath}
-use Rattle.cord_script.proofs.SourceFields.{one_field, next_field}
+use Rattle.cord_script.proofs.LineReading.{one_field, next_field}
 use Rattle.cord_script.proofs.field_groups.target_and_path.Goals as goal
 
-pub returns-clause-gave : goal.returns-clause-gave
-returns-clause-gave g c =
-    next_field _ (λ (name : List ℕ). Target kinds.Cord name ∷ []) FilePath
-    _ _ _ _ _ _ (one_field c.in_ok-front.ensures.gave) c.paired.ensures c.path.ensures.gave
+pub returns : goal.returns
+returns c =
+    next_field (λ (name : List ℕ). Target kinds.Cord name ∷ []) FilePath
+    _ _ _ _ _ _ (one_field c.in_ok-front.ensures.gave) c.paired.ensures c.path.ensures

@@ -3,39 +3,39 @@ use Rattle.cord_script.specs.declared.verbs.FixedVerb.TheVariants.{Control}
 use Rattle.cord_operands.specs.declared.operands.Number.{Number}
 use Rattle.cord_operands.specs.declared.operands.Relation.{Relation}
 use Rattle.cord_script.specs.Forms.Term.{Value, Compares}
-use Rattle.cord_script.proofs.SourceFields.{spelled, no_field, one_field, next_field}
+use Rattle.cord_script.proofs.LineReading.{spelled, no_field, one_field, next_field}
 use Rattle.cord_script.proofs.statements.control_of.Goals as goal
 
-pub returns-in_ok-count-in-Repeat-clause-built : goal.returns-in_ok-count-in-Repeat-clause-built
-returns-in_ok-count-in-Repeat-clause-built g c = record {
+pub returns-in_ok-count-in-Repeat : goal.returns-in_ok-count-in-Repeat
+returns-in_ok-count-in-Repeat c = record {
   word = spelled Control c.in-Repeat.is;
   numbered = refl;
-  fields = one_field c.in_ok-count-in-Repeat.ensures.gave;
+  fields = one_field c.in_ok-count-in-Repeat.ensures;
   suits = tt;
 }
 
-pub returns-in_ok-left-in-If-clause-built : goal.returns-in_ok-left-in-If-clause-built
-returns-in_ok-left-in-If-clause-built g c = record {
+pub returns-in_ok-left-in-If : goal.returns-in_ok-left-in-If
+returns-in_ok-left-in-If c = record {
   word = spelled Control c.in-If.is;
   numbered = refl;
-  fields = next_field _ (λ (p : Number × Relation). Value p.0 ∷ Compares p.1 ∷ []) Value _ _ _ _ _ _
-      (next_field _ (λ (left : Number). Value left ∷ []) Compares _ _ _ _ _ _ (one_field c.in_ok-number-in-If.ensures.gave)
-      c.in_ok-paired-in-If.ensures c.relation.ensures.gave) c.in_ok-left-in-If.ensures c.number-in-If-2.ensures.gave;
+  fields = next_field (λ (p : Number × Relation). Value p.0 ∷ Compares p.1 ∷ []) Value _ _ _ _ _ _
+      (next_field (λ (left : Number). Value left ∷ []) Compares _ _ _ _ _ _ (one_field c.in_ok-number-in-If.ensures)
+      c.in_ok-paired-in-If.ensures c.relation.ensures) c.in_ok-left-in-If.ensures c.number-in-If-2.ensures;
   suits = tt;
 }
 
-pub returns-in-Else-clause-built : goal.returns-in-Else-clause-built
-returns-in-Else-clause-built g c = record {
+pub returns-in-Else : goal.returns-in-Else
+returns-in-Else c = record {
   word = spelled Control c.in-Else.is;
   numbered = refl;
-  fields = no_field _ _;
+  fields = no_field _;
   suits = tt;
 }
 
-pub returns-in-End-clause-built : goal.returns-in-End-clause-built
-returns-in-End-clause-built g c = record {
+pub returns-in-End : goal.returns-in-End
+returns-in-End c = record {
   word = spelled Control c.in-End.is;
   numbered = refl;
-  fields = no_field _ _;
+  fields = no_field _;
   suits = tt;
 }

@@ -1,20 +1,12 @@
-use Rattle.std.proofs.Common.{◌∷◌, refl, sym, ap, ◌∙◌}
-use Rattle.cord_script.specs.declared.kinds.Kind.TheVariants as kinds
-use Rattle.cord_script.specs.Forms.Term.{Target, Formats}
-use Rattle.cord_script.proofs.Built.{printed_arguments, printed_suits}
+use Rattle.std.proofs.Common.{◌∙◌, ap}
+use Rattle.cord_script.specs.Formats.{wants_of_pieces}
+use Rattle.cord_script.proofs.LineReading.{first_field, sprintf_built}
 use Rattle.cord_script.proofs.statements.sprintf_of.Goals as goal
 
-pub arguments-requires : goal.arguments-requires
-arguments-requires c = printed_arguments c.args.format c.args.fields.now c.cord_target-target.new.self c.shared_format.new.self
-    c.cord_target-target.result c.in_ok-text.text c.requires c.cord_target-target.ensures
-    c.in_ok-text.ensures.format
-
-pub returns-clause-statement : goal.returns-clause-statement
-returns-clause-statement c =
-    let left = c.in_ok-text.ensures.format ∙ ap (λ k. Formats c.in_ok-text.text ∷ k) c.in_ok-arguments.ensures.arguments in
-    let target = c.cord_target-target.result in
-    let terms = sym (c.cord_target-target.ensures ∙ ap (λ k. Target kinds.Cord target ∷ k) left) in
-    let suits = printed_suits c.args.format c.args.fields.now c.cord_target-target.new.self c.shared_format.new.self target
-    c.in_ok-text.text c.in_ok-arguments.arguments c.requires
-    c.cord_target-target.ensures c.in_ok-text.ensures.format c.in_ok-arguments.ensures.arguments in
-    (refl, refl, terms, suits)
+pub returns : goal.returns
+returns c =
+    let wants = c.in_ok-arguments.ensures.wants ∙ c.deref.ensures.value ∙ c.in_ok-wants.ensures.wants ∙ ap wants_of_pieces c.pieces.ensures in
+    sprintf_built c.args.line c.args.words.now c.arguments.new.self c.in_ok-target.target c.in_ok-text.text c.in_ok-text.format
+    c.in_ok-arguments.arguments _ _ _ _ c.target-2.view_is c.in_ok-new.ensures c.in_ok-new-2.ensures c.in_ok-new-3.ensures
+    (first_field _ _ c.in_ok-target.ensures.gave (first_field _ _ c.in_ok-text.ensures.gave c.in_ok-arguments.ensures.gave))
+    c.in_ok-text.ensures.format wants

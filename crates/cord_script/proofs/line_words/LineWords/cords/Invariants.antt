@@ -2,13 +2,12 @@ use Rattle.std.proofs.Common.{◌≤◌, ◌-◌, length, map}
 use Rattle.cord_script.specs.declared.TheConstants.{MAX_PARTS}
 use Rattle.cord_script.specs.declared.kinds.Kind.TheVariants as kinds
 use Rattle.cord_script.specs.Forms.Term.{Operand}
-use Rattle.cord_script.specs.inner.SourceFields.{GivesAll}
-use Rattle.cord_script.specs.inner.Settled.{GivesSettled}
+use Rattle.cord_script.specs.inner.LineReading.{GivesAll}
 use Rattle.cord_script.proofs.line_words.LineWords.cords.Given as goal
 
 abbrev pub invariant-cords : goal.invariant-cords
 invariant-cords l = record {
-  gave : GivesAll GivesSettled l.initial.self (map (Operand kinds.Cord) l.names.items) l.self;
+  gave : GivesAll l.initial.self (map (Operand kinds.Cord) l.names.items) l.self;
   high : length l.names.items ≤ MAX_PARTS;
 }
 

@@ -7,7 +7,7 @@ use Rattle.cord_script.proofs.table.Table.push.Goals as goal
 
 pub invariant_of-self-2 : goal.invariant_of-self-2
 invariant_of-self-2 c =
-    let last : Known = record { name = c.args.name.now; kind = c.args.kind } in
+    let last : Known = c.args.known in
     let is : c.push.new.self.items ≡ c.self.inside.known.items ++ last ∷ [] = search rules in
     let new : kind_of c.self.inside.known.items last.name ≡ None = search rules in
     let known = c.self.invariant in

@@ -1,0 +1,134 @@
+-- What is wrong with words where something is wanted of each is a flaw of their form.
+use Rattle.std.proofs.Common.{Some, None, ◌≡◌, ◌≤◌, ◌<◌, ◌+◌, ℕ, List, [], ◌∷◌, ◌++◌, refl, sym, ◌∙◌, ap, take, length}
+use Rattle.std.proofs.Common.{suc, arith, eq-eqb}
+use Rattle.std.proofs.Math.Dec.{eqb-suc-suc}
+use Rattle.std.specs.Prelude.{Option, replicate, nat_le}
+use Rattle.std.proofs.lemmas.Bool.{le-leb}
+use Rattle.std.proofs.lemmas.List.{take-replicate}
+use Rattle.cord_script.specs.declared.TheConstants.{MIN_PARTS, MAX_PARTS}
+use Rattle.cord_script.specs.declared.diagnosis.TheConstants.{JOINED, PRINTED}
+use Rattle.cord_script.specs.declared.kinds.Kind.TheVariants as kinds
+use Rattle.cord_script.specs.declared.kinds.Want.{Want}
+use Rattle.cord_script.specs.declared.kinds.Want.TheVariants as wants
+use Rattle.cord_script.specs.declared.verbs.FixedVerb.{FixedVerb}
+use Rattle.cord_script.specs.declared.verbs.Verb.TheVariants.{Fixed, Catn, Sprintf}
+use Rattle.cord_script.specs.declared.words.Word.{Word}
+use Rattle.cord_script.specs.declared.refusals.RefusalKind.{RefusalKind}
+use Rattle.cord_script.specs.declared.refusals.RefusalKind.TheVariants.{WrongCount, BadFormat}
+use Rattle.cord_script.specs.Forms.Shape.{Printed}
+use Rattle.cord_script.specs.Forms.Effect.{Stays}
+use Rattle.cord_script.specs.Script.{Scope}
+use Rattle.cord_script.specs.Flaws.{first_of, unless, misfit, first_pair, first_misfit, cords, joined, format_wants, HasFormat}
+use Rattle.cord_script.specs.Flaws.{HasFormFlaw, arguments_flaw, argument_words, names_flaw, block_flaw}
+use Rattle.cord_script.specs.inner.Diagnosis.{wanted_flaw}
+use Rattle.cord_script.specs.inner.Verbal.{fixed_wants, verb_form, verb_effect}
+use Rattle.cord_script.proofs.Unique.{within}
+
+-- a pair that is right is passed
+pub pair_passed : (test : Want → Word → Option RefusalKind) (all told : Option RefusalKind) (xs more : List Want) (ws behind : List Word)
+    (x : Want) (w : Word) → all ≡ first_pair test xs ws → xs ≡ x ∷ more → ws ≡ w ∷ behind → told ≡ test x w → told ≡ None →
+    all ≡ first_pair test more behind
+pair_passed test all told xs more ws behind x w a e f t n =
+    a ∙ ap (λ k. first_pair test k ws) e ∙ ap (first_pair test (x ∷ more)) f
+    ∙ ap (λ k. first_of k (first_pair test more behind)) (sym t ∙ n)
+
+-- a pair that is wrong is the first
+pub pair_wrong : (test : Want → Word → Option RefusalKind) (all told : Option RefusalKind) (xs more : List Want) (ws behind : List Word)
+    (x : Want) (w : Word) (kind : RefusalKind) → all ≡ first_pair test xs ws → xs ≡ x ∷ more → ws ≡ w ∷ behind → told ≡ test x w →
+    told ≡ Some kind → Some kind ≡ all
+pair_wrong test all told xs more ws behind x w kind a e f t n =
+    sym (a ∙ ap (λ k. first_pair test k ws) e ∙ ap (first_pair test (x ∷ more)) f
+    ∙ ap (λ k. first_of k (first_pair test more behind)) (sym t ∙ n))
+
+-- a flaw of words whose number is fixed
+pub words_flaw : (v : FixedVerb) (scope : Scope) (ws : List Word) (kind : RefusalKind) →
+    wanted_flaw (verb_effect (Fixed v)) scope (fixed_wants v) ws ≡ Some kind → HasFormFlaw scope (Some (verb_form (Fixed v))) ws kind
+words_flaw v scope ws kind h = (None, refl, h)
+
+cords_are : (ws : List Word) → replicate (length ws) (wants.Operand kinds.Cord) ≡ cords ws
+cords_are [] = refl
+cords_are (w ∷ ws) = ap (λ k. wants.Operand kinds.Cord ∷ k) (cords_are ws)
+
+joined_are : (ws : List Word) → length ws ≤ 1 + MAX_PARTS → take (length ws) JOINED ≡ joined ws
+joined_are [] few = refl
+joined_are (w ∷ ws) few = ap (λ k. wants.Target kinds.Cord ∷ k)
+    (take-replicate (length ws) MAX_PARTS (wants.Operand kinds.Cord) (omega (arith, few)) ∙ cords_are ws)
+
+joined_count : (ws : List Word) → length (joined ws) ≡ length ws
+joined_count [] = refl
+joined_count (w ∷ ws) = let r = cords_count ws in omega arith
+  where
+    cords_count : (vs : List Word) → length (cords vs) ≡ length vs
+    cords_count [] = refl
+    cords_count (v ∷ vs) = let r = cords_count vs in omega arith
+
+-- a target and 2 to 16 cords
+pub cords_flaw : (scope : Scope) (ws : List Word) (n : ℕ) (kind : RefusalKind) → n ≡ length ws → 1 + MIN_PARTS ≤ n → n ≤ 1 + MAX_PARTS →
+    wanted_flaw Stays scope (take n JOINED) ws ≡ Some kind → HasFormFlaw scope (Some (verb_form Catn)) ws kind
+cords_flaw scope ws n kind e low high h =
+    let count = within (1 + MIN_PARTS) (1 + MAX_PARTS) (length ws) (omega (arith, e, low)) (omega (arith, e, high)) in
+    let same : take n JOINED ≡ joined ws = ap (λ k. take k JOINED) e ∙ joined_are ws (omega (arith, e, high)) in
+    let many = eq-eqb (length ws) (length (joined ws)) (sym (joined_count ws)) in
+    let rest = first_of (first_misfit (joined ws) ws) (first_of (names_flaw scope (joined ws) ws) (block_flaw Stays scope.blocks)) in (
+      None,
+      refl,
+      ap (λ b. first_of (unless b WrongCount) rest) count ∙ sym (ap (λ b. first_of (unless b WrongCount) rest) many)
+          ∙ sym (ap (λ xs. wanted_flaw Stays scope xs ws) same) ∙ h,
+    )
+
+-- a target or a format is missing
+pub no_format : (scope : Scope) (ws : List Word) → length ws < 2 → HasFormFlaw scope (Some (verb_form Sprintf)) ws WrongCount
+no_format scope [] few = (None, refl, refl)
+no_format scope (w ∷ []) few = (None, refl, refl)
+no_format scope (w ∷ x ∷ ws) few = absurd (omega (arith, few))
+
+-- with a target and a format the number of words is right
+counted : (ws : List Word) (rest : Option RefusalKind) → 2 ≤ length ws → first_of (unless (nat_le 2 (length ws)) WrongCount) rest ≡ rest
+counted ws rest some = ap (λ b. first_of (unless b WrongCount) rest) (le-leb 2 (length ws) some)
+
+-- the target or the format is wrong
+pub front_flaw : (scope : Scope) (ws : List Word) (formats : Option (List Want)) (kind : RefusalKind) → 2 ≤ length ws →
+    HasFormat Printed ws formats → first_misfit PRINTED ws ≡ Some kind → HasFormFlaw scope (Some (verb_form Sprintf)) ws kind
+front_flaw scope ws formats kind some has h = (
+  formats,
+  has,
+  counted ws _ some ∙ in_front (first_misfit PRINTED ws) (arguments_flaw formats (argument_words ws)) _ kind h,
+)
+  where
+    in_front : (a b c : Option RefusalKind) (k : RefusalKind) → a ≡ Some k → first_of (first_of a b) c ≡ Some k
+    in_front (Some j) b c k e = e
+    in_front None b c k e = cc
+
+-- the text is no format
+pub unread_format : (scope : Scope) (ws : List Word) → 2 ≤ length ws → HasFormat Printed ws None → first_misfit PRINTED ws ≡ None →
+    HasFormFlaw scope (Some (verb_form Sprintf)) ws BadFormat
+unread_format scope ws some has h =
+    let rest = first_of (names_flaw scope format_wants ws) (block_flaw Stays scope.blocks) in
+    (None, has, counted ws _ some ∙ ap (λ a. first_of (first_of a (Some BadFormat)) rest) h)
+
+-- the words after the format, or their names, are wrong
+pub arguments_wrong : (scope : Scope) (ws : List Word) (xs all : List Want) (kind : RefusalKind) → 2 ≤ length ws →
+    HasFormat Printed ws (Some xs) → first_misfit PRINTED ws ≡ None → all ≡ PRINTED ++ xs → wanted_flaw Stays scope all ws ≡ Some kind →
+    HasFormFlaw scope (Some (verb_form Sprintf)) ws kind
+arguments_wrong scope [] xs all kind some has fit e h = absurd (omega (arith, some))
+arguments_wrong scope (w ∷ []) xs all kind some has fit e h = absurd (omega (arith, some))
+arguments_wrong scope (w ∷ x ∷ ws) xs all kind some has fit e h =
+    let front = first_misfit PRINTED (w ∷ x ∷ ws) in
+    let rest = first_of (names_flaw scope (PRINTED ++ xs) (w ∷ x ∷ ws)) (block_flaw Stays scope.blocks) in
+    let many = eqb-suc-suc (suc (length ws)) (suc (length xs)) ∙ eqb-suc-suc (length ws) (length xs) in (
+      Some xs,
+      has,
+      counted (w ∷ x ∷ ws) _ some
+          ∙ ap (λ b. first_of (first_of front (first_of (unless b WrongCount) (first_misfit xs ws))) rest) (sym many)
+          ∙ ordered (misfit (wants.Target kinds.Cord) w) (misfit wants.Format x) _ _ _ kind fit
+          (sym (ap (λ ys. wanted_flaw Stays scope ys (w ∷ x ∷ ws)) e) ∙ h),
+    )
+  where
+    ordered : (a b c d f : Option RefusalKind) (k : RefusalKind) → first_of a (first_of b None) ≡ None →
+        first_of c (first_of (first_of a (first_of b d)) f) ≡ Some k →
+        first_of (first_of (first_of a (first_of b None)) (first_of c d)) f ≡ Some k
+    ordered None None None None f k n h = h
+    ordered None None None (Some d) f k n h = h
+    ordered None None (Some c) d f k n h = h
+    ordered None (Some b) c d f k n h = cc
+    ordered (Some a) b c d f k n h = cc

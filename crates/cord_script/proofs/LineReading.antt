@@ -1,0 +1,163 @@
+-- What the words of a line give.
+use Rattle.std.proofs.Common.{◌≡◌, ◌∙◌, ℕ, List, [], ◌∷◌, ◌++◌, refl, sym, ap, subst, map, IfOk}
+use Rattle.std.proofs.lemmas.List.{map-append}
+use Rattle.std.specs.Prelude.{All, Result, Ok, Err}
+use Rattle.cord_operands.specs.declared.operands.Argument.{Argument}
+use Rattle.cord_printf.specs.declared.pieces.Piece.{Piece}
+use Rattle.cord_printf.specs.Format.{IsFormat}
+use Rattle.cord_script.specs.declared.kinds.Kind.TheVariants as kinds
+use Rattle.cord_script.specs.declared.table.Known.{Known}
+use Rattle.cord_script.specs.declared.verbs.FixedVerb.{FixedVerb}
+use Rattle.cord_script.specs.declared.verbs.Verb.{Verb}
+use Rattle.cord_script.specs.declared.verbs.Verb.TheVariants as verbs
+use Rattle.cord_script.specs.declared.words.Word.{Word}
+use Rattle.cord_syntax.specs.declared.statements.Statement.{Statement}
+use Rattle.cord_syntax.specs.declared.statements.Statement.TheVariants.{Sprintf}
+use Rattle.cord_script.specs.Words.{IsBlank, StartsWith}
+use Rattle.cord_script.specs.Formats.{wants_of_pieces}
+use Rattle.cord_script.specs.Forms.{Term, terms_of, argument_term, argument_want}
+use Rattle.cord_script.specs.Forms.Term.{Target, Operand, Value, Literal, FilePath, Applies, Compares, Formats}
+use Rattle.cord_script.specs.Script.{IsTerm, AreTerms, IsAllowed, AreAllowed, names_after, paths_after}
+use Rattle.cord_script.specs.inner.LineReading.{LineView, IsFresh, PassesWord, Gives, GivesAll, IsBuilt, SaysLine, paired}
+use Rattle.cord_script.specs.inner.LineReading.{names_with, paths_with}
+use Rattle.cord_script.specs.inner.Verbal.{fixed_word}
+
+pub no_field : (a : LineView) → GivesAll a [] a
+unfolding GivesAll
+no_field a = refl
+
+-- one more field, in front of others
+pub first_field : {a b : LineView} {t : Term} (c : LineView) (ts : List Term) → Gives a t b → GivesAll b ts c → GivesAll a (t ∷ ts) c
+unfolding GivesAll
+first_field {b = b} c ts h more = (b, h, more)
+
+pub one_field : {a b : LineView} {t : Term} → Gives a t b → GivesAll a (t ∷ []) b
+one_field {b = b} h = first_field b [] h (no_field b)
+
+-- one more field, after others
+pub last_field : (ts : List Term) (t : Term) (a b c : LineView) → GivesAll a ts b → Gives b t c → GivesAll a (ts ++ t ∷ []) c
+unfolding GivesAll
+last_field [] t a b c h k = (c, subst (λ s. Gives s t c) (sym h) k, refl)
+last_field (u ∷ us) t a b c h k = (h.0, h.1, last_field us t h.0 b c h.2 k)
+
+-- a field that was asked for after others, unless it was refused
+pub next_field : {X Y E : Type 0} (ts : X → List Term) (u : Y → Term) (a b c : LineView) (before : X) (next : Result Y E)
+    (all : Result (X × Y) E) → GivesAll a (ts before) b → all ≡ paired before next → IfOk next (λ y. Gives b (u y) c) →
+    IfOk all (λ p. GivesAll a (ts p.0 ++ u p.1 ∷ []) c)
+next_field ts u a b c before (Ok y) all h e k =
+    subst (λ r. IfOk r (λ p. GivesAll a (ts p.0 ++ u p.1 ∷ []) c)) (sym e) (last_field (ts before) (u y) a b c h k)
+next_field ts u a b c before (Err x) all h e k = subst (λ r. IfOk r (λ p. GivesAll a (ts p.0 ++ u p.1 ∷ []) c)) (sym e) tt
+
+-- one more field of a list
+pub field_pushed : {X : Type 0} (f : X → Term) (xs grown : List X) (x : X) (a b c : LineView) → grown ≡ xs ++ x ∷ [] →
+    GivesAll a (map f xs) b → Gives b (f x) c → GivesAll a (map f grown) c
+field_pushed f xs grown x a b c e h k =
+    subst (λ ts. GivesAll a ts c) (sym (ap (map f) e ∙ map-append f xs (x ∷ []))) (last_field (map f xs) (f x) a b c h k)
+
+-- a `sprintf` of what its words give
+pub sprintf_built : (line : ℕ) (old new : LineView) (target text : List ℕ) (format : List Piece) (args : List Argument)
+    (target_put text_put : List ℕ) (format_put : List Piece) (args_put : List Argument) → target_put ≡ target → text_put ≡ text →
+    format_put ≡ format → args_put ≡ args → GivesAll old (Target kinds.Cord target ∷ Formats text ∷ map argument_term args) new →
+    IsFormat text format → map argument_want args ≡ wants_of_pieces format →
+    IsBuilt verbs.Sprintf line old new (Sprintf line target_put text_put format_put args_put)
+sprintf_built line old new target text format args target_put text_put format_put args_put a b c d fields is wants =
+    let same : Sprintf line target text format args ≡ Sprintf line target_put text_put format_put args_put = cc in
+    subst (IsBuilt verbs.Sprintf line old new) same (record { word = refl; numbered = refl; fields = fields; suits = (is, wants) })
+
+-- the word of a verb that is told
+pub spelled : {V : Type 0} (of : V → FixedVerb) {a b : V} → a ≡ b → fixed_word (of b) ≡ fixed_word (of a)
+spelled of e = ap (λ v. fixed_word (of v)) (sym e)
+
+-- the names with what stays added
+same_names : (old new : LineView) → new.name ≡ old.name → names_with old.scope.names new.name ≡ names_with old.scope.names old.name
+same_names old new e = ap (names_with old.scope.names) e
+
+same_paths : (old new : LineView) → new.path ≡ old.path → paths_with old.scope.paths new.path ≡ paths_with old.scope.paths old.path
+same_paths old new e = ap (paths_with old.scope.paths) e
+
+-- a term that adds nothing
+pub word_given : (word : Word) (t : Term) (old mid : LineView) → PassesWord old word mid → IsTerm word t → IsAllowed old.scope t →
+    ((names : List Known) → names_after (t ∷ []) names ≡ names) → ((paths : List (List ℕ)) → paths_after (t ∷ []) paths ≡ paths) →
+    Gives old t mid
+word_given word t old mid p says allowed names paths = record {
+  word = word;
+  has = p.has;
+  says = says;
+  allowed = allowed;
+  scope = p.scope;
+  names = same_names old mid p.name ∙ sym (names (names_with old.scope.names old.name));
+  paths = same_paths old mid p.path ∙ sym (paths (paths_with old.scope.paths old.path));
+}
+
+-- the names after a term and others
+names_split : (t : Term) (ts : List Term) (names : List Known) → names_after (t ∷ ts) names ≡ names_after ts (names_after (t ∷ []) names)
+names_split (Target kind name) ts names = refl
+names_split (Operand kind name) ts names = refl
+names_split (Value number) ts names = refl
+names_split (Literal text) ts names = refl
+names_split (FilePath path) ts names = refl
+names_split (Applies function) ts names = refl
+names_split (Compares relation) ts names = refl
+names_split (Formats text) ts names = refl
+
+paths_split : (t : Term) (ts : List Term) (paths : List (List ℕ)) → paths_after (t ∷ ts) paths ≡ paths_after ts (paths_after (t ∷ []) paths)
+paths_split (Target kind name) ts paths = refl
+paths_split (Operand kind name) ts paths = refl
+paths_split (Value number) ts paths = refl
+paths_split (Literal text) ts paths = refl
+paths_split (FilePath path) ts paths = refl
+paths_split (Applies function) ts paths = refl
+paths_split (Compares relation) ts paths = refl
+paths_split (Formats text) ts paths = refl
+
+-- the words that say the terms that were given
+record HasGiven (old : LineView) (ts : List Term) (new : LineView) : Type 0 where
+  pub words : List Word
+  pub starts : StartsWith old.rest words new.rest
+  pub says : AreTerms words ts
+  pub allowed : AreAllowed old.scope ts
+  pub names : names_with old.scope.names new.name ≡ names_after ts (names_with old.scope.names old.name)
+  pub paths : paths_with old.scope.paths new.path ≡ paths_after ts (paths_with old.scope.paths old.path)
+
+words_given : (old new : LineView) (ts : List Term) → GivesAll old ts new → HasGiven old ts new
+unfolding GivesAll
+words_given old new [] h = record {
+  words = [];
+  starts = ap (λ (v : LineView). v.rest) h;
+  says = tt;
+  allowed = tt;
+  names = ap (λ (v : LineView). names_with old.scope.names v.name) (sym h);
+  paths = ap (λ (v : LineView). paths_with old.scope.paths v.path) (sym h);
+}
+words_given old new (t ∷ ts) h =
+    let g = h.1 in
+    let more = words_given h.0 new ts h.2 in
+    record {
+      words = g.word ∷ more.words;
+      starts = (h.0.rest, g.has, more.starts);
+      says = (g.says, more.says);
+      allowed = (g.allowed, subst (λ s. AreAllowed s ts) g.scope more.allowed);
+      names = ap (λ s. names_with s.names new.name) (sym g.scope) ∙ more.names
+          ∙ ap (λ s. names_after ts (names_with s.names h.0.name)) g.scope ∙ ap (names_after ts) g.names
+          ∙ sym (names_split t ts (names_with old.scope.names old.name));
+      paths = ap (λ s. paths_with s.paths new.path) (sym g.scope) ∙ more.paths
+          ∙ ap (λ s. paths_after ts (paths_with s.paths h.0.path)) g.scope ∙ ap (paths_after ts) g.paths
+          ∙ sym (paths_split t ts (paths_with old.scope.paths old.path));
+    }
+
+-- the statement of words of which none is left
+pub says_line : (v : Verb) (n : ℕ) (old new : LineView) (s : Statement) → IsFresh old → IsBuilt v n old new s → All IsBlank new.rest →
+    SaysLine v n old new s
+says_line v n old new s fresh h blank =
+    let said = words_given old new (terms_of s) h.fields in
+    record {
+      words = said.words;
+      has = (new.rest, said.starts, blank);
+      says = said.says;
+      allowed = said.allowed;
+      names = said.names ∙ ap (λ k. names_after (terms_of s) (names_with old.scope.names k)) fresh.name;
+      paths = said.paths ∙ ap (λ k. paths_after (terms_of s) (paths_with old.scope.paths k)) fresh.path;
+      word = h.word;
+      line = h.numbered;
+      suits = h.suits;
+    }

@@ -1,0 +1,6 @@
+use Rattle.std.proofs.Common.{◌≡◌, ◌++◌, drop}
+use Rattle.cord_script.specs.Formats.{wants_of_pieces}
+use Rattle.cord_script.proofs.formats.wants_of_pieces.Given as goal
+
+abbrev pub invariant-loop-piece : goal.invariant-loop-piece
+invariant-loop-piece l = wants_of_pieces l.pieces ≡ l.wants.items ++ wants_of_pieces (drop l.piece-index l.pieces)

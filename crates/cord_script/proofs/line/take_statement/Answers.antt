@@ -1,0 +1,27 @@
+use Rattle.std.proofs.Common.{Some, None, ◌≡◌, ◌∙◌, false, refl, sym, ap, subst}
+use Rattle.std.specs.Prelude.{Option, is_some}
+use Rattle.cord_script.specs.inner.ContextViews.{scope_of}
+use Rattle.cord_script.specs.inner.LineReading.{SaysLine, LineView, left_after}
+use Rattle.cord_script.specs.inner.Verbal.{verb_effect}
+use Rattle.cord_script.proofs.Adding.{adds}
+use Rattle.cord_script.proofs.line.take_statement.Goals as goal
+
+nothing : {X : Type 0} (o : Option X) → false ≡ is_some o → o ≡ None
+nothing None h = refl
+nothing (Some x) h = cc
+
+pub returns-clause-adds : goal.returns-clause-adds
+returns-clause-adds c = λ _.
+    let verb = c.in-Some.verb in
+    let number = c.args.number in
+    let statement = c.in-Ok.statement in
+    let scope = scope_of c.args.context.now in
+    let new = c.whole_statement.new.words in
+    let old : LineView = record { scope = scope; rest = c.in-Some.rest.now; name = None; path = None } in
+    let says = subst (λ w. SaysLine verb number w new statement) c.of-words.ensures c.in-Ok.ensures in
+    let left = c.in_ok-leave.ensures.left
+    ∙ ap (λ n. left_after (verb_effect verb) number n c.into_added-added.result.path scope) c.into_added-added.ensures.name
+    ∙ ap (λ p. left_after (verb_effect verb) number new.name p scope) c.into_added-added.ensures.path in
+    adds verb number c.args.line.now old new (scope_of c.leave.new.self) statement c.args.statements.now.items
+    c.push.new.self.items c.in-Some.ensures (sym c.block_flaw.ensures ∙ nothing c.block_flaw.result (c.if-is_some.ensures)) says
+    left c.in_ok-push.ensures.items

@@ -1,0 +1,163 @@
+// What is wrong with a line that isn't read.
+ghost use Rattle.std.specs.Prelude.{◌≡◌, ◌≢◌, [], Some, IfOk, IfErr, option_map};
+ghost use Rattle.cord_script.specs.declared.words.Word.TheVariants.{Plain};
+ghost use Rattle.cord_script.specs.Words.{IsIdle};
+ghost use Rattle.cord_script.specs.Forms.Shape.{Printed};
+ghost use Rattle.cord_script.specs.Flaws.{HasFormat, HasFormFlaw, HasBadWords};
+ghost use Rattle.cord_script.specs.Script.{whole};
+ghost use Rattle.cord_script.specs.inner.ContextViews.{scope_of};
+ghost use Rattle.cord_script.specs.inner.Steps.{HasWrong};
+ghost use Rattle.cord_script.specs.inner.Verbal.{verb_form, verb_word};
+
+use crate::context::Context;
+use crate::flaws::{Pass, first_flaw, wanted_flaw};
+use crate::formats::wants_of_pieces;
+use crate::grammar::{verb_of, wants_of};
+use crate::kinds::{Kind, Want};
+use crate::verbs::{FixedVerb, Verb};
+use crate::words::{Word, words_of};
+use crate::{MAX_PARTS, MIN_PARTS, RefusalKind};
+use cord_printf::{Format, FormatError};
+use std::alloc::Global;
+
+const TARGET: Want = Want::Target(Kind::Cord);
+
+const CORD: Want = Want::Operand(Kind::Cord);
+
+// A target, and as many cords as a `catn` may have.
+const JOINED: [Want; 1 + MAX_PARTS] = [
+    TARGET, CORD, CORD, CORD, CORD, CORD, CORD, CORD, CORD, CORD, CORD, CORD, CORD, CORD, CORD,
+    CORD, CORD,
+];
+
+// The target and the format of a `sprintf`.
+const PRINTED: [Want; 2] = [TARGET, Want::Format];
+
+// The flaw that there is, if there is one.
+fn none_of(flaw: Option<RefusalKind>) -> Result<(), RefusalKind>
+    ensures { IfErr result (λ kind. flaw ≡ Some kind) }
+{
+    match flaw {
+        None => Ok(()),
+        Some(kind) => Err(kind),
+    }
+}
+
+// What is wrong with words whose number the verb fixes.
+fn fixed_flaw(context: &Context, verb: FixedVerb, words: &[Word]) -> Result<(), RefusalKind>
+    ensures { IfErr result (λ kind. kind ≢ RefusalKind.NoMemory →
+        HasFormFlaw (scope_of context.now) (Some (verb_form (Verb.Fixed verb))) words.now kind) }
+{
+    none_of(wanted_flaw(context, Verb::Fixed(verb), wants_of(verb), words))
+}
+
+// What is wrong with the words after `catn`.
+fn joined_flaw(context: &Context, words: &[Word]) -> Result<(), RefusalKind>
+    ensures { IfErr result (λ kind. kind ≢ RefusalKind.NoMemory →
+        HasFormFlaw (scope_of context.now) (Some (verb_form Verb.Catn)) words.now kind) }
+{
+    let count = words.len();
+    if count < 1 + MIN_PARTS {
+        return Err(RefusalKind::WrongCount);
+    }
+    if count > 1 + MAX_PARTS {
+        return Err(RefusalKind::WrongCount);
+    }
+    none_of(wanted_flaw(context, Verb::Catn, &JOINED[..count], words))
+}
+
+// What is wanted of all words after `sprintf`, by the format among them; none where there is none.
+fn printed_wants(alloc: Global, words: &[Word]) -> Result<Option<Vec<Want>>, RefusalKind>
+    ensures wants { IfOk result (λ wants. HasFormat Printed words.now (option_map (λ w. w.items) wants)) }
+    ensures flaw { IfErr result (λ kind. kind ≡ RefusalKind.NoMemory) }
+{
+    let [_, format, ..] = words else {
+        return Ok(None);
+    };
+    let Word::Quoted(text) = format else {
+        return Ok(None);
+    };
+    let format = match Format::parse(alloc, text.as_slice()) {
+        Ok(format) => format,
+        Err(FormatError::BadFormat(_)) => return Ok(None),
+        Err(FormatError::NoMemory) => return Err(RefusalKind::NoMemory),
+    };
+    Ok(Some(wants_of_pieces(alloc, format.pieces())?))
+}
+
+// What is wrong with the words after `sprintf`.
+fn printed_flaw(alloc: Global, context: &Context, words: &[Word]) -> Result<(), RefusalKind>
+    ensures { IfErr result (λ kind. kind ≢ RefusalKind.NoMemory →
+        HasFormFlaw (scope_of context.now) (Some (verb_form Verb.Sprintf)) words.now kind) }
+{
+    if words.len() < PRINTED.len() {
+        return Err(RefusalKind::WrongCount);
+    }
+    let arguments = printed_wants(alloc, words)?;
+    if let Some(kind) = first_flaw(Pass::Words, context, &PRINTED, words) {
+        return Err(kind);
+    }
+    let Some(arguments) = arguments else {
+        return Err(RefusalKind::BadFormat);
+    };
+    let mut wants = Vec::from_slice(alloc, &PRINTED)?;
+    wants.extend_from_slice(&arguments)?;
+    none_of(wanted_flaw(context, Verb::Sprintf, &wants, words))
+}
+
+// What is wrong with the words after a verb.
+fn form_flaw(
+    alloc: Global,
+    context: &Context,
+    verb: Verb,
+    words: &[Word],
+) -> Result<(), RefusalKind>
+    ensures { IfErr result (λ kind. kind ≢ RefusalKind.NoMemory →
+        HasFormFlaw (scope_of context.now) (Some (verb_form verb)) words.now kind) }
+{
+    match verb {
+        Verb::Fixed(fixed) => fixed_flaw(context, fixed, words),
+        Verb::Catn => joined_flaw(context, words),
+        Verb::Sprintf => printed_flaw(alloc, context, words),
+    }
+}
+
+// What is wrong with the words of a line.
+fn words_flaw(alloc: Global, context: &Context, words: &[Word]) -> Result<(), RefusalKind>
+    requires { words.now ≢ [] }
+    ensures { IfErr result (λ kind. kind ≢ RefusalKind.NoMemory →
+        HasBadWords whole (scope_of context.now) words.now kind) }
+{
+    let [first, others @ ..] = words else {
+        return Err(RefusalKind::UnknownStatement);
+    };
+    let Word::Plain(word) = first else {
+        return Err(RefusalKind::UnknownStatement);
+    };
+    match verb_of(word.as_slice()) {
+        None => Err(RefusalKind::UnknownStatement),
+        Some(verb) => form_flaw(alloc, context, verb, others),
+    }
+}
+
+// What is wrong with a line: its bytes, or its words.
+fn first_wrong(alloc: Global, context: &Context, line: &[u8]) -> Result<(), RefusalKind>
+    requires { ¬ IsIdle line.now }
+    ensures { IfErr result (λ kind. kind ≢ RefusalKind.NoMemory → HasWrong line.now (scope_of context.now) kind) }
+{
+    let words = words_of(alloc, line)?;
+    words_flaw(alloc, context, &words)
+}
+
+/// What is wrong first with a line for which no statement was built. Where nothing is wrong with it, memory was refused.
+#[cold]
+#[inline(never)]
+pub fn refusal_of(alloc: Global, context: &Context, line: &[u8]) -> RefusalKind
+    requires { ¬ IsIdle line.now }
+    ensures { result ≢ RefusalKind.NoMemory → HasWrong line.now (scope_of context.now) result }
+{
+    match first_wrong(alloc, context, line) {
+        Ok(()) => RefusalKind::NoMemory,
+        Err(kind) => kind,
+    }
+}
