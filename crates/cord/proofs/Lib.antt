@@ -1,5 +1,6 @@
 pub mod PlainTexts
 pub mod Growths
+pub mod Editors
 pub mod Catting
 pub mod Found
 pub mod Standing

@@ -1,5 +1,7 @@
 // Worked rows. The functions that make texts and look at them promise nothing, so that tests have little to prove.
-use cord::{Chunk, CordError, Format, MAX_LEN, MemSink, PrintError, Text, TextArg, TextBuilder};
+use cord::{
+    Chunk, CordError, Format, MAX_LEN, MemSink, PrintError, Text, TextArg, TextBuilder, TextEditor,
+};
 use std::alloc::{AllocError, Global};
 use std::cmp::Ordering;
 use std::io::Read;
@@ -253,6 +255,26 @@ fn builder(rt: HostRuntime) {
     assert!(rt; builder.push_text(alloc, &front).is_ok());
     assert!(rt; builder.len() == 6 && !builder.is_empty());
     expect_made(&rt, alloc, builder.to_text(alloc), b"abcabc");
+}
+
+// An editor of "hello world" in which "hello" is another word and "big " stands in front of "world".
+fn edited(rt: &impl Abort, alloc: Global) -> TextEditor {
+    let mut editor = TextEditor::of(alloc, &hello(rt, alloc)).expect(rt, "no memory");
+    let word = text_of(rt, alloc, b"goodbye");
+    assert!(rt; editor.replace_range(alloc, 0, 5, &word).is_ok());
+    assert!(rt; editor.insert_bytes(alloc, 8, b"big ").is_ok());
+    editor
+}
+
+#[test]
+fn editor(rt: HostRuntime) {
+    let alloc = rt.alloc();
+    let mut editor = edited(&rt, alloc);
+    expect_made(&rt, alloc, editor.to_text(alloc), b"goodbye big world");
+    assert!(rt; editor.remove(alloc, 11, 6).is_ok());
+    assert!(rt; editor.insert(alloc, 99, &text_of(&rt, alloc, b"!")).is_ok());
+    assert!(rt; editor.len() == 12 && !editor.is_empty());
+    expect_made(&rt, alloc, editor.to_text(alloc), b"goodbye big!");
 }
 
 fn expect_line(
