@@ -46,7 +46,7 @@ opened-close p (b ∷ blocks) = refl
 
 module _ (shapes : List Shape) where
   -- one statement further
-  open_next : (p : ℕ) (o : Option Shape) → slice_get shapes p ≡ o → open_at shapes (p + 1) ≡ opened p (open_at shapes p) o
+  pub open_next : (p : ℕ) (o : Option Shape) → slice_get shapes p ≡ o → open_at shapes (p + 1) ≡ opened p (open_at shapes p) o
   open_next p o e = let one : p + 1 ≡ suc p = omega arith in
       ap (λ (n : ℕ). open_at shapes n) one ∙ ap (λ (w : Option Shape). opened p (open_at shapes p) w) e
 

@@ -9,6 +9,7 @@ pub mod Limit
 pub mod Unrolls
 pub mod Nesting
 pub mod Follows
+pub mod Leading
 pub mod Fronts
 pub mod ReadScripts
 pub mod Simulating

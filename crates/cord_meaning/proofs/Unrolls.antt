@@ -16,6 +16,21 @@ use Rattle.cord_meaning.proofs.Runs.{moments_when_ended, end_when_ended}
 use Rattle.cord_meaning.specs.Unrolled.{Parts, Nothing, Then, Repeats, Chooses, ChoosesElse, flat, Unrolled, joined, then_on, member}
 use Rattle.cord_meaning.specs.Unrolled.{acted_once, all_turns, repeated, chosen, unrolled, IsWell}
 
+-- where the parts of a block stand
+module _ {L : Type 0} (statements : List L) (p : ℕ) (l e : L) (inner rest more : List L)
+    (d : drop p statements ≡ (l ∷ (inner ++ (e ∷ rest))) ++ more) where
+  pub inner_here : drop (p + 1) statements ≡ inner ++ (e ∷ (rest ++ more))
+  inner_here = next_here statements p l ((inner ++ (e ∷ rest)) ++ more) d ∙ append_assoc inner (e ∷ rest) more
+
+  pub closing_here : drop (p + 1 + length inner) statements ≡ e ∷ (rest ++ more)
+  closing_here = behind statements (p + 1) inner (e ∷ (rest ++ more)) inner_here
+
+  pub rest_here : drop (p + 1 + length inner + 1) statements ≡ rest ++ more
+  rest_here = next_here statements (p + 1 + length inner) e (rest ++ more) closing_here
+
+  pub all_here : p + 1 + length inner + 1 + length rest ≡ p + length (l ∷ (inner ++ (e ∷ rest)))
+  all_here = let long = length-append inner (e ∷ rest) in omega (arith, long)
+
 module _ {L S : Type 0} (rules : Rules L S) (most : ℕ) where
   -- a count of statements that goes on over whole blocks, and knows how many are open
   module _ (count : ℕ → List Shape → ℕ)
@@ -65,7 +80,7 @@ module _ {L S : Type 0} (rules : Rules L S) (most : ℕ) where
         (over_one (suc d) d d e Close w.2 (at_close d) (flat rest) (over rest w.5 d)))))
 
   -- the `end` after whole blocks
-  end_behind : (parts : Parts L) → IsWell rules.shape parts → (e : L) → rules.shape e ≡ Close → (more : List L) →
+  pub end_behind : (parts : Parts L) → IsWell rules.shape parts → (e : L) → rules.shape e ≡ Close → (more : List L) →
       to_end 0 (map rules.shape (flat parts ++ (e ∷ more))) ≡ length (flat parts)
   end_behind parts w e is more =
       let all = over to_end (λ d rest. refl) (λ d rest. refl) (λ d rest. refl) (λ d rest. refl) (λ d rest. refl) parts w 0 (e ∷ more) in
@@ -73,7 +88,7 @@ module _ {L S : Type 0} (rules : Rules L S) (most : ℕ) where
       omega (arith, all, none)
 
   -- the `else` after whole blocks
-  else_behind : (parts : Parts L) → IsWell rules.shape parts → (m : L) → rules.shape m ≡ Otherwise → (more : List L) →
+  pub else_behind : (parts : Parts L) → IsWell rules.shape parts → (m : L) → rules.shape m ≡ Otherwise → (more : List L) →
       to_else 0 (map rules.shape (flat parts ++ (m ∷ more))) ≡ length (flat parts) + 1
   else_behind parts w m is more =
       let all = over to_else (λ d rest. refl) (λ d rest. refl) (λ d rest. refl) (λ d rest. refl) (λ d rest. refl) parts w 0 (m ∷ more) in
@@ -81,7 +96,7 @@ module _ {L S : Type 0} (rules : Rules L S) (most : ℕ) where
       omega (arith, all, one)
 
   -- the `end` of an `if` that has no `else`
-  no_else_behind : (parts : Parts L) → IsWell rules.shape parts → (e : L) → rules.shape e ≡ Close → (more : List L) →
+  pub no_else_behind : (parts : Parts L) → IsWell rules.shape parts → (e : L) → rules.shape e ≡ Close → (more : List L) →
       to_else 0 (map rules.shape (flat parts ++ (e ∷ more))) ≡ length (flat parts)
   no_else_behind parts w e is more =
       let all = over to_else (λ d rest. refl) (λ d rest. refl) (λ d rest. refl) (λ d rest. refl) (λ d rest. refl) parts w 0 (e ∷ more) in
@@ -90,7 +105,7 @@ module _ {L S : Type 0} (rules : Rules L S) (most : ℕ) where
 
   module _ (statements : List L) where
     -- where a statement leads, by what stands after it
-    jump_here : (p : ℕ) (l : L) (rest : List L) → drop p statements ≡ l ∷ rest →
+    pub jump_here : (p : ℕ) (l : L) (rest : List L) → drop p statements ≡ l ∷ rest →
         jump_from rules most statements p ≡ jump_of (rules.shape l) p (map rules.shape rest)
     jump_here p l rest e =
         let here : slice_get (map rules.shape statements) p ≡ Some (rules.shape l) =
@@ -284,20 +299,6 @@ module _ {L S : Type 0} (rules : Rules L S) (most : ℕ) where
         by_truth false = otherwise
 
     module _ (placeless : (p : ℕ) (l : L) (s : S) → rules.act p l s ≡ rules.act 0 l s) where
-      module _ (p : ℕ) (l e : L) (inner rest more : List L) (d : drop p statements ≡ (l ∷ (inner ++ (e ∷ rest))) ++ more) where
-        -- where the parts of a block stand
-        inner_here : drop (p + 1) statements ≡ inner ++ (e ∷ (rest ++ more))
-        inner_here = next_here statements p l ((inner ++ (e ∷ rest)) ++ more) d ∙ append_assoc inner (e ∷ rest) more
-
-        closing_here : drop (p + 1 + length inner) statements ≡ e ∷ (rest ++ more)
-        closing_here = behind statements (p + 1) inner (e ∷ (rest ++ more)) inner_here
-
-        rest_here : drop (p + 1 + length inner + 1) statements ≡ rest ++ more
-        rest_here = next_here statements (p + 1 + length inner) e (rest ++ more) closing_here
-
-        all_here : p + 1 + length inner + 1 + length rest ≡ p + length (l ∷ (inner ++ (e ∷ rest)))
-        all_here = let long = length-append inner (e ∷ rest) in omega (arith, long)
-
       go : (parts : Parts L) → IsWell rules.shape parts → (p : ℕ) (more : List L) → drop p statements ≡ flat parts ++ more →
           (bs : List Block) (t : ℕ) (s : S) (seen : List (Moment S)) →
           Does (at p bs t seen s) seen (unrolled rules most parts t s) (p + length (flat parts)) bs
@@ -322,7 +323,7 @@ module _ {L S : Type 0} (rules : Rules L S) (most : ℕ) where
           let line : ℕ = rules.line l in
           let q : ℕ = p + 1 + length (flat body) in
           let run_body : ℕ → S → Unrolled S = λ t s. unrolled rules most body t s in
-          let closing : drop q statements ≡ e ∷ (flat rest ++ more) = closing_here p l e (flat body) (flat rest) more d in
+          let closing : drop q statements ≡ e ∷ (flat rest ++ more) = closing_here statements p l e (flat body) (flat rest) more d in
           let jumps : jump_from rules most statements p ≡ q + 1 =
           jump_here statements p l (flat body ++ (e ∷ flat rest) ++ more) d
           ∙ ap (λ (x : Shape). jump_of x p (map rules.shape (flat body ++ (e ∷ flat rest) ++ more))) w.0
@@ -335,20 +336,20 @@ module _ {L S : Type 0} (rules : Rules L S) (most : ℕ) where
           later (at p bs t seen s) (repeats most (at p bs t seen s) line (q + 1) (rules.count l s)) 1 one seen
           (repeated most line run_body (rules.count l s) t s) (q + 1) bs
           (repeats_do p line run_body q e (flat rest ++ more) bs closing w.1
-          (λ n t s xs. go body w.2 (p + 1) (e ∷ (flat rest ++ more)) (inner_here p l e (flat body) (flat rest) more d)
+          (λ n t s xs. go body w.2 (p + 1) (e ∷ (flat rest ++ more)) (inner_here statements p l e (flat body) (flat rest) more d)
           (Turns p line n ∷ bs) t s xs) (rules.count l s) t s seen) in
           at_place (at p bs t seen s) seen (unrolled rules most (Repeats l e body rest) t s) (q + 1 + length (flat rest))
-          (p + length (flat (Repeats l e body rest))) bs (all_here p l e (flat body) (flat rest) more d)
+          (p + length (flat (Repeats l e body rest))) bs (all_here statements p l e (flat body) (flat rest) more d)
           (both_do (at p bs t seen s) seen (repeated most line run_body (rules.count l s) t s) (q + 1) (q + 1 + length (flat rest)) bs bs
           (λ t s. unrolled rules most rest t s) first
-          (λ t s xs. go rest w.3 (q + 1) more (rest_here p l e (flat body) (flat rest) more d) bs t s xs))
+          (λ t s xs. go rest w.3 (q + 1) more (rest_here statements p l e (flat body) (flat rest) more d) bs t s xs))
       go (Chooses l e branch rest) w p more d bs t s seen =
           let line : ℕ = rules.line l in
           let q : ℕ = p + 1 + length (flat branch) in
           let run_branch : ℕ → S → Unrolled S = λ t s. unrolled rules most branch t s in
           let v : Bool = rules.holds l s in
           let m : Moment S = record { line = line; turns = t; state = s; puts = [] } in
-          let closing : drop q statements ≡ e ∷ (flat rest ++ more) = closing_here p l e (flat branch) (flat rest) more d in
+          let closing : drop q statements ≡ e ∷ (flat rest ++ more) = closing_here statements p l e (flat branch) (flat rest) more d in
           let jumps : jump_from rules most statements p ≡ q =
           jump_here statements p l (flat branch ++ (e ∷ flat rest) ++ more) d
           ∙ ap (λ (x : Shape). jump_of x p (map rules.shape (flat branch ++ (e ∷ flat rest) ++ more))) w.0
@@ -359,7 +360,7 @@ module _ {L S : Type 0} (rules : Rules L S) (most : ℕ) where
           ∙ ap (λ (n : ℕ). chooses (at p bs t seen s) line n v) jumps in
           let taken : Does (at (p + 1) (Chosen ∷ bs) t (seen ++ m ∷ []) s) (seen ++ m ∷ []) (run_branch t s) (q + 1) bs =
           and_step (at (p + 1) (Chosen ∷ bs) t (seen ++ m ∷ []) s) (seen ++ m ∷ []) (run_branch t s) q (q + 1) (Chosen ∷ bs) bs
-          (go branch w.2 (p + 1) (e ∷ (flat rest ++ more)) (inner_here p l e (flat branch) (flat rest) more d) (Chosen ∷ bs) t s
+          (go branch w.2 (p + 1) (e ∷ (flat rest ++ more)) (inner_here statements p l e (flat branch) (flat rest) more d) (Chosen ∷ bs) t s
           (seen ++ m ∷ []))
           (leaves_branch q e (flat rest ++ more) closing w.1 bs) in
           let no_branch : Does (at q (Chosen ∷ bs) t (seen ++ m ∷ []) s) (seen ++ m ∷ []) (nothing_more t s) (q + 1) bs =
@@ -367,10 +368,10 @@ module _ {L S : Type 0} (rules : Rules L S) (most : ℕ) where
           (0, ap (λ (ms : List (Moment S)). at q (Chosen ∷ bs) t ms s) (sym (append-nil (seen ++ m ∷ []))))
           (leaves_branch q e (flat rest ++ more) closing w.1 bs) in
           at_place (at p bs t seen s) seen (unrolled rules most (Chooses l e branch rest) t s) (q + 1 + length (flat rest))
-          (p + length (flat (Chooses l e branch rest))) bs (all_here p l e (flat branch) (flat rest) more d)
+          (p + length (flat (Chooses l e branch rest))) bs (all_here statements p l e (flat branch) (flat rest) more d)
           (one_more p line bs t seen s q v run_branch (λ t s. nothing_more t s) (q + 1) (q + 1 + length (flat rest))
           (λ t s. unrolled rules most rest t s) one taken no_branch
-          (λ t s xs. go rest w.3 (q + 1) more (rest_here p l e (flat branch) (flat rest) more d) bs t s xs))
+          (λ t s xs. go rest w.3 (q + 1) more (rest_here statements p l e (flat branch) (flat rest) more d) bs t s xs))
       go (ChoosesElse l m e branch other rest) w p more d bs t s seen =
           let line : ℕ = rules.line l in
           let behind_branch : List L = flat other ++ (e ∷ flat rest) in
@@ -380,8 +381,8 @@ module _ {L S : Type 0} (rules : Rules L S) (most : ℕ) where
           let run_other : ℕ → S → Unrolled S = λ t s. unrolled rules most other t s in
           let v : Bool = rules.holds l s in
           let seen_here : List (Moment S) = seen ++ record { line = line; turns = t; state = s; puts = [] } ∷ [] in
-          let middle : drop a statements ≡ m ∷ (behind_branch ++ more) = closing_here p l m (flat branch) behind_branch more d in
-          let closing : drop q statements ≡ e ∷ (flat rest ++ more) = closing_here a m e (flat other) (flat rest) more middle in
+          let middle : drop a statements ≡ m ∷ (behind_branch ++ more) = closing_here statements p l m (flat branch) behind_branch more d in
+          let closing : drop q statements ≡ e ∷ (flat rest ++ more) = closing_here statements a m e (flat other) (flat rest) more middle in
           let jumps : jump_from rules most statements p ≡ a + 1 =
           jump_here statements p l (flat branch ++ (m ∷ behind_branch) ++ more) d
           ∙ ap (λ (x : Shape). jump_of x p (map rules.shape (flat branch ++ (m ∷ behind_branch) ++ more))) w.0
@@ -394,7 +395,7 @@ module _ {L S : Type 0} (rules : Rules L S) (most : ℕ) where
           ap (λ (xs : List L). to_end 0 (map rules.shape xs)) (append_assoc (flat other) (e ∷ flat rest) more)
           ∙ end_behind other w.4 e w.2 (flat rest ++ more) in
           let to_middle : Does (at (p + 1) (Chosen ∷ bs) t seen_here s) seen_here (run_branch t s) a (Chosen ∷ bs) =
-          go branch w.3 (p + 1) (m ∷ (behind_branch ++ more)) (inner_here p l m (flat branch) behind_branch more d) (Chosen ∷ bs)
+          go branch w.3 (p + 1) (m ∷ (behind_branch ++ more)) (inner_here statements p l m (flat branch) behind_branch more d) (Chosen ∷ bs)
           t s seen_here in
           let taken : Does (at (p + 1) (Chosen ∷ bs) t seen_here s) seen_here (run_branch t s) (q + 1) bs =
           and_step (at (p + 1) (Chosen ∷ bs) t seen_here s) seen_here (run_branch t s) q (q + 1) (Chosen ∷ bs) bs
@@ -403,18 +404,18 @@ module _ {L S : Type 0} (rules : Rules L S) (most : ℕ) where
           (leaves_branch q e (flat rest ++ more) closing w.2 bs) in
           let otherwise : Does (at (a + 1) (Chosen ∷ bs) t seen_here s) seen_here (run_other t s) (q + 1) bs =
           and_step (at (a + 1) (Chosen ∷ bs) t seen_here s) seen_here (run_other t s) q (q + 1) (Chosen ∷ bs) bs
-          (go other w.4 (a + 1) (e ∷ (flat rest ++ more)) (inner_here a m e (flat other) (flat rest) more middle)
+          (go other w.4 (a + 1) (e ∷ (flat rest ++ more)) (inner_here statements a m e (flat other) (flat rest) more middle)
           (Chosen ∷ bs) t s seen_here)
           (leaves_branch q e (flat rest ++ more) closing w.2 bs) in
           let whole_here : q + 1 + length (flat rest) ≡ p + length (flat (ChoosesElse l m e branch other rest)) =
-          let second = all_here a m e (flat other) (flat rest) more middle in
-          let first = all_here p l m (flat branch) behind_branch more d in
+          let second = all_here statements a m e (flat other) (flat rest) more middle in
+          let first = all_here statements p l m (flat branch) behind_branch more d in
           omega (arith, first, second) in
           at_place (at p bs t seen s) seen (unrolled rules most (ChoosesElse l m e branch other rest) t s) (q + 1 + length (flat rest))
           (p + length (flat (ChoosesElse l m e branch other rest))) bs whole_here
           (one_more p line bs t seen s (a + 1) v run_branch run_other (q + 1) (q + 1 + length (flat rest))
           (λ t s. unrolled rules most rest t s) one taken otherwise
-          (λ t s xs. go rest w.5 (q + 1) more (rest_here a m e (flat other) (flat rest) more middle) bs t s xs))
+          (λ t s xs. go rest w.5 (q + 1) more (rest_here statements a m e (flat other) (flat rest) more middle) bs t s xs))
 
 module _ {L S : Type 0} (rules : Rules L S) (most : ℕ) (placeless : (p : ℕ) (l : L) (s : S) → rules.act p l s ≡ rules.act 0 l s)
     (parts : Parts L) (w : IsWell rules.shape parts) (s : S) where

@@ -8,5 +8,6 @@ pub mod Formats
 pub mod Statements
 pub mod Meaning
 pub mod Unrolled
+pub mod Leads
 pub mod Rows
 pub mod inner

@@ -12,6 +12,7 @@ ghost use Rattle.cord_meaning.specs.Machine.{Begins, enough};
 ghost use Rattle.cord_meaning.specs.State.{start_state};
 ghost use Rattle.cord_meaning.specs.Statements.{rules, shape_of, line_of, function_text};
 ghost use Rattle.cord_meaning.specs.Unrolled.{Parts, IsWell, flat, unrolled};
+ghost use Rattle.cord_meaning.specs.Leads.{LeadsTo};
 ghost use Rattle.cord_meaning.specs.Ends.{IsMeant};
 ghost use Rattle.cord_meaning.specs.Meaning.{moments, end_of, output, moments_within, end_within, run_within};
 ghost use Rattle.cord_meaning.specs.declared.ends.End.TheVariants.{Done, Fault};
@@ -73,6 +74,15 @@ pub fn runs_follow_paths()
         IsNested [] (map shape_of statements) → (run_within limit most statements files (suc k)).ended ≡ None →
         Next (map shape_of statements) (run_within limit most statements files k).place
         (run_within limit most statements files (suc k)).place }
+{}
+
+/// What may come next is what the blocks give, and nothing more: each statement leads to the places that `leads` lists
+/// for it.
+pub fn paths_follow_blocks()
+    ensures no_more { (parts : Parts Statement) (p q : ℕ) → IsWell shape_of parts →
+        Next (map shape_of (flat parts)) p q → LeadsTo parts p q }
+    ensures no_less { (parts : Parts Statement) (p q : ℕ) → IsWell shape_of parts →
+        LeadsTo parts p q → Next (map shape_of (flat parts)) p q }
 {}
 
 /// The blocks of a script that is read are closed, and its lines are numbered from 1.

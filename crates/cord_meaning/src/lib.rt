@@ -8,8 +8,8 @@ mod rows;
 
 pub use ends::{End, FaultKind};
 pub use laws::{
-    every_run_ends, functions_are_entries, limits_only_refuse, read_scripts_are_closed,
-    runs_are_unrolled, runs_follow_paths, what_was_run_stays,
+    every_run_ends, functions_are_entries, limits_only_refuse, paths_follow_blocks,
+    read_scripts_are_closed, runs_are_unrolled, runs_follow_paths, what_was_run_stays,
 };
 pub use limits::limits_are;
 pub use rows::{
