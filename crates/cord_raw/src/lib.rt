@@ -5,8 +5,10 @@
 mod block;
 mod buffer;
 mod chain;
+mod limits;
 mod raw;
 mod text;
 
 pub use buffer::RawBuf;
+pub use limits::limits_are;
 pub use raw::Raw;
