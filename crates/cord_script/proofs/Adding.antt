@@ -11,12 +11,11 @@ use Rattle.cord_script.specs.Forms.{Form, form_of, effect_of, terms_of}
 use Rattle.cord_script.specs.Script.{Scope, FitsBlocks, after, paths_after, blocks_after}
 use Rattle.cord_script.specs.inner.LineReading.{LineView, SaysLine, left_after}
 use Rattle.cord_script.specs.inner.Steps.{Adds}
-use Rattle.cord_script.specs.inner.Verbal.{verb_word, verb_effect, verb_form}
+use Rattle.cord_script.specs.inner.Verbal.{verb_word, verb_effect}
 use Rattle.cord_script.proofs.Allowed.{block_right}
 use Rattle.cord_script.proofs.Unique.{Begins}
 use Rattle.cord_script.proofs.Found.{not_idle}
-use Rattle.cord_script.proofs.Tabled.{form_is}
-use Rattle.cord_script.proofs.Contexts.{same_effect}
+use Rattle.cord_script.proofs.Stated.{right_form}
 
 -- no statement's word begins with `#`
 comment_form : (cs : List ℕ) → form_of (35 ∷ cs) ≡ None
@@ -36,9 +35,9 @@ word_shows (c ∷ cs) form line rest is h =
     not_idle line (cs ++ rest) c begins (λ e. let none : Some form ≡ None = sym is ∙ ap (λ k. form_of (k ∷ cs)) e ∙ comment_form cs in cc)
 
 -- what a statement leaves is what its verb and its words leave
-leaves : (v : Verb) (n : ℕ) (old new : LineView) (s : Statement) → SaysLine v n old new s → effect_of s ≡ verb_effect v →
+leaves : (v : Verb) (n : ℕ) (old new : LineView) (s : Statement) → SaysLine v n old new s →
     after s old.scope ≡ left_after (verb_effect v) n new.name new.path old.scope
-leaves v n old new s h effect =
+leaves v n old new s h =
     ap (λ names. record {
       names = names;
       paths = paths_after (terms_of s) old.scope.paths;
@@ -53,7 +52,7 @@ leaves v n old new s h effect =
       names = (left_after (verb_effect v) n new.name new.path old.scope).names;
       paths = (left_after (verb_effect v) n new.name new.path old.scope).paths;
       blocks = blocks_after e (line_of s) old.scope.blocks;
-    }) effect
+    }) h.effect
     ∙ ap (λ m. record {
       names = (left_after (verb_effect v) n new.name new.path old.scope).names;
       paths = (left_after (verb_effect v) n new.name new.path old.scope).paths;
@@ -65,7 +64,7 @@ pub adds : (v : Verb) (n : ℕ) (line : List ℕ) (old new : LineView) (left : S
     HasWord line (Plain (verb_word v)) old.rest → block_flaw (verb_effect v) old.scope.blocks ≡ None → SaysLine v n old new s →
     left ≡ left_after (verb_effect v) n new.name new.path old.scope → grown ≡ ss ++ s ∷ [] → Adds n line old.scope left ss grown
 adds v n line old new left s ss grown first fits h is added =
-    let effect : effect_of s ≡ verb_effect v = same_effect v h.words s h.word h.says h.suits in
+    let right = right_form h.words s h.says h.suits in
     record {
       words = Plain (verb_word v) ∷ h.words;
       has = (h.has.0, (old.rest, first, h.has.1), h.has.2);
@@ -79,10 +78,10 @@ adds v n line old new left s ss grown first fits h is added =
           terms = h.says;
           suits = h.suits;
           allowed = h.allowed;
-          blocks = subst (λ e. FitsBlocks e old.scope.blocks) (sym effect) (block_right (verb_effect v) old.scope.blocks fits);
+          blocks = subst (λ e. FitsBlocks e old.scope.blocks) (sym h.effect) (block_right (verb_effect v) old.scope.blocks fits);
         };
-        leaves = leaves v n old new s h effect ∙ sym is;
+        leaves = leaves v n old new s h ∙ sym is;
       };
       added = added;
-      shows = word_shows (verb_word v) (verb_form v) line old.rest (form_is v) first;
+      shows = word_shows (verb_word v) right.form line old.rest (ap form_of (sym h.word) ∙ right.is) first;
     }

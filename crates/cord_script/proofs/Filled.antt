@@ -44,8 +44,9 @@ use Rattle.cord_syntax.specs.declared.statements.Statement.TheVariants.{Else, En
 use Rattle.cord_syntax.specs.Lines.{line_of}
 use Rattle.cord_script.specs.Tests.{is_name, begins_numeral, numeral_of, is_path}
 use Rattle.cord_script.specs.Formats.{Converts, want_of_kind, wants_of_pieces}
-use Rattle.cord_script.specs.Forms.{Grammar, Shape, Form, Term, form_of, form_in, word_of, terms_of, argument_term, argument_want}
+use Rattle.cord_script.specs.Forms.{Grammar, Shape, Effect, Form, Term, form_of, form_in, word_of, terms_of, effect_of, argument_term, argument_want}
 use Rattle.cord_script.specs.Forms.Shape.{Words, Joined, Printed}
+use Rattle.cord_script.specs.Forms.Effect.{Stays}
 use Rattle.cord_script.specs.Forms.Term.{Target, Operand, Value, Literal, FilePath, Applies, Compares, Formats}
 use Rattle.cord_script.specs.Script.{Scope, Says, Suits, IsTerm, AreTerms, FitsBlocks}
 use Rattle.cord_script.specs.Flaws.{first_of, unless, misfit, first_pair, first_misfit, name_misfit, is_count, cords, joined, format_wants}
@@ -53,14 +54,13 @@ use Rattle.cord_script.specs.Flaws.{arguments_flaw, words_flaw, wants_of, names_
 use Rattle.cord_script.specs.Flaws.{HasBadWords}
 use Rattle.cord_script.specs.inner.Fields.{want_of}
 use Rattle.cord_script.specs.inner.ContextViews.{terms_flaw}
-use Rattle.cord_script.specs.inner.Verbal.{verb_word, verb_shape, verb_effect, verb_form, all_verbs, find_verb, form_at}
+use Rattle.cord_script.specs.inner.Verbal.{verb_word, all_verbs, find_verb, form_at}
 use Rattle.cord_script.proofs.Spelled.{both, chosen}
 use Rattle.cord_script.proofs.Checked.{neither, holds}
 use Rattle.cord_script.proofs.Firsts.{same_bytes}
 use Rattle.cord_script.proofs.Terms.{either}
-use Rattle.cord_script.proofs.Tabled.{form_found, form_is}
+use Rattle.cord_script.proofs.Tabled.{form_found}
 use Rattle.cord_script.proofs.Allowed.{names_same, all_allowed, block_right}
-use Rattle.cord_script.proofs.Contexts.{same_effect}
 
 -- what a word says where this is wanted
 abbrev Said : Want → Type 0
@@ -167,40 +167,50 @@ words_say (x ∷ xs) (w ∷ ws) e h =
     ((first.0, others.0), (first.1, others.1))
 
 -- a statement with this word and these terms
-record Made (word : List ℕ) (n : ℕ) (ts : List Term) : Type 0 where
+record Made (word : List ℕ) (effect : Effect) (n : ℕ) (ts : List Term) : Type 0 where
   pub statement : Statement
   pub named : word_of statement ≡ word
+  pub leads : effect_of statement ≡ effect
   pub line : line_of statement ≡ n
   pub says : terms_of statement ≡ ts
   pub suits : Suits statement
 
 -- a statement with this word that the words after it say
-record IsFilled (word : List ℕ) (shape : Shape) (n : ℕ) (ws : List Word) (formats : Option (List Want)) : Type 0 where
+record IsFilled (word : List ℕ) (form : Form) (n : ℕ) (ws : List Word) (formats : Option (List Want)) : Type 0 where
   pub statement : Statement
   pub named : word_of statement ≡ word
+  pub leads : effect_of statement ≡ form.effect
   pub line : line_of statement ≡ n
   pub terms : AreTerms ws (terms_of statement)
-  pub wanted : wants_of shape formats ws ≡ map want_of (terms_of statement)
+  pub wanted : wants_of form.shape formats ws ≡ map want_of (terms_of statement)
   pub suits : Suits statement
 
+-- words after a statement's word, of the right number and without a misfit, say a statement, if the word has a form
+abbrev Fills : List ℕ → ℕ → List Word → Option Form → Type 0
+Fills word n ws None = Unit {0}
+Fills word n ws (Some form) = (formats : Option (List Want)) → HasFormat form.shape ws formats → is_count form.shape (length ws) ≡ true →
+    words_flaw form.shape formats ws ≡ None → IsFilled word form n ws formats
+
 -- words of a fixed number
-fixed : {word : List ℕ} {xs : List Want} (n : ℕ) (ws : List Word) (formats : Option (List Want)) → (length ws == length xs) ≡ true →
-    first_misfit xs ws ≡ None → ((h : AllSaid xs) → Made word n (terms xs h)) → IsFilled word (Words xs) n ws formats
-fixed {word = word} {xs = xs} n ws formats count fit make =
+fixed : {word : List ℕ} {effect : Effect} {xs : List Want} (n : ℕ) (ws : List Word) → ((h : AllSaid xs) → Made word effect n (terms xs h)) →
+    Fills word n ws (Some (record { shape = Words xs; effect = effect }))
+fixed {word = word} {effect = effect} {xs = xs} n ws make = λ formats has count fit.
     let said = words_say xs ws (eqb-true (length ws) (length xs) count) fit in
     let made = make said.0 in
     record {
       statement = made.statement;
       named = made.named;
+      leads = made.leads;
       line = made.line;
       terms = subst (AreTerms ws) (sym made.says) said.1;
       wanted = sym (ap (map want_of) made.says ∙ terms_want xs said.0);
       suits = made.suits;
     }
 
-made : {word : List ℕ} {n : ℕ} {ts : List Term} (s : Statement) → word_of s ≡ word → line_of s ≡ n → terms_of s ≡ ts → Suits s →
-    Made word n ts
-made s named line says suits = record { statement = s; named = named; line = line; says = says; suits = suits }
+made : {word : List ℕ} {effect : Effect} {n : ℕ} {ts : List Term} (s : Statement) → word_of s ≡ word → effect_of s ≡ effect → line_of s ≡ n →
+    terms_of s ≡ ts → Suits s → Made word effect n ts
+made s named leads line says suits =
+    record { statement = s; named = named; leads = leads; line = line; says = says; suits = suits }
 
 -- the names of cords
 cord_names : (ws : List Word) (h : AllSaid (cords ws)) → (names : List (List ℕ)) × (terms (cords ws) h ≡ map (Operand kinds.Cord) names) ×
@@ -216,7 +226,7 @@ cords_count (w ∷ ws) = omega (arith, cords_count ws)
 
 -- a target and 2 to 16 cords
 joined_filled : (n : ℕ) (ws : List Word) (formats : Option (List Want)) → is_count Joined (length ws) ≡ true →
-    first_misfit (joined ws) ws ≡ None → IsFilled (codes "catn") Joined n ws formats
+    first_misfit (joined ws) ws ≡ None → IsFilled (codes "catn") (record { shape = Joined; effect = Stays }) n ws formats
 joined_filled n [] formats count fit = cc
 joined_filled n (w ∷ ws) formats count fit =
     let r = neither (name_misfit w) (first_pair misfit (cords ws) ws) fit in
@@ -229,6 +239,7 @@ joined_filled n (w ∷ ws) formats count fit =
     record {
       statement = Catn n target.0 names.0;
       named = refl;
+      leads = refl;
       line = refl;
       terms = (target.1, subst (AreTerms ws) names.1 said.1);
       wanted = ap (λ k. wants.Target kinds.Cord ∷ k) (sym (ap (map want_of) (sym names.1) ∙ terms_want (cords ws) said.0));
@@ -251,7 +262,7 @@ no_format o ws h = let wrong = (neither o (Some BadFormat) h).1 in cc
 
 -- a target, a format and what its conversions want
 printed_filled : (n : ℕ) (ws : List Word) (formats : Option (List Want)) → HasFormat Printed ws formats →
-    is_count Printed (length ws) ≡ true → words_flaw Printed formats ws ≡ None → IsFilled (codes "sprintf") Printed n ws formats
+    is_count Printed (length ws) ≡ true → words_flaw Printed formats ws ≡ None → IsFilled (codes "sprintf") (record { shape = Printed; effect = Stays }) n ws formats
 printed_filled n [] formats has count fit = cc
 printed_filled n (w ∷ []) formats has count fit = cc
 printed_filled n (w ∷ x ∷ ws) None has count fit = absurd (no_format (first_misfit format_wants (w ∷ x ∷ ws)) ws fit)
@@ -269,79 +280,49 @@ printed_filled n (w ∷ Quoted text ∷ ws) (Some xs) has count fit =
     record {
       statement = Sprintf n target.0 text has.0 args.0;
       named = refl;
+      leads = refl;
       line = refl;
       terms = (target.1, (refl, subst (AreTerms ws) args.1 said.1));
       wanted = ap (λ k. wants.Target kinds.Cord ∷ wants.Format ∷ k) others;
       suits = (has.1, args.2);
     }
 
--- words after a statement's word, of the right number and without a misfit, say a statement
-filled : (v : Verb) (n : ℕ) (ws : List Word) (formats : Option (List Want)) → HasFormat (verb_shape v) ws formats →
-    is_count (verb_shape v) (length ws) ≡ true → words_flaw (verb_shape v) formats ws ≡ None →
-    IsFilled (verb_word v) (verb_shape v) n ws formats
-filled (verbs.Fixed (fixed_verbs.Origin origins.Let)) n ws formats has count fit =
-    fixed n ws formats count fit (λ h. made (Let n h.0 h.1.0) refl refl refl tt)
-filled (verbs.Fixed (fixed_verbs.Origin origins.File)) n ws formats has count fit = fixed n ws formats count fit
-    (λ h. made (File n h.0 h.1.0) refl refl refl tt)
-filled (verbs.Fixed (fixed_verbs.Origin origins.Eager)) n ws formats has count fit = fixed n ws formats count fit
-    (λ h. made (Eager n h.0 h.1.0) refl refl refl tt)
-filled (verbs.Fixed (fixed_verbs.Origin origins.Lazy)) n ws formats has count fit = fixed n ws formats count fit
-    (λ h. made (Lazy n h.0 h.1.0) refl refl refl tt)
-filled (verbs.Fixed (fixed_verbs.Composition compositions.Chars)) n ws formats has count fit = fixed n ws formats count fit
-    (λ h. made (Chars n h.0 h.1.0 h.1.1.0) refl refl refl tt)
-filled (verbs.Fixed (fixed_verbs.Composition compositions.Nul)) n ws formats has count fit = fixed n ws formats count fit
-    (λ h. made (Nul n h.0 h.1.0) refl refl refl tt)
-filled (verbs.Fixed (fixed_verbs.Origin origins.FromFn)) n ws formats has count fit = fixed n ws formats count fit
-    (λ h. made (FromFn n h.0 h.1.0 h.1.1.0) refl refl refl tt)
-filled (verbs.Fixed (fixed_verbs.Composition compositions.Cat)) n ws formats has count fit = fixed n ws formats count fit
-    (λ h. made (Cat n h.0 h.1.0 h.1.1.0) refl refl refl tt)
-filled verbs.Catn n ws formats has count fit = joined_filled n ws formats count fit
-filled (verbs.Fixed (fixed_verbs.Composition compositions.Catc)) n ws formats has count fit = fixed n ws formats count fit
-    (λ h. made (Catc n h.0 h.1.0 h.1.1.0) refl refl refl tt)
-filled (verbs.Fixed (fixed_verbs.Composition compositions.Substr)) n ws formats has count fit = fixed n ws formats count fit
-    (λ h. made (Substr n h.0 h.1.0 h.1.1.0 h.1.1.1.0) refl refl refl tt)
-filled (verbs.Fixed (fixed_verbs.Derivation derivations.Balance)) n ws formats has count fit = fixed n ws formats count fit
-    (λ h. made (Balance n h.0 h.1.0) refl refl refl tt)
-filled (verbs.Fixed (fixed_verbs.Derivation derivations.EcToCord)) n ws formats has count fit = fixed n ws formats count fit
-    (λ h. made (EcToCord n h.0 h.1.0) refl refl refl tt)
-filled verbs.Sprintf n ws formats has count fit = printed_filled n ws formats has count fit
-filled (verbs.Fixed (fixed_verbs.Computation computations.Len)) n ws formats has count fit = fixed n ws formats count fit
-    (λ h. made (Len n h.0 h.1.0) refl refl refl tt)
-filled (verbs.Fixed (fixed_verbs.Look looks.Fetch)) n ws formats has count fit = fixed n ws formats count fit
-    (λ h. made (Fetch n h.0 h.1.0 h.1.1.0) refl refl refl tt)
-filled (verbs.Fixed (fixed_verbs.Look looks.Cmp)) n ws formats has count fit = fixed n ws formats count fit
-    (λ h. made (Cmp n h.0 h.1.0 h.1.1.0) refl refl refl tt)
-filled (verbs.Fixed (fixed_verbs.Look looks.Ncmp)) n ws formats has count fit = fixed n ws formats count fit
-    (λ h. made (Ncmp n h.0 h.1.0 h.1.1.0 h.1.1.1.0 h.1.1.1.1.0 h.1.1.1.1.1.0) refl refl refl tt)
-filled (verbs.Fixed (fixed_verbs.Search searches.Str)) n ws formats has count fit = fixed n ws formats count fit
-    (λ h. made (Str n h.0 h.1.0 h.1.1.0 h.1.1.1.0) refl refl refl tt)
-filled (verbs.Fixed (fixed_verbs.Search searches.Chr)) n ws formats has count fit = fixed n ws formats count fit
-    (λ h. made (Chr n h.0 h.1.0 h.1.1.0 h.1.1.1.0) refl refl refl tt)
-filled (verbs.Fixed (fixed_verbs.Search searches.Rchr)) n ws formats has count fit = fixed n ws formats count fit
-    (λ h. made (Rchr n h.0 h.1.0 h.1.1.0 h.1.1.1.0) refl refl refl tt)
-filled (verbs.Fixed (fixed_verbs.Computation computations.Assign)) n ws formats has count fit = fixed n ws formats count fit
-    (λ h. made (Assign n h.0 h.1.0) refl refl refl tt)
-filled (verbs.Fixed (fixed_verbs.Computation computations.Add)) n ws formats has count fit = fixed n ws formats count fit
-    (λ h. made (Add n h.0 h.1.0 h.1.1.0) refl refl refl tt)
-filled (verbs.Fixed (fixed_verbs.Computation computations.Sub)) n ws formats has count fit = fixed n ws formats count fit
-    (λ h. made (Sub n h.0 h.1.0 h.1.1.0) refl refl refl tt)
-filled (verbs.Fixed (fixed_verbs.Growth growths.EcInit)) n ws formats has count fit =
-    fixed n ws formats count fit (λ h. made (EcInit n h.0) refl refl refl tt)
-filled (verbs.Fixed (fixed_verbs.Growth growths.EcPut)) n ws formats has count fit = fixed n ws formats count fit
-    (λ h. made (EcPut n h.0 h.1.0) refl refl refl tt)
-filled (verbs.Fixed (fixed_verbs.Growth growths.EcCat)) n ws formats has count fit = fixed n ws formats count fit
-    (λ h. made (EcCat n h.0 h.1.0) refl refl refl tt)
-filled (verbs.Fixed (fixed_verbs.Growth growths.EcStr)) n ws formats has count fit = fixed n ws formats count fit
-    (λ h. made (EcStr n h.0 h.1.0) refl refl refl tt)
-filled (verbs.Fixed fixed_verbs.Put) n ws formats has count fit = fixed n ws formats count fit (λ h. made (Put n h.0) refl refl refl tt)
-filled (verbs.Fixed (fixed_verbs.Control controls.Repeat)) n ws formats has count fit = fixed n ws formats count fit
-    (λ h. made (Repeat n h.0) refl refl refl tt)
-filled (verbs.Fixed (fixed_verbs.Control controls.If)) n ws formats has count fit = fixed n ws formats count fit
-    (λ h. made (If n h.0 h.1.0 h.1.1.0) refl refl refl tt)
-filled (verbs.Fixed (fixed_verbs.Control controls.Else)) n ws formats has count fit =
-    fixed n ws formats count fit (λ h. made (Else n) refl refl refl tt)
-filled (verbs.Fixed (fixed_verbs.Control controls.End)) n ws formats has count fit =
-    fixed n ws formats count fit (λ h. made (End n) refl refl refl tt)
+-- words after a verb's word, of the right number and without a misfit, say a statement
+filled : (v : Verb) (n : ℕ) (ws : List Word) → Fills (verb_word v) n ws (form_of (verb_word v))
+unfolding form_of
+filled (verbs.Fixed (fixed_verbs.Origin origins.Let)) n ws = fixed n ws (λ h. made (Let n h.0 h.1.0) refl refl refl refl tt)
+filled (verbs.Fixed (fixed_verbs.Origin origins.File)) n ws = fixed n ws (λ h. made (File n h.0 h.1.0) refl refl refl refl tt)
+filled (verbs.Fixed (fixed_verbs.Origin origins.Eager)) n ws = fixed n ws (λ h. made (Eager n h.0 h.1.0) refl refl refl refl tt)
+filled (verbs.Fixed (fixed_verbs.Origin origins.Lazy)) n ws = fixed n ws (λ h. made (Lazy n h.0 h.1.0) refl refl refl refl tt)
+filled (verbs.Fixed (fixed_verbs.Composition compositions.Chars)) n ws = fixed n ws (λ h. made (Chars n h.0 h.1.0 h.1.1.0) refl refl refl refl tt)
+filled (verbs.Fixed (fixed_verbs.Composition compositions.Nul)) n ws = fixed n ws (λ h. made (Nul n h.0 h.1.0) refl refl refl refl tt)
+filled (verbs.Fixed (fixed_verbs.Origin origins.FromFn)) n ws = fixed n ws (λ h. made (FromFn n h.0 h.1.0 h.1.1.0) refl refl refl refl tt)
+filled (verbs.Fixed (fixed_verbs.Composition compositions.Cat)) n ws = fixed n ws (λ h. made (Cat n h.0 h.1.0 h.1.1.0) refl refl refl refl tt)
+filled (verbs.Fixed (fixed_verbs.Composition compositions.Catc)) n ws = fixed n ws (λ h. made (Catc n h.0 h.1.0 h.1.1.0) refl refl refl refl tt)
+filled (verbs.Fixed (fixed_verbs.Composition compositions.Substr)) n ws = fixed n ws (λ h. made (Substr n h.0 h.1.0 h.1.1.0 h.1.1.1.0) refl refl refl refl tt)
+filled (verbs.Fixed (fixed_verbs.Derivation derivations.Balance)) n ws = fixed n ws (λ h. made (Balance n h.0 h.1.0) refl refl refl refl tt)
+filled (verbs.Fixed (fixed_verbs.Derivation derivations.EcToCord)) n ws = fixed n ws (λ h. made (EcToCord n h.0 h.1.0) refl refl refl refl tt)
+filled (verbs.Fixed (fixed_verbs.Computation computations.Len)) n ws = fixed n ws (λ h. made (Len n h.0 h.1.0) refl refl refl refl tt)
+filled (verbs.Fixed (fixed_verbs.Look looks.Fetch)) n ws = fixed n ws (λ h. made (Fetch n h.0 h.1.0 h.1.1.0) refl refl refl refl tt)
+filled (verbs.Fixed (fixed_verbs.Look looks.Cmp)) n ws = fixed n ws (λ h. made (Cmp n h.0 h.1.0 h.1.1.0) refl refl refl refl tt)
+filled (verbs.Fixed (fixed_verbs.Look looks.Ncmp)) n ws = fixed n ws (λ h. made (Ncmp n h.0 h.1.0 h.1.1.0 h.1.1.1.0 h.1.1.1.1.0 h.1.1.1.1.1.0) refl refl refl refl tt)
+filled (verbs.Fixed (fixed_verbs.Search searches.Str)) n ws = fixed n ws (λ h. made (Str n h.0 h.1.0 h.1.1.0 h.1.1.1.0) refl refl refl refl tt)
+filled (verbs.Fixed (fixed_verbs.Search searches.Chr)) n ws = fixed n ws (λ h. made (Chr n h.0 h.1.0 h.1.1.0 h.1.1.1.0) refl refl refl refl tt)
+filled (verbs.Fixed (fixed_verbs.Search searches.Rchr)) n ws = fixed n ws (λ h. made (Rchr n h.0 h.1.0 h.1.1.0 h.1.1.1.0) refl refl refl refl tt)
+filled (verbs.Fixed (fixed_verbs.Computation computations.Assign)) n ws = fixed n ws (λ h. made (Assign n h.0 h.1.0) refl refl refl refl tt)
+filled (verbs.Fixed (fixed_verbs.Computation computations.Add)) n ws = fixed n ws (λ h. made (Add n h.0 h.1.0 h.1.1.0) refl refl refl refl tt)
+filled (verbs.Fixed (fixed_verbs.Computation computations.Sub)) n ws = fixed n ws (λ h. made (Sub n h.0 h.1.0 h.1.1.0) refl refl refl refl tt)
+filled (verbs.Fixed (fixed_verbs.Growth growths.EcInit)) n ws = fixed n ws (λ h. made (EcInit n h.0) refl refl refl refl tt)
+filled (verbs.Fixed (fixed_verbs.Growth growths.EcPut)) n ws = fixed n ws (λ h. made (EcPut n h.0 h.1.0) refl refl refl refl tt)
+filled (verbs.Fixed (fixed_verbs.Growth growths.EcCat)) n ws = fixed n ws (λ h. made (EcCat n h.0 h.1.0) refl refl refl refl tt)
+filled (verbs.Fixed (fixed_verbs.Growth growths.EcStr)) n ws = fixed n ws (λ h. made (EcStr n h.0 h.1.0) refl refl refl refl tt)
+filled (verbs.Fixed fixed_verbs.Put) n ws = fixed n ws (λ h. made (Put n h.0) refl refl refl refl tt)
+filled (verbs.Fixed (fixed_verbs.Control controls.Repeat)) n ws = fixed n ws (λ h. made (Repeat n h.0) refl refl refl refl tt)
+filled (verbs.Fixed (fixed_verbs.Control controls.If)) n ws = fixed n ws (λ h. made (If n h.0 h.1.0 h.1.1.0) refl refl refl refl tt)
+filled (verbs.Fixed (fixed_verbs.Control controls.Else)) n ws = fixed n ws (λ h. made (Else n) refl refl refl refl tt)
+filled (verbs.Fixed (fixed_verbs.Control controls.End)) n ws = fixed n ws (λ h. made (End n) refl refl refl refl tt)
+filled verbs.Catn n ws = λ formats has count fit. joined_filled n ws formats count fit
+filled verbs.Sprintf n ws = λ formats has count fit. printed_filled n ws formats has count fit
 
 -- what the conversions of the format want
 converts_of : FormatOrBad → (text : List ℕ) → (formats : Option (List Want)) × Converts text formats
@@ -362,22 +343,21 @@ abbrev SaysOrBad : Grammar → ℕ → Scope → List Word → Type 0
 SaysOrBad g n scope words = ((s : Statement) × Says g n scope words s) ⊎ ((kind : RefusalKind) × HasBadWords g scope words kind)
 
 -- the words after a verb have no flaw
-well_said : (g : Grammar) (n : ℕ) (scope : Scope) (p : List ℕ) (ws : List Word) (v : Verb) (formats : Option (List Want)) →
-    g.has p ≡ true → p ≡ verb_word v → HasFormat (verb_shape v) ws formats → form_flaw (verb_form v) scope formats ws ≡ None →
-    (s : Statement) × Says g n scope (Plain p ∷ ws) s
-well_said g n scope p ws v formats has spelled format fine =
-    let shape = verb_shape v in
+well_said : (g : Grammar) (n : ℕ) (scope : Scope) (p : List ℕ) (ws : List Word) (v : Verb) (form : Form) (formats : Option (List Want)) →
+    g.has p ≡ true → p ≡ verb_word v → form_of (verb_word v) ≡ Some form → HasFormat form.shape ws formats →
+    form_flaw form scope formats ws ≡ None → (s : Statement) × Says g n scope (Plain p ∷ ws) s
+well_said g n scope p ws v form formats has spelled is format fine =
+    let shape = form.shape in
     let names = names_flaw scope (wants_of shape formats ws) ws in
-    let blocks = block_flaw (verb_effect v) scope.blocks in
+    let blocks = block_flaw form.effect scope.blocks in
     let a = neither (unless (is_count shape (length ws)) WrongCount)
     (first_of (words_flaw shape formats ws) (first_of names blocks)) fine in
     let b = neither (words_flaw shape formats ws) (first_of names blocks) a.1 in
     let c = neither names blocks b.1 in
-    let f = filled v n ws formats format (holds (is_count shape (length ws)) WrongCount a.0) b.0 in
+    let f = subst (Fills (verb_word v) n ws) is (filled v n ws) formats format (holds (is_count shape (length ws)) WrongCount a.0) b.0 in
     let ts = terms_of f.statement in
     let known : terms_flaw scope ts ≡ None =
-    sym (names_same scope ws ts f.terms) ∙ ap (λ k. names_flaw scope k ws) (sym f.wanted) ∙ c.0 in
-    let effect = same_effect v ws f.statement f.named f.terms f.suits in (
+    sym (names_same scope ws ts f.terms) ∙ ap (λ k. names_flaw scope k ws) (sym f.wanted) ∙ c.0 in (
       f.statement,
       record {
         has = ap g.has (f.named ∙ sym spelled) ∙ has;
@@ -387,7 +367,7 @@ well_said g n scope p ws v formats has spelled format fine =
         terms = f.terms;
         suits = f.suits;
         allowed = all_allowed scope ts known;
-        blocks = subst (λ k. FitsBlocks k scope.blocks) (sym effect) (block_right (verb_effect v) scope.blocks c.1);
+        blocks = subst (λ k. FitsBlocks k scope.blocks) (sym f.leads) (block_right form.effect scope.blocks c.1);
       },
     )
 
@@ -395,19 +375,21 @@ bad_form : (g : Grammar) (scope : Scope) (p : List ℕ) (ws : List Word) (form :
     HasFormFlaw scope form ws kind → HasBadWords g scope (Plain p ∷ ws) kind
 bad_form g scope p ws form kind e h = subst (λ k. HasFormFlaw scope k ws kind) (sym e) h
 
-verb_by : (g : Grammar) (n : ℕ) (scope : Scope) (p : List ℕ) (ws : List Word) (v : Verb) (formats : Option (List Want))
-    (flaw : Option RefusalKind) → g.has p ≡ true → p ≡ verb_word v → form_in g p ≡ Some (verb_form v) →
-    HasFormat (verb_shape v) ws formats → form_flaw (verb_form v) scope formats ws ≡ flaw → SaysOrBad g n scope (Plain p ∷ ws)
-verb_by g n scope p ws v formats None has spelled form format e = inl (well_said g n scope p ws v formats has spelled format e)
-verb_by g n scope p ws v formats (Some kind) has spelled form format e =
-    inr (kind, bad_form g scope p ws (Some (verb_form v)) kind form (formats, format, e))
+verb_by : (g : Grammar) (n : ℕ) (scope : Scope) (p : List ℕ) (ws : List Word) (v : Verb) (form : Form) (formats : Option (List Want))
+    (flaw : Option RefusalKind) → g.has p ≡ true → p ≡ verb_word v → form_of (verb_word v) ≡ Some form → form_in g p ≡ Some form →
+    HasFormat form.shape ws formats → form_flaw form scope formats ws ≡ flaw → SaysOrBad g n scope (Plain p ∷ ws)
+verb_by g n scope p ws v form formats None has spelled is told format e = inl (well_said g n scope p ws v form formats has spelled is format e)
+verb_by g n scope p ws v form formats (Some kind) has spelled is told format e =
+    inr (kind, bad_form g scope p ws (Some form) kind told (formats, format, e))
 
 -- the words after a verb say a statement, or have a flaw
-verb_says : FormatOrBad → (g : Grammar) (n : ℕ) (scope : Scope) (p : List ℕ) (ws : List Word) (v : Verb) → g.has p ≡ true →
-    p ≡ verb_word v → form_in g p ≡ Some (verb_form v) → SaysOrBad g n scope (Plain p ∷ ws)
-verb_says law g n scope p ws v has spelled form =
-    let formats = formats_of law (verb_shape v) ws in
-    verb_by g n scope p ws v formats.0 (form_flaw (verb_form v) scope formats.0 ws) has spelled form formats.1 refl
+verb_says : FormatOrBad → (g : Grammar) (n : ℕ) (scope : Scope) (p : List ℕ) (ws : List Word) (v : Verb) (form : Option Form) →
+    g.has p ≡ true → p ≡ verb_word v → form_of (verb_word v) ≡ form → form_in g p ≡ form → SaysOrBad g n scope (Plain p ∷ ws)
+verb_says law g n scope p ws v None has spelled is told =
+    inr (UnknownStatement, bad_form g scope p ws None UnknownStatement told refl)
+verb_says law g n scope p ws v (Some form) has spelled is told =
+    let formats = formats_of law form.shape ws in
+    verb_by g n scope p ws v form formats.0 (form_flaw form scope formats.0 ws) has spelled is told formats.1 refl
 
 -- a verb that is found has the word
 spelled_so : (vs : List Verb) (p : List ℕ) (v : Verb) → find_verb vs p ≡ Some v → p ≡ verb_word v
@@ -423,7 +405,7 @@ allowed_says law g n scope p ws None has e form =
     inr (UnknownStatement, bad_form g scope p ws None UnknownStatement (form ∙ sym (form_found p) ∙ ap form_at e) refl)
 allowed_says law g n scope p ws (Some v) has e form =
     let spelled = spelled_so all_verbs p v e in
-    verb_says law g n scope p ws v has spelled (form ∙ ap form_of spelled ∙ form_is v)
+    verb_says law g n scope p ws v (form_of (verb_word v)) has spelled refl (form ∙ ap form_of spelled)
 
 word_by : FormatOrBad → (g : Grammar) (n : ℕ) (scope : Scope) (p : List ℕ) (ws : List Word) (x : Bool) → g.has p ≡ x →
     SaysOrBad g n scope (Plain p ∷ ws)

@@ -1,7 +1,6 @@
 -- What is wrong with words where something is wanted of each is a flaw of their form.
-use Rattle.std.proofs.Common.{Some, None, ◌≡◌, ◌≤◌, ◌<◌, ◌+◌, ℕ, List, [], ◌∷◌, ◌++◌, refl, sym, ◌∙◌, ap, take, length}
-use Rattle.std.proofs.Common.{suc, arith, eq-eqb}
-use Rattle.std.proofs.Math.Dec.{eqb-suc-suc}
+use Rattle.std.proofs.Common.{Some, None, ◌≡◌, ◌≤◌, ◌+◌, ℕ, List, [], ◌∷◌, refl, sym, ◌∙◌, ap, take, length}
+use Rattle.std.proofs.Common.{arith, eq-eqb, subst}
 use Rattle.std.specs.Prelude.{Option, replicate, nat_le}
 use Rattle.std.proofs.lemmas.Bool.{le-leb}
 use Rattle.std.proofs.lemmas.List.{take-replicate}
@@ -11,17 +10,17 @@ use Rattle.cord_script.specs.declared.kinds.Kind.TheVariants as kinds
 use Rattle.cord_script.specs.declared.kinds.Want.{Want}
 use Rattle.cord_script.specs.declared.kinds.Want.TheVariants as wants
 use Rattle.cord_script.specs.declared.verbs.FixedVerb.{FixedVerb}
-use Rattle.cord_script.specs.declared.verbs.Verb.TheVariants.{Fixed, Catn, Sprintf}
 use Rattle.cord_script.specs.declared.words.Word.{Word}
 use Rattle.cord_script.specs.declared.refusals.RefusalKind.{RefusalKind}
-use Rattle.cord_script.specs.declared.refusals.RefusalKind.TheVariants.{WrongCount, BadFormat}
-use Rattle.cord_script.specs.Forms.Shape.{Printed}
+use Rattle.cord_script.specs.declared.refusals.RefusalKind.TheVariants.{WrongCount}
+use Rattle.cord_script.specs.Forms.{form_of}
+use Rattle.cord_script.specs.Forms.Shape.{Words, Joined, Printed}
 use Rattle.cord_script.specs.Forms.Effect.{Stays}
 use Rattle.cord_script.specs.Script.{Scope}
-use Rattle.cord_script.specs.Flaws.{first_of, unless, misfit, first_pair, first_misfit, cords, joined, format_wants, HasFormat}
+use Rattle.cord_script.specs.Flaws.{first_of, unless, first_pair, first_misfit, cords, joined, HasFormat}
 use Rattle.cord_script.specs.Flaws.{HasFormFlaw, arguments_flaw, argument_words, names_flaw, block_flaw}
 use Rattle.cord_script.specs.inner.Diagnosis.{wanted_flaw}
-use Rattle.cord_script.specs.inner.Verbal.{fixed_wants, verb_form, verb_effect}
+use Rattle.cord_script.specs.inner.Verbal.{fixed_word, fixed_effect}
 use Rattle.cord_script.proofs.Unique.{within}
 
 -- a pair that is right is passed
@@ -41,9 +40,10 @@ pair_wrong test all told xs more ws behind x w kind a e f t n =
     ∙ ap (λ k. first_of k (first_pair test more behind)) (sym t ∙ n))
 
 -- a flaw of words whose number is fixed
-pub words_flaw : (v : FixedVerb) (scope : Scope) (ws : List Word) (kind : RefusalKind) →
-    wanted_flaw (verb_effect (Fixed v)) scope (fixed_wants v) ws ≡ Some kind → HasFormFlaw scope (Some (verb_form (Fixed v))) ws kind
-words_flaw v scope ws kind h = (None, refl, h)
+pub words_flaw : (v : FixedVerb) (xs : List Want) (scope : Scope) (ws : List Word) (kind : RefusalKind) →
+    form_of (fixed_word v) ≡ Some (record { shape = Words xs; effect = fixed_effect v }) →
+    wanted_flaw (fixed_effect v) scope xs ws ≡ Some kind → HasFormFlaw scope (form_of (fixed_word v)) ws kind
+words_flaw v xs scope ws kind is h = subst (λ form. HasFormFlaw scope form ws kind) (sym is) (None, refl, h)
 
 cords_are : (ws : List Word) → replicate (length ws) (wants.Operand kinds.Cord) ≡ cords ws
 cords_are [] = refl
@@ -64,7 +64,7 @@ joined_count (w ∷ ws) = let r = cords_count ws in omega arith
 
 -- a target and 2 to 16 cords
 pub cords_flaw : (scope : Scope) (ws : List Word) (n : ℕ) (kind : RefusalKind) → n ≡ length ws → 1 + MIN_PARTS ≤ n → n ≤ 1 + MAX_PARTS →
-    wanted_flaw Stays scope (take n JOINED) ws ≡ Some kind → HasFormFlaw scope (Some (verb_form Catn)) ws kind
+    wanted_flaw Stays scope (take n JOINED) ws ≡ Some kind → HasFormFlaw scope (Some (record { shape = Joined; effect = Stays })) ws kind
 cords_flaw scope ws n kind e low high h =
     let count = within (1 + MIN_PARTS) (1 + MAX_PARTS) (length ws) (omega (arith, e, low)) (omega (arith, e, high)) in
     let same : take n JOINED ≡ joined ws = ap (λ k. take k JOINED) e ∙ joined_are ws (omega (arith, e, high)) in
@@ -76,19 +76,13 @@ cords_flaw scope ws n kind e low high h =
           ∙ sym (ap (λ xs. wanted_flaw Stays scope xs ws) same) ∙ h,
     )
 
--- a target or a format is missing
-pub no_format : (scope : Scope) (ws : List Word) → length ws < 2 → HasFormFlaw scope (Some (verb_form Sprintf)) ws WrongCount
-no_format scope [] few = (None, refl, refl)
-no_format scope (w ∷ []) few = (None, refl, refl)
-no_format scope (w ∷ x ∷ ws) few = absurd (omega (arith, few))
-
 -- with a target and a format the number of words is right
 counted : (ws : List Word) (rest : Option RefusalKind) → 2 ≤ length ws → first_of (unless (nat_le 2 (length ws)) WrongCount) rest ≡ rest
 counted ws rest some = ap (λ b. first_of (unless b WrongCount) rest) (le-leb 2 (length ws) some)
 
 -- the target or the format is wrong
 pub front_flaw : (scope : Scope) (ws : List Word) (formats : Option (List Want)) (kind : RefusalKind) → 2 ≤ length ws →
-    HasFormat Printed ws formats → first_misfit PRINTED ws ≡ Some kind → HasFormFlaw scope (Some (verb_form Sprintf)) ws kind
+    HasFormat Printed ws formats → first_misfit PRINTED ws ≡ Some kind → HasFormFlaw scope (Some (record { shape = Printed; effect = Stays })) ws kind
 front_flaw scope ws formats kind some has h = (
   formats,
   has,
@@ -98,37 +92,3 @@ front_flaw scope ws formats kind some has h = (
     in_front : (a b c : Option RefusalKind) (k : RefusalKind) → a ≡ Some k → first_of (first_of a b) c ≡ Some k
     in_front (Some j) b c k e = e
     in_front None b c k e = cc
-
--- the text is no format
-pub unread_format : (scope : Scope) (ws : List Word) → 2 ≤ length ws → HasFormat Printed ws None → first_misfit PRINTED ws ≡ None →
-    HasFormFlaw scope (Some (verb_form Sprintf)) ws BadFormat
-unread_format scope ws some has h =
-    let rest = first_of (names_flaw scope format_wants ws) (block_flaw Stays scope.blocks) in
-    (None, has, counted ws _ some ∙ ap (λ a. first_of (first_of a (Some BadFormat)) rest) h)
-
--- the words after the format, or their names, are wrong
-pub arguments_wrong : (scope : Scope) (ws : List Word) (xs all : List Want) (kind : RefusalKind) → 2 ≤ length ws →
-    HasFormat Printed ws (Some xs) → first_misfit PRINTED ws ≡ None → all ≡ PRINTED ++ xs → wanted_flaw Stays scope all ws ≡ Some kind →
-    HasFormFlaw scope (Some (verb_form Sprintf)) ws kind
-arguments_wrong scope [] xs all kind some has fit e h = absurd (omega (arith, some))
-arguments_wrong scope (w ∷ []) xs all kind some has fit e h = absurd (omega (arith, some))
-arguments_wrong scope (w ∷ x ∷ ws) xs all kind some has fit e h =
-    let front = first_misfit PRINTED (w ∷ x ∷ ws) in
-    let rest = first_of (names_flaw scope (PRINTED ++ xs) (w ∷ x ∷ ws)) (block_flaw Stays scope.blocks) in
-    let many = eqb-suc-suc (suc (length ws)) (suc (length xs)) ∙ eqb-suc-suc (length ws) (length xs) in (
-      Some xs,
-      has,
-      counted (w ∷ x ∷ ws) _ some
-          ∙ ap (λ b. first_of (first_of front (first_of (unless b WrongCount) (first_misfit xs ws))) rest) (sym many)
-          ∙ ordered (misfit (wants.Target kinds.Cord) w) (misfit wants.Format x) _ _ _ kind fit
-          (sym (ap (λ ys. wanted_flaw Stays scope ys (w ∷ x ∷ ws)) e) ∙ h),
-    )
-  where
-    ordered : (a b c d f : Option RefusalKind) (k : RefusalKind) → first_of a (first_of b None) ≡ None →
-        first_of c (first_of (first_of a (first_of b d)) f) ≡ Some k →
-        first_of (first_of (first_of a (first_of b None)) (first_of c d)) f ≡ Some k
-    ordered None None None None f k n h = h
-    ordered None None None (Some d) f k n h = h
-    ordered None None (Some c) d f k n h = h
-    ordered None (Some b) c d f k n h = cc
-    ordered (Some a) b c d f k n h = cc

@@ -1,6 +1,5 @@
 pub mod Adding
 pub mod Allowed
-pub mod Contexts
 pub mod Checked
 pub mod Either
 pub mod Filled

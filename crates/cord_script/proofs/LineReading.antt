@@ -62,7 +62,7 @@ pub sprintf_built : (line : ℕ) (old new : LineView) (target text : List ℕ) (
     IsBuilt verbs.Sprintf line old new (Sprintf line target_put text_put format_put args_put)
 sprintf_built line old new target text format args target_put text_put format_put args_put a b c d fields is wants =
     let same : Sprintf line target text format args ≡ Sprintf line target_put text_put format_put args_put = cc in
-    subst (IsBuilt verbs.Sprintf line old new) same (record { word = refl; numbered = refl; fields = fields; suits = (is, wants) })
+    subst (IsBuilt verbs.Sprintf line old new) same (record { word = refl; effect = refl; numbered = refl; fields = fields; suits = (is, wants) })
 
 -- the word of a verb that is told
 pub spelled : {V : Type 0} (of : V → FixedVerb) {a b : V} → a ≡ b → fixed_word (of b) ≡ fixed_word (of a)
@@ -158,6 +158,7 @@ says_line v n old new s fresh h blank =
       names = said.names ∙ ap (λ k. names_after (terms_of s) (names_with old.scope.names k)) fresh.name;
       paths = said.paths ∙ ap (λ k. paths_after (terms_of s) (paths_with old.scope.paths k)) fresh.path;
       word = h.word;
+      effect = h.effect;
       line = h.numbered;
       suits = h.suits;
     }

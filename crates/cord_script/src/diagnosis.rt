@@ -2,12 +2,14 @@
 ghost use Rattle.std.specs.Prelude.{◌≡◌, ◌≢◌, [], Some, IfOk, IfErr, option_map};
 ghost use Rattle.cord_script.specs.declared.words.Word.TheVariants.{Plain};
 ghost use Rattle.cord_script.specs.Words.{IsIdle};
-ghost use Rattle.cord_script.specs.Forms.Shape.{Printed};
+ghost use Rattle.cord_script.specs.Forms.{form_of};
+ghost use Rattle.cord_script.specs.Forms.Shape.{Joined, Printed};
+ghost use Rattle.cord_script.specs.Forms.Effect.{Stays};
 ghost use Rattle.cord_script.specs.Flaws.{HasFormat, HasFormFlaw, HasBadWords};
 ghost use Rattle.cord_script.specs.Script.{whole};
 ghost use Rattle.cord_script.specs.inner.ContextViews.{scope_of};
 ghost use Rattle.cord_script.specs.inner.Steps.{HasWrong};
-ghost use Rattle.cord_script.specs.inner.Verbal.{verb_form, verb_word};
+ghost use Rattle.cord_script.specs.inner.Verbal.{fixed_word, verb_word};
 
 use crate::context::Context;
 use crate::flaws::{Pass, first_flaw, wanted_flaw};
@@ -46,7 +48,7 @@ fn none_of(flaw: Option<RefusalKind>) -> Result<(), RefusalKind>
 // What is wrong with words whose number the verb fixes.
 fn fixed_flaw(context: &Context, verb: FixedVerb, words: &[Word]) -> Result<(), RefusalKind>
     ensures { IfErr result (λ kind. kind ≢ RefusalKind.NoMemory →
-        HasFormFlaw (scope_of context.now) (Some (verb_form (Verb.Fixed verb))) words.now kind) }
+        HasFormFlaw (scope_of context.now) (form_of (fixed_word verb)) words.now kind) }
 {
     none_of(wanted_flaw(context, Verb::Fixed(verb), wants_of(verb), words))
 }
@@ -54,7 +56,7 @@ fn fixed_flaw(context: &Context, verb: FixedVerb, words: &[Word]) -> Result<(), 
 // What is wrong with the words after `catn`.
 fn joined_flaw(context: &Context, words: &[Word]) -> Result<(), RefusalKind>
     ensures { IfErr result (λ kind. kind ≢ RefusalKind.NoMemory →
-        HasFormFlaw (scope_of context.now) (Some (verb_form Verb.Catn)) words.now kind) }
+        HasFormFlaw (scope_of context.now) (Some (record { shape = Joined; effect = Stays })) words.now kind) }
 {
     let count = words.len();
     if count < 1 + MIN_PARTS {
@@ -88,7 +90,7 @@ fn printed_wants(alloc: Global, words: &[Word]) -> Result<Option<Vec<Want>>, Ref
 // What is wrong with the words after `sprintf`.
 fn printed_flaw(alloc: Global, context: &Context, words: &[Word]) -> Result<(), RefusalKind>
     ensures { IfErr result (λ kind. kind ≢ RefusalKind.NoMemory →
-        HasFormFlaw (scope_of context.now) (Some (verb_form Verb.Sprintf)) words.now kind) }
+        HasFormFlaw (scope_of context.now) (Some (record { shape = Printed; effect = Stays })) words.now kind) }
 {
     if words.len() < PRINTED.len() {
         return Err(RefusalKind::WrongCount);
@@ -113,7 +115,7 @@ fn form_flaw(
     words: &[Word],
 ) -> Result<(), RefusalKind>
     ensures { IfErr result (λ kind. kind ≢ RefusalKind.NoMemory →
-        HasFormFlaw (scope_of context.now) (Some (verb_form verb)) words.now kind) }
+        HasFormFlaw (scope_of context.now) (form_of (verb_word verb)) words.now kind) }
 {
     match verb {
         Verb::Fixed(fixed) => fixed_flaw(context, fixed, words),

@@ -1,8 +1,8 @@
 // The statements' words, and what the words after them have to be.
 ghost use Rattle.std.specs.Prelude.{◌≡◌, MatchOption, Some, None};
-ghost use Rattle.cord_script.specs.Forms.{form_in};
-ghost use Rattle.cord_script.specs.Script.{whole};
-ghost use Rattle.cord_script.specs.inner.Verbal.{verb_word, verb_form, fixed_wants, find_verb, verbs_of};
+ghost use Rattle.cord_script.specs.Forms.{form_of};
+ghost use Rattle.cord_script.specs.Forms.Shape.{Words};
+ghost use Rattle.cord_script.specs.inner.Verbal.{verb_word, fixed_word, fixed_effect, find_verb, verbs_of};
 
 use crate::kinds::{Kind, Want};
 use crate::verbs::{
@@ -115,8 +115,7 @@ fn verb_of_eight(word: &[u8]) -> Option<Verb>
 /// The verb of a word, if it is a statement's word.
 #[inline(always)]
 pub fn verb_of(word: &[u8]) -> Option<Verb>
-    ensures { MatchOption result (form_in whole word.now ≡ None) (λ verb. (word.now ≡ verb_word verb) ×
-        (form_in whole word.now ≡ Some (verb_form verb))) }
+    ensures { MatchOption result (form_of word.now ≡ None) (λ verb. word.now ≡ verb_word verb) }
 {
     match word.len() {
         2 => verb_of_two(word),
@@ -219,9 +218,11 @@ const REPEAT: [Want; 1] = [Want::Number];
 const IF: [Want; 3] = [Want::Number, Want::Relation, Want::Number];
 
 /// What the words after a statement's word have to be, where their number is fixed.
+#[tactic(auto, unfolding(crate::specs::Forms::form_of))]
 #[inline(always)]
 pub fn wants_of(verb: FixedVerb) -> &'static [Want]
-    ensures { result.now ≡ fixed_wants verb }
+    ensures { form_of (fixed_word verb)
+        ≡ Some (record { shape = Words result.now; effect = fixed_effect verb }) }
 {
     match verb {
         FixedVerb::Origin(Origin::Let) => &LET,

@@ -7,10 +7,10 @@ use Rattle.cord_script.specs.declared.words.Word.{Word}
 use Rattle.cord_syntax.specs.declared.statements.Statement.{Statement}
 use Rattle.cord_syntax.specs.Lines.{line_of}
 use Rattle.cord_script.specs.Words.{HasWord, HasWords}
-use Rattle.cord_script.specs.Forms.{Effect, Term, word_of, terms_of}
+use Rattle.cord_script.specs.Forms.{Effect, Term, word_of, terms_of, effect_of}
 use Rattle.cord_script.specs.Script.{Scope, IsTerm, AreTerms, IsAllowed, AreAllowed, Suits}
 use Rattle.cord_script.specs.Script.{with_name, with_path, names_after, paths_after, blocks_after}
-use Rattle.cord_script.specs.inner.Verbal.{verb_word}
+use Rattle.cord_script.specs.inner.Verbal.{verb_word, verb_effect}
 
 -- what the lines before leave, what of the line is still to be read, and what its words add
 pub record LineView : Type 0 where
@@ -71,6 +71,7 @@ GivesAll a (t ∷ ts) b = (c : LineView) × Gives a t c × GivesAll c ts b
 -- a statement of the verb at the line, of the words that were read
 pub record IsBuilt (verb : Verb) (line : ℕ) (old new : LineView) (s : Statement) : Type 0 where
   pub word : word_of s ≡ verb_word verb
+  pub effect : effect_of s ≡ verb_effect verb
   pub numbered : line_of s ≡ line
   pub fields : GivesAll old (terms_of s) new
   pub suits : Suits s
@@ -89,5 +90,6 @@ pub record SaysLine (verb : Verb) (n : ℕ) (old new : LineView) (s : Statement)
   pub names : names_with old.scope.names new.name ≡ names_after (terms_of s) old.scope.names
   pub paths : paths_with old.scope.paths new.path ≡ paths_after (terms_of s) old.scope.paths
   pub word : word_of s ≡ verb_word verb
+  pub effect : effect_of s ≡ verb_effect verb
   pub line : line_of s ≡ n
   pub suits : Suits s

@@ -14,11 +14,7 @@ use Rattle.cord_script.specs.declared.verbs.Computation.TheVariants as computati
 use Rattle.cord_script.specs.declared.verbs.Look.TheVariants as looks
 use Rattle.cord_script.specs.declared.verbs.Search.TheVariants as searches
 use Rattle.cord_script.specs.declared.verbs.Control.TheVariants as controls
-use Rattle.cord_script.specs.declared.kinds.Kind.TheVariants as kinds
-use Rattle.cord_script.specs.declared.kinds.Want.{Want}
-use Rattle.cord_script.specs.declared.kinds.Want.TheVariants as wants
-use Rattle.cord_script.specs.Forms.{Effect, Shape, Form, form_of}
-use Rattle.cord_script.specs.Forms.Shape.{Words, Joined, Printed}
+use Rattle.cord_script.specs.Forms.{Effect, Form, form_of}
 use Rattle.cord_script.specs.Forms.Effect.{Stays, OpensRepeat, OpensIf, Turns, Closes}
 
 -- the word of a verb that has a fixed number of words
@@ -60,49 +56,6 @@ abbrev pub verb_word : Verb → List ℕ
 verb_word (verbs.Fixed verb) = fixed_word verb
 verb_word verbs.Catn = codes "catn"
 verb_word verbs.Sprintf = codes "sprintf"
-
--- what the words after it have to be, where their number is fixed
-abbrev pub fixed_wants : FixedVerb → List Want
-fixed_wants (fixed_verbs.Origin origins.Let) = wants.Target kinds.Cord ∷ wants.Text ∷ []
-fixed_wants (fixed_verbs.Origin origins.File) = wants.Target kinds.Cord ∷ wants.Path ∷ []
-fixed_wants (fixed_verbs.Origin origins.Eager) = wants.Target kinds.Cord ∷ wants.Path ∷ []
-fixed_wants (fixed_verbs.Origin origins.Lazy) = wants.Target kinds.Cord ∷ wants.Path ∷ []
-fixed_wants (fixed_verbs.Composition compositions.Chars) = wants.Target kinds.Cord ∷ wants.Number ∷ wants.Number ∷ []
-fixed_wants (fixed_verbs.Composition compositions.Nul) = wants.Target kinds.Cord ∷ wants.Number ∷ []
-fixed_wants (fixed_verbs.Origin origins.FromFn) = wants.Target kinds.Cord ∷ wants.Function ∷ wants.Number ∷ []
-fixed_wants (fixed_verbs.Composition compositions.Cat) = wants.Target kinds.Cord ∷ wants.Operand kinds.Cord ∷ wants.Operand kinds.Cord ∷ []
-fixed_wants (fixed_verbs.Composition compositions.Catc) = wants.Target kinds.Cord ∷ wants.Operand kinds.Cord ∷ wants.Number ∷ []
-fixed_wants (fixed_verbs.Composition compositions.Substr) =
-    wants.Target kinds.Cord ∷ wants.Operand kinds.Cord ∷ wants.Number ∷ wants.Number ∷ []
-fixed_wants (fixed_verbs.Derivation derivations.Balance) = wants.Target kinds.Cord ∷ wants.Operand kinds.Cord ∷ []
-fixed_wants (fixed_verbs.Derivation derivations.EcToCord) = wants.Target kinds.Cord ∷ wants.Operand kinds.Extensible ∷ []
-fixed_wants (fixed_verbs.Computation computations.Len) = wants.Target kinds.Number ∷ wants.Operand kinds.Cord ∷ []
-fixed_wants (fixed_verbs.Look looks.Fetch) = wants.Target kinds.Number ∷ wants.Operand kinds.Cord ∷ wants.Number ∷ []
-fixed_wants (fixed_verbs.Look looks.Cmp) = wants.Target kinds.Number ∷ wants.Operand kinds.Cord ∷ wants.Operand kinds.Cord ∷ []
-fixed_wants (fixed_verbs.Look looks.Ncmp) = wants.Target kinds.Number ∷ wants.Operand kinds.Cord ∷ wants.Number ∷ wants.Operand kinds.Cord
-    ∷ wants.Number ∷ wants.Number ∷ []
-fixed_wants (fixed_verbs.Search searches.Str) =
-    wants.Target kinds.Number ∷ wants.Operand kinds.Cord ∷ wants.Number ∷ wants.Operand kinds.Cord ∷ []
-fixed_wants (fixed_verbs.Search searches.Chr) = wants.Target kinds.Number ∷ wants.Operand kinds.Cord ∷ wants.Number ∷ wants.Number ∷ []
-fixed_wants (fixed_verbs.Search searches.Rchr) = wants.Target kinds.Number ∷ wants.Operand kinds.Cord ∷ wants.Number ∷ wants.Number ∷ []
-fixed_wants (fixed_verbs.Computation computations.Assign) = wants.Target kinds.Number ∷ wants.Number ∷ []
-fixed_wants (fixed_verbs.Computation computations.Add) = wants.Target kinds.Number ∷ wants.Number ∷ wants.Number ∷ []
-fixed_wants (fixed_verbs.Computation computations.Sub) = wants.Target kinds.Number ∷ wants.Number ∷ wants.Number ∷ []
-fixed_wants (fixed_verbs.Growth growths.EcInit) = wants.Target kinds.Extensible ∷ []
-fixed_wants (fixed_verbs.Growth growths.EcPut) = wants.Operand kinds.Extensible ∷ wants.Number ∷ []
-fixed_wants (fixed_verbs.Growth growths.EcCat) = wants.Operand kinds.Extensible ∷ wants.Operand kinds.Cord ∷ []
-fixed_wants (fixed_verbs.Growth growths.EcStr) = wants.Operand kinds.Extensible ∷ wants.Text ∷ []
-fixed_wants fixed_verbs.Put = wants.Operand kinds.Cord ∷ []
-fixed_wants (fixed_verbs.Control controls.Repeat) = wants.Number ∷ []
-fixed_wants (fixed_verbs.Control controls.If) = wants.Number ∷ wants.Relation ∷ wants.Number ∷ []
-fixed_wants (fixed_verbs.Control controls.Else) = []
-fixed_wants (fixed_verbs.Control controls.End) = []
-
--- the shape of the words after it
-abbrev pub verb_shape : Verb → Shape
-verb_shape (verbs.Fixed verb) = Words (fixed_wants verb)
-verb_shape verbs.Catn = Joined
-verb_shape verbs.Sprintf = Printed
 
 -- the verbs, in the order of the table of statements
 abbrev pub all_verbs : List Verb
@@ -175,7 +128,3 @@ fixed_effect _ = Stays
 abbrev pub verb_effect : Verb → Effect
 verb_effect (verbs.Fixed verb) = fixed_effect verb
 verb_effect _ = Stays
-
--- the form of the words after it
-abbrev pub verb_form : Verb → Form
-verb_form verb = record { shape = verb_shape verb; effect = verb_effect verb }

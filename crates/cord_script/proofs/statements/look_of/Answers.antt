@@ -9,6 +9,7 @@ use Rattle.cord_script.proofs.statements.look_of.Goals as goal
 pub returns-in_ok-target-in-Ncmp : goal.returns-in_ok-target-in-Ncmp
 returns-in_ok-target-in-Ncmp c = record {
   word = spelled Look c.in-Ncmp.is;
+  effect = refl;
   numbered = refl;
   fields = next_field (λ (p : (((List ℕ × List ℕ) × Number) × List ℕ) × Number). Target kinds.Number p.0.0.0.0
       ∷ Operand kinds.Cord p.0.0.0.1 ∷ Value p.0.0.1 ∷ Operand kinds.Cord p.0.1 ∷ Value p.1 ∷ []) Value _ _ _ _ _ _

@@ -9,6 +9,7 @@ use Rattle.cord_script.proofs.statements.origin_of.Goals as goal
 pub returns-in_ok-target-in-Let-2 : goal.returns-in_ok-target-in-Let-2
 returns-in_ok-target-in-Let-2 c = record {
   word = spelled Origin c.in-Let.is;
+  effect = refl;
   numbered = refl;
   fields = next_field (λ (name : List ℕ). Target kinds.Cord name ∷ []) Literal _ _ _ _ _ _ (one_field c.in_ok-target-in-Let.ensures.gave)
       c.in_ok-target-in-Let-2.ensures c.text.ensures;
@@ -18,6 +19,7 @@ returns-in_ok-target-in-Let-2 c = record {
 pub returns-in_ok-target-in-FromFn-2 : goal.returns-in_ok-target-in-FromFn-2
 returns-in_ok-target-in-FromFn-2 c = record {
   word = spelled Origin c.in-FromFn.is;
+  effect = refl;
   numbered = refl;
   fields = next_field (λ (p : List ℕ × Function). Target kinds.Cord p.0 ∷ Applies p.1 ∷ []) Value _ _ _ _ _ _
       (next_field (λ (name : List ℕ). Target kinds.Cord name ∷ []) Applies _ _ _ _ _ _ (one_field c.in_ok-target-in-FromFn.ensures.gave)

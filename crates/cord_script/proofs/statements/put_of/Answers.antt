@@ -5,6 +5,7 @@ use Rattle.cord_script.proofs.statements.put_of.Goals as goal
 pub returns : goal.returns
 returns c = record {
   word = refl;
+  effect = refl;
   numbered = refl;
   fields = one_field c.in_ok-operand.ensures;
   suits = tt;
