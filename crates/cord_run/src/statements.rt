@@ -84,14 +84,14 @@ fn serve_by_names<F: Files>(
     ensures counts { CountsReads (F.failures (device_in sources.old)) (F.failures (device_in sources.new)) result }
 {
     match statement.family() {
-        Family::Computation(computation) => assign_computed(alloc, store, statement, computation),
+        Family::Computation(computation) => assign_computed(store, statement, computation),
         Family::Look(look) => {
             let number = look_number(store, sources, look);
-            assign_found(alloc, store, statement, number)
+            assign_found(store, statement, number)
         }
         Family::Search(search) => {
             let number = search_number(store, sources, search);
-            assign_found(alloc, store, statement, number)
+            assign_found(store, statement, number)
         }
         Family::Growth(growth) => serve_growth(alloc, store, growth),
         _ => Ok(()),

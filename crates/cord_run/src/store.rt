@@ -47,9 +47,6 @@ pub(crate) struct Entry {
 #[derive(Drop)]
 pub(crate) struct Store {
     pub(crate) entries: Vec<Entry>,
-    // For each slot the place of a name of that slot: where it is another name's, the name is looked for. Empty before
-    // there is an entry.
-    guesses: Vec<u32>,
     // Tells the names that were fixed.
     marked: Option<Rc<Mark>>,
     ghost distinct: { are_distinct (names_in entries.items) ≡ true },
@@ -63,7 +60,6 @@ impl Store {
     {
         Store {
             entries: Vec::new(alloc),
-            guesses: Vec::new(alloc),
             marked: None,
         }
     }
@@ -74,7 +70,7 @@ impl Store {
         ensures some { IfSome result (IsEntryAt self.now.entries.items name.now) }
         ensures none { IfNone result (HasNoEntry self.now.entries.items name.now) }
     {
-        place_by(&self.entries, &self.guesses, name)
+        place_by(&self.entries, name)
     }
 
     /// The cord of a name, where it has one that isn't empty.
@@ -224,29 +220,19 @@ impl Store {
     }
 
     /// Gives a name of a cord its cord, or a length alone.
-    pub(crate) fn assign(
-        &mut self,
-        alloc: Global,
-        name: &Name,
-        content: Content,
-    ) -> Result<(), AllocError>
+    pub(crate) fn assign(&mut self, name: &Name, content: Content) -> Result<(), AllocError>
         ensures { IfOk result (λ _. HasContent name.now content self.old.entries.items self.new.entries.items) }
     {
-        let place = place_for(alloc, &mut self.entries, &mut self.guesses, name)?;
+        let place = place_for(&mut self.entries, name)?;
         set_content(&mut self.entries, place, content);
         Ok(())
     }
 
     /// Gives a name of a number its number.
-    pub(crate) fn assign_number(
-        &mut self,
-        alloc: Global,
-        name: &Name,
-        number: i64,
-    ) -> Result<(), AllocError>
+    pub(crate) fn assign_number(&mut self, name: &Name, number: i64) -> Result<(), AllocError>
         ensures { IfOk result (λ _. HasNumber name.now number self.old.entries.items self.new.entries.items) }
     {
-        let place = place_for(alloc, &mut self.entries, &mut self.guesses, name)?;
+        let place = place_for(&mut self.entries, name)?;
         set_number(&mut self.entries, place, number);
         Ok(())
     }
@@ -254,14 +240,13 @@ impl Store {
     /// Gives a name its extensible cord.
     pub(crate) fn assign_extensible(
         &mut self,
-        alloc: Global,
         name: &Name,
         extensible: ExtCord,
     ) -> Result<(), AllocError>
         ensures { IfOk result (λ _. HasExtensible name.now (Some extensible.text) self.old.entries.items
             self.new.entries.items) }
     {
-        let place = place_for(alloc, &mut self.entries, &mut self.guesses, name)?;
+        let place = place_for(&mut self.entries, name)?;
         let _ = set_extensible(&mut self.entries, name, place, Some(extensible));
         Ok(())
     }
@@ -279,7 +264,7 @@ impl Store {
         ensures too_long { result ≡ Err CordError.TooLong →
             MAX_LEN < length (cells_of (extensible_in self.old.entries.items name.now)) + length bytes.now }
     {
-        let place = place_for(alloc, &mut self.entries, &mut self.guesses, name)?;
+        let place = place_for(&mut self.entries, name)?;
         append_at(alloc, &mut self.entries, name, place, bytes)
     }
 

@@ -85,22 +85,22 @@ pub(crate) fn serve_target<F: Files>(
             Some(edit) => edit_in_place(alloc, store, target, made, edit),
             None => {
                 let cord = make(alloc, store, sources, made)?;
-                give(alloc, store, target, Content::Whole(cord))
+                give(store, target, Content::Whole(cord))
             }
         },
         Gets::Length => {
             let len = measure(alloc, store, sources, made, known)?;
-            give(alloc, store, target, Content::Long(len))
+            give(store, target, Content::Long(len))
         }
     }
 }
 
 // Gives a name what was made for it.
-fn give(alloc: Global, store: &mut Store, target: &Name, content: Content) -> Result<(), Stop>
+fn give(store: &mut Store, target: &Name, content: Content) -> Result<(), Stop>
     ensures has { IfOk result (λ _. HasContent target.now content store.old.entries.items store.new.entries.items) }
     ensures refused { IfErr result (λ stop. stop ≡ Stop.NoMemory) }
 {
-    store.assign(alloc, target, content)?;
+    store.assign(target, content)?;
     Ok(())
 }
 

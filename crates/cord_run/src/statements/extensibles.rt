@@ -65,7 +65,7 @@ fn begin(alloc: Global, store: &mut Store, name: &Name) -> Result<(), Stop>
     ensures becomes { Becomes name.now (λ t. []) store.old.entries.items store.new.entries.items result }
 {
     let extensible = ExtCord::new(alloc)?;
-    give(alloc, store, name, extensible)
+    give(store, name, extensible)
 }
 
 // Lets the extensible cord of a name grow by a byte.
@@ -101,7 +101,7 @@ fn grow_by_cord(alloc: Global, store: &mut Store, name: &Name, operand: &Name) -
     let empty = Cord::empty();
     let mut extensible = taken(alloc, store, name)?;
     match extensible.append_cord(alloc, cord_or(store, operand, &empty)) {
-        Ok(()) => give(alloc, store, name, extensible),
+        Ok(()) => give(store, name, extensible),
         Err(error) => Err(refusal(error)),
     }
 }
@@ -128,11 +128,11 @@ fn taken(alloc: Global, store: &mut Store, name: &Name) -> Result<ExtCord, Stop>
 }
 
 // Gives a name its extensible cord.
-fn give(alloc: Global, store: &mut Store, name: &Name, extensible: ExtCord) -> Result<(), Stop>
+fn give(store: &mut Store, name: &Name, extensible: ExtCord) -> Result<(), Stop>
     ensures has { IfOk result (λ _. HasExtensible name.now (Some extensible.text) store.old.entries.items
         store.new.entries.items) }
     ensures refused { IfErr result (λ stop. stop ≡ Stop.NoMemory) }
 {
-    store.assign_extensible(alloc, name, extensible)?;
+    store.assign_extensible(name, extensible)?;
     Ok(())
 }

@@ -25,11 +25,9 @@ use cord_io::Source;
 use cord_meaning::FaultKind;
 use cord_script::{Name, Number, Statement};
 use cord_syntax::{Computation, Look, Search};
-use std::alloc::Global;
 
 /// Gives the name that a statement assigns the number that was found for it.
 pub(crate) fn assign_found(
-    alloc: Global,
     store: &mut Store,
     statement: &Statement,
     number: Result<i64, Stop>,
@@ -43,7 +41,7 @@ pub(crate) fn assign_found(
     let number = number?;
     match statement.target() {
         None => Ok(()),
-        Some(target) => give_number(alloc, store, target, number),
+        Some(target) => give_number(store, target, number),
     }
 }
 
@@ -68,7 +66,6 @@ pub(crate) fn assign_at(
 
 /// Does what a statement means that computes a number.
 pub(crate) fn assign_computed(
-    alloc: Global,
     store: &mut Store,
     statement: &Statement,
     computation: Computation<'_>,
@@ -81,7 +78,7 @@ pub(crate) fn assign_computed(
     ensures counts { (n : ℕ) → CountsReads n n result }
 {
     let number = number_or_stop(computed_number(store, computation));
-    assign_found(alloc, store, statement, number)
+    assign_found(store, statement, number)
 }
 
 // The number that a computation gives.
@@ -269,10 +266,10 @@ pub(crate) fn difference(left: i64, right: i64) -> Result<i64, FaultKind>
 }
 
 // Gives a name of a number its number.
-fn give_number(alloc: Global, store: &mut Store, target: &Name, number: i64) -> Result<(), Stop>
+fn give_number(store: &mut Store, target: &Name, number: i64) -> Result<(), Stop>
     ensures has { IfOk result (λ _. HasNumber target.now number store.old.entries.items store.new.entries.items) }
     ensures refused { IfErr result (λ stop. stop ≡ Stop.NoMemory) }
 {
-    store.assign_number(alloc, target, number)?;
+    store.assign_number(target, number)?;
     Ok(())
 }
