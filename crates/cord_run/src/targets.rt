@@ -1,5 +1,4 @@
 //! Names that get what a plan makes for them: a cord, or a length alone.
-mod definitions;
 mod edits;
 mod files;
 mod literals;
@@ -23,7 +22,6 @@ ghost use Rattle.cord_run.specs.inner.Entries.{HasContent, IsOver, SameEntries};
 ghost use Rattle.cord_run.specs.inner.Extents.{extent_in};
 ghost use Rattle.cord_run.specs.inner.Holdings.{holding_of};
 ghost use Rattle.cord_run.specs.inner.Known.{IsExtent, IsKnown, StaysKnown};
-ghost use Rattle.cord_run.specs.inner.Definitions.{definition_view, fileless_view};
 ghost use Rattle.cord_run.specs.inner.Outcomes.{CountsReads, Gives};
 ghost use Rattle.cord_run.specs.inner.Targets.{target_operation};
 ghost use Rattle.cord_run.specs.inner.Frames.{KeepNoMore};
@@ -34,9 +32,8 @@ use crate::expressions::lengths::length_of;
 use crate::stops::Stop;
 use crate::store::cords::balanced;
 use crate::store::{Content, Store};
-use crate::targets::definitions::{Definition, Fileless, definition_of};
 use crate::targets::edits::{edit_in_place, edit_of};
-use crate::targets::files::{file_cord, opened_length};
+use crate::targets::files::{file_cord, file_of, opened_length};
 use crate::targets::literals::{literal, start, start_length};
 use crate::targets::prints::{print, print_length};
 use cord_core::Cord;
@@ -123,38 +120,38 @@ fn make<F: Files>(
     ensures counts { F.failures (device_in sources.new)
         ≡ count_after (has_failed result) (F.failures (device_in sources.old)) }
 {
-    match definition_of(made) {
-        Definition::OfFile { path, reading } => file_cord(alloc, sources, path, reading),
-        Definition::Fileless(made) => make_of_names(alloc, store, made),
+    match file_of(made) {
+        Some((path, reading)) => file_cord(alloc, sources, path, reading),
+        None => make_of_names(alloc, store, made),
     }
 }
 
 // The same of what needs no file.
-fn make_of_names(alloc: Global, store: &mut Store, made: Fileless<'_>) -> Result<Cord, Stop>
-    ensures built { IfOk result (IsMadeOfNames store.old.entries.items (fileless_view made.entry)) }
-    ensures refused { IfErr result (IsUnmadeOfNames store.old.entries.items (fileless_view made.entry)) }
+fn make_of_names(alloc: Global, store: &mut Store, made: &Made) -> Result<Cord, Stop>
+    requires { IsFileMade (made_view made.now) → ⊥ }
+    ensures built { IfOk result (IsMadeOfNames store.old.entries.items (made_view made.now)) }
+    ensures refused { IfErr result (IsUnmadeOfNames store.old.entries.items (made_view made.now)) }
     ensures same { IfOk result (λ _. SameEntries store.old.entries.items store.new.entries.items) }
 {
     match made {
-        Fileless::Joined(expression) => build(alloc, expression, store),
-        Fileless::Literal(text) => {
+        Made::Joined(expression) => build(alloc, expression, store),
+        Made::Literal(text) => {
             let cord = literal(alloc, text.as_slice())?;
             Ok(cord)
         }
-        Fileless::OfFunction { function, count } => start(alloc, function, store.value_of(count)),
-        Fileless::Balanced(name) => {
+        Made::OfFunction(function, count) => start(alloc, *function, store.value_of(count)),
+        Made::Balanced(name) => {
             let cord = balanced(alloc, store, name)?;
             Ok(cord)
         }
-        Fileless::OfExtensible(name) => {
+        Made::OfExtensible(name) => {
             let cord = store.extended(alloc, name)?;
             Ok(cord)
         }
-        Fileless::Printed {
-            format,
-            arguments,
-            ..
-        } => print(alloc, store, format, arguments.as_slice()),
+        Made::Printed(_, format, arguments) => {
+            print(alloc, store, format.as_ref(), arguments.as_ref().as_slice())
+        }
+        Made::OfFile(_) | Made::OfEager(_) | Made::OfLazy(_) => unreachable!(),
     }
 }
 
@@ -182,9 +179,12 @@ fn measure<F: Files>(
     ensures unread { OnErr result (opened_in sources.new ≡ opened_in sources.old) }
     ensures unbuilt { TakesNoMemory (made_view made.now) → result ≢ Err Stop.NoMemory }
 {
-    match definition_of(made) {
-        Definition::OfFile { path, .. } => opened_length(alloc, sources, path),
-        Definition::Fileless(made) => measure_of_names(alloc, store, made, known),
+    match file_of(made) {
+        Some((path, reading)) => {
+            let _ = reading;
+            opened_length(alloc, sources, path)
+        }
+        None => measure_of_names(alloc, store, made, known),
     }
 }
 
@@ -192,26 +192,26 @@ fn measure<F: Files>(
 fn measure_of_names(
     alloc: Global,
     store: &Store,
-    made: Fileless<'_>,
+    made: &Made,
     known: Option<u64>,
 ) -> Result<u64, Stop>
-    requires known { IfSome known (IsKnown store.now.entries.items (fileless_view made)) }
-    ensures extent { IfOk result (IsExtent store.now.entries.items (fileless_view made.entry)) }
-    ensures told { IfOk result (IsLengthOfNames store.now.entries.items (fileless_view made.entry)) }
-    ensures refused { IfErr result (IsUnmeasuredOfNames store.now.entries.items (fileless_view made.entry)) }
-    ensures unbuilt { TakesNoMemory (fileless_view made.entry) → result ≢ Err Stop.NoMemory }
+    requires fileless { IsFileMade (made_view made.now) → ⊥ }
+    requires known { IfSome known (IsKnown store.now.entries.items (made_view made.now)) }
+    ensures extent { IfOk result (IsExtent store.now.entries.items (made_view made.now)) }
+    ensures told { IfOk result (IsLengthOfNames store.now.entries.items (made_view made.now)) }
+    ensures refused { IfErr result (IsUnmeasuredOfNames store.now.entries.items (made_view made.now)) }
+    ensures unbuilt { TakesNoMemory (made_view made.now) → result ≢ Err Stop.NoMemory }
 {
     match made {
-        Fileless::Joined(expression) => length_or_stop(joined_length(expression, known, store)),
-        Fileless::Literal(text) => length_or_stop(as_length(text.as_slice().len() as u64)),
-        Fileless::OfFunction { count, .. } => length_or_stop(start_length(store.value_of(count))),
-        Fileless::Balanced(name) => length_or_stop(as_length(store.length_of(name))),
-        Fileless::OfExtensible(name) => length_or_stop(as_length(store.extended_length(name))),
-        Fileless::Printed {
-            format,
-            arguments,
-            ..
-        } => print_length(alloc, store, format, arguments.as_slice()),
+        Made::Joined(expression) => length_or_stop(joined_length(expression, known, store)),
+        Made::Literal(text) => length_or_stop(as_length(text.as_slice().len() as u64)),
+        Made::OfFunction(_, count) => length_or_stop(start_length(store.value_of(count))),
+        Made::Balanced(name) => length_or_stop(as_length(store.length_of(name))),
+        Made::OfExtensible(name) => length_or_stop(as_length(store.extended_length(name))),
+        Made::Printed(_, format, arguments) => {
+            print_length(alloc, store, format.as_ref(), arguments.as_ref().as_slice())
+        }
+        Made::OfFile(_) | Made::OfEager(_) | Made::OfLazy(_) => unreachable!(),
     }
 }
 

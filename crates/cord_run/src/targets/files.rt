@@ -1,8 +1,11 @@
 // Cords and lengths of files.
-ghost use Rattle.std.specs.Prelude.{◌≡◌, IfErr, IfOk, OnErr};
+ghost use Rattle.std.specs.Prelude.{◌≡◌, IfErr, IfNone, IfOk, IfSome, OnErr};
 ghost use Rattle.cord_io.specs.Device.{count_after};
 ghost use Rattle.cord_file.specs.Opening.{Grows};
 ghost use Rattle.cord_file.specs.Sources.{device_in, opened_in};
+ghost use Rattle.cord_plan.specs.Views.{made_view};
+ghost use Rattle.cord_run.specs.Failing.{IsFileMade};
+ghost use Rattle.cord_run.specs.inner.Definitions.{file_made};
 ghost use Rattle.cord_run.specs.inner.Contents.{IsFileAt, IsLengthAt, IsNoFileAt, has_failed};
 ghost use Rattle.cord_run.specs.inner.Frames.{KeepNoMore};
 
@@ -10,6 +13,7 @@ use crate::stops::Stop;
 use cord_core::Cord;
 use cord_file::Sources;
 use cord_io::Files;
+use cord_plan::Made;
 use cord_script::Path;
 use std::alloc::Global;
 
@@ -22,6 +26,24 @@ pub(crate) enum Reading {
     Eager,
     /// Nothing.
     Lazy,
+}
+
+/// The file that a name is made of, and how much of it is read before it is looked at. None where no file is needed.
+pub(crate) fn file_of(made: &Made) -> Option<(&Path, Reading)>
+    ensures some { IfSome result (λ file. file_made file.1 file.0.now ≡ made_view made.now) }
+    ensures none { IfNone result (IsFileMade (made_view made.now) → ⊥) }
+{
+    match made {
+        Made::OfFile(path) => Some((path, Reading::ByLength)),
+        Made::OfEager(path) => Some((path, Reading::Eager)),
+        Made::OfLazy(path) => Some((path, Reading::Lazy)),
+        Made::Joined(_)
+        | Made::Literal(_)
+        | Made::OfFunction(_, _)
+        | Made::Balanced(_)
+        | Made::OfExtensible(_)
+        | Made::Printed(_, _, _) => None,
+    }
 }
 
 /// The file at a path. Refused with `NoFile`, `TooLong`, `ReadFailed` or `NoMemory`.

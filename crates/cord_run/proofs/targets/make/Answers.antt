@@ -8,49 +8,47 @@ use Rattle.cord_plan.specs.Views.{made_view}
 use Rattle.cord_run.specs.Failing.{IsFileMade}
 use Rattle.cord_run.specs.inner.Failing.{FailsBy}
 use Rattle.cord_run.specs.inner.Contents.{IsMade, IsMadeOfNames, IsUnmade, IsUnmadeOfNames}
-use Rattle.cord_run.specs.inner.Definitions.{definition_view, file_made, fileless_view}
+use Rattle.cord_run.specs.inner.Definitions.{file_made}
 use Rattle.cord_run.proofs.Failures.{fails_reading, never_fails}
 use Rattle.cord_run.proofs.Files.{file_built, file_unbuilt, of_file}
 use Rattle.cord_run.proofs.TargetNames.{names_made, names_unmade, no_device}
 use Rattle.cord_run.proofs.targets.make.Goals as goal
 
-pub returns-in-OfFile : goal.returns-in-OfFile
-returns-in-OfFile g c =
+pub returns-in-Some : goal.returns-in-Some
+returns-in-Some g c =
     let old = opened_in c.args.sources.now in
     let new = opened_in c.file_cord.new.sources in
     let keeps : Folder → Type 0 = g.F.Files.keeps (device_in c.file_cord.new.sources) in
     let entries = c.args.store.now.entries.items in
     let r = c.file_cord.result in
     let told = c.file_cord.ensures in
-    let is : file_made c.in-OfFile.reading c.in-OfFile.path.now ≡ made_view c.args.made.now =
-    ap definition_view (sym c.in-OfFile.is) ∙ c.definition_of.ensures in
+    let is : file_made c.in-Some.reading c.in-Some.path.now ≡ made_view c.args.made.now = c.in-Some.ensures.some in
     record {
       built = subst (λ (m : Made). IfOk r (IsMade keeps old new entries m)) is
-          (file_built keeps old entries c.in-OfFile.reading c.in-OfFile.path.now new r told.made);
+          (file_built keeps old entries c.in-Some.reading c.in-Some.path.now new r told.made);
       refused = subst (λ (m : Made). IfErr r (IsUnmade keeps old entries m)) is
-          (file_unbuilt keeps old entries c.in-OfFile.reading c.in-OfFile.path.now r told.refused);
+          (file_unbuilt keeps old entries c.in-Some.reading c.in-Some.path.now r told.refused);
       same = search rules;
       earlier = told.earlier;
       grows = told.grows;
       fails = subst (λ (m : Made). IfErr r (FailsBy (IsFileMade m) ⊥)) is
-          (fails_reading _ _ ⊥ (of_file c.in-OfFile.reading c.in-OfFile.path.now) r told.refused);
+          (fails_reading _ _ ⊥ (of_file c.in-Some.reading c.in-Some.path.now) r told.refused);
       counts = told.counts;
     }
 
-pub returns-in-Fileless : goal.returns-in-Fileless
-returns-in-Fileless g c =
+pub returns-in-None : goal.returns-in-None
+returns-in-None g c =
     let s = c.args.sources.now in
     let keeps : Folder → Type 0 = g.F.Files.keeps (device_in s) in
     let told = as_long_as_told keeps s.entries.items s.sound.as_long in
     let entries = c.args.store.now.entries.items in
     let r = c.make_of_names.result in
     let made = made_view c.args.made.now in
-    let is : fileless_view c.in-Fileless.made ≡ made = ap definition_view (sym c.in-Fileless.is) ∙ c.definition_of.ensures in
     record {
       built = names_made keeps (opened_in s) told entries c.requires.over made r
-          (subst (λ (m : Made). IfOk r (IsMadeOfNames entries m)) is c.make_of_names.ensures.built);
+          c.make_of_names.ensures.built;
       refused = names_unmade keeps (opened_in s) told entries c.requires.over made r
-          (subst (λ (m : Made). IfErr r (IsUnmadeOfNames entries m)) is c.make_of_names.ensures.refused);
+          c.make_of_names.ensures.refused;
       same = c.make_of_names.ensures.same;
       earlier = λ folder agrees. agrees;
       grows = search rules;

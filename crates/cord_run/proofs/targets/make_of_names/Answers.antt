@@ -2,56 +2,55 @@ use Rattle.std.proofs.Common.{List, ℕ, ap, sym, ◌∙◌, FitsSigned, w64, to
 use Rattle.std.proofs.lemmas.Int.{to_z-of_z}
 use Rattle.cord_operands.specs.declared.operands.Argument.{Argument}
 use Rattle.cord_plan.specs.Planned as plan
-use Rattle.cord_plan.specs.Views.{expr_view}
-use Rattle.cord_run.specs.inner.Definitions.{fileless_view}
+use Rattle.cord_plan.specs.Views.{expr_view, made_view}
 use Rattle.cord_run.proofs.Definitions.{balanced_made, extensible_made, joined_made, joined_unmade, literal_made, printed_made}
 use Rattle.cord_run.proofs.Definitions.{printed_unmade}
 use Rattle.cord_run.proofs.Definitions.{start_made}
 use Rattle.cord_run.proofs.targets.make_of_names.Goals as goal
 
 pub returns-in-Joined-clause-built : goal.returns-in-Joined-clause-built
-returns-in-Joined-clause-built c = joined_made c.args.store.now.entries.items (fileless_view c.args.made)
-    (expr_view c.in-Joined.expression.now) (ap fileless_view c.in-Joined.is) c.build.result c.build.ensures.built
+returns-in-Joined-clause-built c = joined_made c.args.store.now.entries.items (made_view c.args.made.now)
+    (expr_view c.in-Joined.expression) (ap made_view c.in-Joined.is) c.build.result c.build.ensures.built
 
 pub returns-in-Joined-clause-refused : goal.returns-in-Joined-clause-refused
-returns-in-Joined-clause-refused c = joined_unmade c.args.store.now.entries.items (fileless_view c.args.made)
-    (expr_view c.in-Joined.expression.now) (ap fileless_view c.in-Joined.is) c.build.result c.build.ensures.refused
+returns-in-Joined-clause-refused c = joined_unmade c.args.store.now.entries.items (made_view c.args.made.now)
+    (expr_view c.in-Joined.expression) (ap made_view c.in-Joined.is) c.build.result c.build.ensures.refused
 
 pub returns-in_ok-cord-in-Literal-clause-built : goal.returns-in_ok-cord-in-Literal-clause-built
 returns-in_ok-cord-in-Literal-clause-built c =
-    literal_made c.args.store.now.entries.items (fileless_view c.args.made) c.as_slice.result.now
-    (ap fileless_view c.in-Literal.is ∙ ap (λ (text : List ℕ). plan.Literal text) (sym c.as_slice.ensures))
+    literal_made c.args.store.now.entries.items (made_view c.args.made.now) c.as_slice.result.now
+    (ap made_view c.in-Literal.is ∙ ap (λ (text : List ℕ). plan.Literal text) (sym c.as_slice.ensures))
     c.in_ok-cord-in-Literal.cord c.in_ok-cord-in-Literal.ensures.made
 
 pub returns-in-OfFunction-clause-built : goal.returns-in-OfFunction-clause-built
 returns-in-OfFunction-clause-built c =
     let fits : FitsSigned w64 c.value_of.result = search rules in
-    start_made c.args.store.now.entries.items (fileless_view c.args.made) c.in-OfFunction.function c.in-OfFunction.count.now
-    (ap fileless_view c.in-OfFunction.is)
+    start_made c.args.store.now.entries.items (made_view c.args.made.now) c.in-OfFunction.function c.in-OfFunction.count
+    (ap made_view c.in-OfFunction.is)
     (to_z w64 (of_z w64 c.value_of.result)) (to_z-of_z w64 c.value_of.result fits ∙ c.value_of.ensures) c.start.result c.start.ensures.made
 
 pub returns-in_ok-cord-in-Balanced-clause-built : goal.returns-in_ok-cord-in-Balanced-clause-built
 returns-in_ok-cord-in-Balanced-clause-built c =
-    balanced_made c.args.store.now.entries.items (fileless_view c.args.made) c.in-Balanced.name.now
-    (ap fileless_view c.in-Balanced.is)
+    balanced_made c.args.store.now.entries.items (made_view c.args.made.now) c.in-Balanced.name
+    (ap made_view c.in-Balanced.is)
     c.in_ok-cord-in-Balanced.cord c.in_ok-cord-in-Balanced.ensures.made
 
 pub returns-in_ok-cord-in-OfExtensible-clause-built : goal.returns-in_ok-cord-in-OfExtensible-clause-built
 returns-in_ok-cord-in-OfExtensible-clause-built c =
-    extensible_made c.args.store.now.entries.items (fileless_view c.args.made) c.in-OfExtensible.name.now
-    (ap fileless_view c.in-OfExtensible.is)
+    extensible_made c.args.store.now.entries.items (made_view c.args.made.now) c.in-OfExtensible.name
+    (ap made_view c.in-OfExtensible.is)
     c.in_ok-cord-in-OfExtensible.cord c.in_ok-cord-in-OfExtensible.ensures.made
 
 pub returns-in-Printed-clause-built : goal.returns-in-Printed-clause-built
 returns-in-Printed-clause-built c =
-    printed_made c.args.store.now.entries.items (fileless_view c.args.made) c.in-Printed.text.now c.in-Printed.format.now
+    printed_made c.args.store.now.entries.items (made_view c.args.made.now) c.in-Printed.text.now c.in-Printed.format.now
     c.as_slice-in-Printed.result.now
-    (ap fileless_view c.in-Printed.is ∙ ap (λ (list : List Argument). plan.Printed c.in-Printed.text.now c.in-Printed.format.now list)
+    (ap made_view c.in-Printed.is ∙ ap (λ (list : List Argument). plan.Printed c.in-Printed.text.now c.in-Printed.format.now list)
     (sym c.as_slice-in-Printed.ensures)) c.print.result c.print.ensures.made
 
 pub returns-in-Printed-clause-refused : goal.returns-in-Printed-clause-refused
 returns-in-Printed-clause-refused c =
-    printed_unmade c.args.store.now.entries.items (fileless_view c.args.made) c.in-Printed.text.now c.in-Printed.format.now
+    printed_unmade c.args.store.now.entries.items (made_view c.args.made.now) c.in-Printed.text.now c.in-Printed.format.now
     c.as_slice-in-Printed.result.now
-    (ap fileless_view c.in-Printed.is ∙ ap (λ (list : List Argument). plan.Printed c.in-Printed.text.now c.in-Printed.format.now list)
+    (ap made_view c.in-Printed.is ∙ ap (λ (list : List Argument). plan.Printed c.in-Printed.text.now c.in-Printed.format.now list)
     (sym c.as_slice-in-Printed.ensures)) c.print.result c.print.ensures.refused

@@ -2,46 +2,45 @@ use Rattle.std.proofs.Common.{List, ap, sym, ◌∙◌, FitsSigned, w64, to_z, o
 use Rattle.std.proofs.lemmas.Int.{to_z-of_z}
 use Rattle.cord_operands.specs.declared.operands.Argument.{Argument}
 use Rattle.cord_plan.specs.Planned as plan
-use Rattle.cord_plan.specs.Views.{expr_view}
-use Rattle.cord_run.specs.inner.Definitions.{fileless_view}
+use Rattle.cord_plan.specs.Views.{expr_view, made_view}
 use Rattle.cord_run.proofs.Definitions.{balanced_told, joined_told, joined_untold, printed_told, printed_untold, start_measured}
 use Rattle.cord_run.proofs.targets.measure_of_names.Goals as goal
 
 pub returns-in-Joined-clause-told : goal.returns-in-Joined-clause-told
 returns-in-Joined-clause-told c =
-    joined_told c.args.store.now.entries.items (fileless_view c.args.made) (expr_view c.in-Joined.expression.now)
-    (ap fileless_view c.in-Joined.is) c.joined_length.result c.joined_length.ensures c.length_or_stop.result c.length_or_stop.ensures.stops
+    joined_told c.args.store.now.entries.items (made_view c.args.made.now) (expr_view c.in-Joined.expression)
+    (ap made_view c.in-Joined.is) c.joined_length.result c.joined_length.ensures c.length_or_stop.result c.length_or_stop.ensures.stops
 
 pub returns-in-Joined-clause-refused : goal.returns-in-Joined-clause-refused
-returns-in-Joined-clause-refused c = joined_untold c.args.store.now.entries.items (fileless_view c.args.made)
-    (expr_view c.in-Joined.expression.now) (ap fileless_view c.in-Joined.is) c.joined_length.result c.joined_length.ensures
+returns-in-Joined-clause-refused c = joined_untold c.args.store.now.entries.items (made_view c.args.made.now)
+    (expr_view c.in-Joined.expression) (ap made_view c.in-Joined.is) c.joined_length.result c.joined_length.ensures
     c.length_or_stop.result c.length_or_stop.ensures.stops
 
 pub returns-in-OfFunction-clause-told : goal.returns-in-OfFunction-clause-told
 returns-in-OfFunction-clause-told c =
     let fits : FitsSigned w64 c.value_of.result = search rules in
-    start_measured c.args.store.now.entries.items (fileless_view c.args.made) c.in-OfFunction.function c.in-OfFunction.count.now
-    (ap fileless_view c.in-OfFunction.is)
+    start_measured c.args.store.now.entries.items (made_view c.args.made.now) c.in-OfFunction.function c.in-OfFunction.count
+    (ap made_view c.in-OfFunction.is)
     (to_z w64 (of_z w64 c.value_of.result)) (to_z-of_z w64 c.value_of.result fits ∙ c.value_of.ensures) c.start_length.result
     c.start_length.ensures c.length_or_stop-in-OfFunction.result c.length_or_stop-in-OfFunction.ensures.stops
 
 pub returns-in-Balanced-clause-told : goal.returns-in-Balanced-clause-told
 returns-in-Balanced-clause-told c =
-    balanced_told c.args.store.now.entries.items (fileless_view c.args.made) c.in-Balanced.name.now
-    (ap fileless_view c.in-Balanced.is)
+    balanced_told c.args.store.now.entries.items (made_view c.args.made.now) c.in-Balanced.name
+    (ap made_view c.in-Balanced.is)
     c.length_of.result c.length_of.ensures c.as_length-in-Balanced.result c.as_length-in-Balanced.ensures
     c.length_or_stop-in-Balanced.result c.length_or_stop-in-Balanced.ensures.stops
 
 pub returns-in-Printed-clause-told : goal.returns-in-Printed-clause-told
 returns-in-Printed-clause-told c =
-    printed_told c.args.store.now.entries.items (fileless_view c.args.made) c.in-Printed.text.now c.in-Printed.format.now
+    printed_told c.args.store.now.entries.items (made_view c.args.made.now) c.in-Printed.text.now c.in-Printed.format.now
     c.as_slice-in-Printed.result.now
-    (ap fileless_view c.in-Printed.is ∙ ap (λ (list : List Argument). plan.Printed c.in-Printed.text.now c.in-Printed.format.now list)
+    (ap made_view c.in-Printed.is ∙ ap (λ (list : List Argument). plan.Printed c.in-Printed.text.now c.in-Printed.format.now list)
     (sym c.as_slice-in-Printed.ensures)) c.print_length.result c.print_length.ensures.told
 
 pub returns-in-Printed-clause-refused : goal.returns-in-Printed-clause-refused
 returns-in-Printed-clause-refused c =
-    printed_untold c.args.store.now.entries.items (fileless_view c.args.made) c.in-Printed.text.now c.in-Printed.format.now
+    printed_untold c.args.store.now.entries.items (made_view c.args.made.now) c.in-Printed.text.now c.in-Printed.format.now
     c.as_slice-in-Printed.result.now
-    (ap fileless_view c.in-Printed.is ∙ ap (λ (list : List Argument). plan.Printed c.in-Printed.text.now c.in-Printed.format.now list)
+    (ap made_view c.in-Printed.is ∙ ap (λ (list : List Argument). plan.Printed c.in-Printed.text.now c.in-Printed.format.now list)
     (sym c.as_slice-in-Printed.ensures)) c.print_length.result c.print_length.ensures.refused
