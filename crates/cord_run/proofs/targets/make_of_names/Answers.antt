@@ -1,6 +1,7 @@
 use Rattle.std.proofs.Common.{List, ℕ, ap, sym, ◌∙◌, FitsSigned, w64, to_z, of_z, rules}
 use Rattle.std.proofs.lemmas.Int.{to_z-of_z}
 use Rattle.cord_operands.specs.declared.operands.Argument.{Argument}
+use Rattle.cord_printf.specs.declared.pieces.Piece.{Piece}
 use Rattle.cord_plan.specs.Planned as plan
 use Rattle.cord_plan.specs.Views.{expr_view, made_view}
 use Rattle.cord_run.proofs.Definitions.{balanced_made, extensible_made, joined_made, joined_unmade, literal_made, printed_made}
@@ -43,14 +44,16 @@ returns-in_ok-cord-in-OfExtensible-clause-built c =
 
 pub returns-in-Printed-clause-built : goal.returns-in-Printed-clause-built
 returns-in-Printed-clause-built c =
-    printed_made c.args.store.now.entries.items (made_view c.args.made.now) c.in-Printed.text.now c.in-Printed.format.now
-    c.as_slice-in-Printed.result.now
-    (ap made_view c.in-Printed.is ∙ ap (λ (list : List Argument). plan.Printed c.in-Printed.text.now c.in-Printed.format.now list)
-    (sym c.as_slice-in-Printed.ensures)) c.print.result c.print.ensures.made
+    printed_made c.args.store.now.entries.items (made_view c.args.made.now) c.in-Printed.field-0 c.as_ref.result.now c.as_slice-in-Printed.result.now
+    (ap made_view c.in-Printed.is
+    ∙ ap (λ (pieces : List Piece). plan.Printed c.in-Printed.field-0 pieces c.in-Printed.arguments) (sym c.as_ref.ensures)
+    ∙ ap (λ (list : List Argument). plan.Printed c.in-Printed.field-0 c.as_ref.result.now list)
+    (sym (c.as_slice-in-Printed.ensures ∙ c.as_ref-in-Printed.ensures))) c.print.result c.print.ensures.made
 
 pub returns-in-Printed-clause-refused : goal.returns-in-Printed-clause-refused
 returns-in-Printed-clause-refused c =
-    printed_unmade c.args.store.now.entries.items (made_view c.args.made.now) c.in-Printed.text.now c.in-Printed.format.now
-    c.as_slice-in-Printed.result.now
-    (ap made_view c.in-Printed.is ∙ ap (λ (list : List Argument). plan.Printed c.in-Printed.text.now c.in-Printed.format.now list)
-    (sym c.as_slice-in-Printed.ensures)) c.print.result c.print.ensures.refused
+    printed_unmade c.args.store.now.entries.items (made_view c.args.made.now) c.in-Printed.field-0 c.as_ref.result.now c.as_slice-in-Printed.result.now
+    (ap made_view c.in-Printed.is
+    ∙ ap (λ (pieces : List Piece). plan.Printed c.in-Printed.field-0 pieces c.in-Printed.arguments) (sym c.as_ref.ensures)
+    ∙ ap (λ (list : List Argument). plan.Printed c.in-Printed.field-0 c.as_ref.result.now list)
+    (sym (c.as_slice-in-Printed.ensures ∙ c.as_ref-in-Printed.ensures))) c.print.result c.print.ensures.refused

@@ -1,6 +1,7 @@
 use Rattle.std.proofs.Common.{List, ap, sym, ◌∙◌, FitsSigned, w64, to_z, of_z, rules}
 use Rattle.std.proofs.lemmas.Int.{to_z-of_z}
 use Rattle.cord_operands.specs.declared.operands.Argument.{Argument}
+use Rattle.cord_printf.specs.declared.pieces.Piece.{Piece}
 use Rattle.cord_plan.specs.Planned as plan
 use Rattle.cord_plan.specs.Views.{expr_view, made_view}
 use Rattle.cord_run.proofs.Definitions.{balanced_told, joined_told, joined_untold, printed_told, printed_untold, start_measured}
@@ -19,7 +20,7 @@ returns-in-Joined-clause-refused c = joined_untold c.args.store.now.entries.item
 pub returns-in-OfFunction-clause-told : goal.returns-in-OfFunction-clause-told
 returns-in-OfFunction-clause-told c =
     let fits : FitsSigned w64 c.value_of.result = search rules in
-    start_measured c.args.store.now.entries.items (made_view c.args.made.now) c.in-OfFunction.function c.in-OfFunction.count
+    start_measured c.args.store.now.entries.items (made_view c.args.made.now) c.in-OfFunction.field-0 c.in-OfFunction.count
     (ap made_view c.in-OfFunction.is)
     (to_z w64 (of_z w64 c.value_of.result)) (to_z-of_z w64 c.value_of.result fits ∙ c.value_of.ensures) c.start_length.result
     c.start_length.ensures c.length_or_stop-in-OfFunction.result c.length_or_stop-in-OfFunction.ensures.stops
@@ -33,14 +34,16 @@ returns-in-Balanced-clause-told c =
 
 pub returns-in-Printed-clause-told : goal.returns-in-Printed-clause-told
 returns-in-Printed-clause-told c =
-    printed_told c.args.store.now.entries.items (made_view c.args.made.now) c.in-Printed.text.now c.in-Printed.format.now
-    c.as_slice-in-Printed.result.now
-    (ap made_view c.in-Printed.is ∙ ap (λ (list : List Argument). plan.Printed c.in-Printed.text.now c.in-Printed.format.now list)
-    (sym c.as_slice-in-Printed.ensures)) c.print_length.result c.print_length.ensures.told
+    printed_told c.args.store.now.entries.items (made_view c.args.made.now) c.in-Printed.field-0 c.as_ref.result.now c.as_slice-in-Printed.result.now
+    (ap made_view c.in-Printed.is
+    ∙ ap (λ (pieces : List Piece). plan.Printed c.in-Printed.field-0 pieces c.in-Printed.arguments) (sym c.as_ref.ensures)
+    ∙ ap (λ (list : List Argument). plan.Printed c.in-Printed.field-0 c.as_ref.result.now list)
+    (sym (c.as_slice-in-Printed.ensures ∙ c.as_ref-in-Printed.ensures))) c.print_length.result c.print_length.ensures.told
 
 pub returns-in-Printed-clause-refused : goal.returns-in-Printed-clause-refused
 returns-in-Printed-clause-refused c =
-    printed_untold c.args.store.now.entries.items (made_view c.args.made.now) c.in-Printed.text.now c.in-Printed.format.now
-    c.as_slice-in-Printed.result.now
-    (ap made_view c.in-Printed.is ∙ ap (λ (list : List Argument). plan.Printed c.in-Printed.text.now c.in-Printed.format.now list)
-    (sym c.as_slice-in-Printed.ensures)) c.print_length.result c.print_length.ensures.refused
+    printed_untold c.args.store.now.entries.items (made_view c.args.made.now) c.in-Printed.field-0 c.as_ref.result.now c.as_slice-in-Printed.result.now
+    (ap made_view c.in-Printed.is
+    ∙ ap (λ (pieces : List Piece). plan.Printed c.in-Printed.field-0 pieces c.in-Printed.arguments) (sym c.as_ref.ensures)
+    ∙ ap (λ (list : List Argument). plan.Printed c.in-Printed.field-0 c.as_ref.result.now list)
+    (sym (c.as_slice-in-Printed.ensures ∙ c.as_ref-in-Printed.ensures))) c.print_length.result c.print_length.ensures.refused
