@@ -1,4 +1,4 @@
-use Rattle.std.proofs.Common.{◌≡◌, rules, sym, ap, subst, ◌∙◌}
+use Rattle.std.proofs.Common.{◌≡◌, rules, subst}
 use Rattle.std.specs.Prelude.{IfOk, IfErr}
 use Rattle.cord_io.specs.Device.{Folder}
 use Rattle.cord_file.specs.Files.{as_long_as_told}
@@ -7,7 +7,7 @@ use Rattle.cord_plan.specs.Planned.{Made}
 use Rattle.cord_plan.specs.Views.{made_view}
 use Rattle.cord_run.specs.Failing.{IsFileMade}
 use Rattle.cord_run.specs.inner.Failing.{FailsBy}
-use Rattle.cord_run.specs.inner.Contents.{IsMade, IsMadeOfNames, IsUnmade, IsUnmadeOfNames}
+use Rattle.cord_run.specs.inner.Contents.{IsMade, IsUnmade}
 use Rattle.cord_run.specs.inner.Definitions.{file_made}
 use Rattle.cord_run.proofs.Failures.{fails_reading, never_fails}
 use Rattle.cord_run.proofs.Files.{file_built, file_unbuilt, of_file}

@@ -1,4 +1,4 @@
-use Rattle.std.proofs.Common.{◌≡◌, rules, sym, ap, subst, ◌∙◌}
+use Rattle.std.proofs.Common.{◌≡◌, rules, sym, subst}
 use Rattle.std.specs.Prelude.{IfOk, IfErr}
 use Rattle.cord_io.specs.Device.{Folder}
 use Rattle.cord_file.specs.Files.{as_long_as_told}
@@ -7,9 +7,8 @@ use Rattle.cord_plan.specs.Planned.{Made}
 use Rattle.cord_plan.specs.Views.{made_view}
 use Rattle.cord_run.specs.Failing.{IsFileMade}
 use Rattle.cord_run.specs.inner.Failing.{FailsBy}
-use Rattle.cord_run.specs.inner.Contents.{IsLength, IsLengthOfNames, IsUnmeasured, IsUnmeasuredOfNames, TakesNoMemory}
+use Rattle.cord_run.specs.inner.Contents.{IsLength, IsUnmeasured, TakesNoMemory}
 use Rattle.cord_run.specs.inner.Definitions.{file_made}
-use Rattle.cord_run.specs.inner.Known.{IsExtent}
 use Rattle.cord_run.proofs.Failures.{fails_reading, never_fails}
 use Rattle.cord_run.proofs.Files.{file_measured, file_unmeasured, of_file, takes_memory}
 use Rattle.cord_run.proofs.Known.{file_extent}
