@@ -17,15 +17,12 @@ use Rattle.cord_plan.specs.Views.{Shared, members_of, shared_view}
 use Rattle.cord_run.specs.declared.store.Content.TheVariants.{Long}
 use Rattle.cord_run.specs.declared.store.Entry.{Entry}
 use Rattle.cord_run.specs.declared.stops.Stop.{Stop}
-use Rattle.cord_run.specs.declared.targets.Gets.{Gets}
-use Rattle.cord_run.specs.declared.targets.Gets.TheVariants as gets
 use Rattle.cord_run.specs.declared.targets.files.Reading.{Reading}
 use Rattle.cord_run.specs.declared.targets.files.Reading.TheVariants.{ByLength, Eager, Lazy}
 use Rattle.cord_run.specs.inner.Definitions.{file_made}
 use Rattle.cord_run.specs.inner.Entries.{HasContent, content_in, content_length, length_in, operand_in}
 use Rattle.cord_run.specs.inner.Extents.{extent_in, members_extent}
 use Rattle.cord_run.specs.inner.Known.{EndsInName, IsExtent, IsKnownAt, IsKnownOf, Measures, StaysKnown}
-use Rattle.cord_run.specs.inner.Targets.{target_operation}
 use Rattle.cord_run.proofs.Fronts.{added, extent_both}
 use Rattle.cord_run.proofs.Lengths.{Both, both, length_passed}
 use Rattle.cord_run.proofs.Members.{counted_length}
@@ -94,11 +91,10 @@ module _ (old new : List Entry) (x : List ℕ) (len : ℕ) (has : HasContent x (
   measured_stays line made is = tt
 
 -- the same of an operation that may have failed
-pub length_stays : (old new : List Entry) (x : List ℕ) (made : Made) (k : Gets) (len : ℕ) → k ≡ gets.Length → IsExtent old made len →
-    (r : Result (Unit {0}) Stop) → IfOk r (λ _. HasContent x (Long len) old new) → IfOk r (λ _. StaysKnown new (target_operation k x made))
-length_stays old new x made k len is extent (Ok u) has =
-    subst (λ (g : Gets). StaysKnown new (target_operation g x made)) (sym is) (measured_stays old new x len has 0 made extent)
-length_stays old new x made k len is extent (Err stop) has = tt
+pub length_stays : (old new : List Entry) (x : List ℕ) (made : Made) (len : ℕ) → IsExtent old made len →
+    (r : Result (Unit {0}) Stop) → IfOk r (λ _. HasContent x (Long len) old new) → IfOk r (λ _. StaysKnown new (Measure 0 x made))
+length_stays old new x made len extent (Ok u) has = measured_stays old new x len has 0 made extent
+length_stays old new x made len extent (Err stop) has = tt
 
 -- ---- an operation that joins a name more
 -- the last member

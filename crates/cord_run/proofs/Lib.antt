@@ -15,6 +15,8 @@ pub mod Parts
 pub mod Output
 pub mod Failures
 pub mod Operations
+pub mod Steps
+pub mod Blank
 pub mod Branches
 pub mod Loop
 pub mod Lines
@@ -37,7 +39,6 @@ pub mod Extensibles
 pub mod Windows
 pub mod Appends
 pub mod Writes
-pub mod Resolution
 pub mod Slices
 pub mod ShortTexts
 pub mod Paths

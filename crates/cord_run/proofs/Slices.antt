@@ -1,6 +1,5 @@
 -- Texts that are slices of memory.
-use Rattle.std.proofs.Common.{◌≡◌, ℕ, List, Result, Ok, sym, ap, subst, ◌∙◌}
-use Rattle.std.proofs.lemmas.Option.{same_Some}
+use Rattle.std.proofs.Common.{◌≡◌, ℕ, List, Result, Ok, sym, ap, ◌∙◌}
 use Rattle.std.specs.Prelude.{IfNone, IfSome, Option, Some, None}
 use Rattle.cord_io.specs.declared.TheConstants.{MAX_LEN}
 use Rattle.cord_operands.specs.declared.operands.Number.{Number}
@@ -18,11 +17,6 @@ use Rattle.cord_run.proofs.Lengths.{content_text, operand_value}
 pub still_some : {A : Type 0} {P Q : A → Type 0} (o : Option A) → ((a : A) → P a → Q a) → IfSome o P → IfSome o Q
 still_some (Some a) f p = f a p
 still_some None f p = tt
-
--- what is said of the one that there is
-pub some_is : {A : Type 0} (P : A → Type 0) (o : Option A) (a : A) → o ≡ Some a → IfSome o P → P a
-some_is P None a is h = let bad : ⊥ = cc in absurd bad
-some_is P (Some b) a is h = subst P (same_Some b a is) h
 
 pub still_none : {A : Type 0} {P Q : Type 0} (o : Option A) → (P → Q) → IfNone o P → IfNone o Q
 still_none (Some a) f p = tt

@@ -97,6 +97,7 @@ impl Control {
     }
 
     /// Goes to another place, in the same blocks.
+    #[inline(always)]
     pub(crate) fn go_to(&mut self, place: usize)
         ensures { where_of self.new ≡ record (where_of self.old) { place = place } }
     {
@@ -104,6 +105,7 @@ impl Control {
     }
 
     // Opens a block, for a statement at a line.
+    #[inline(always)]
     fn open(&mut self, line: u32, block: Open) -> Result<(), ControlStop>
         ensures opened { IfOk result (λ _. where_of self.new
             ≡ record (where_of self.old) { blocks = block_view block ∷ (where_of self.old).blocks }) }
@@ -121,6 +123,7 @@ impl Control {
     }
 
     // Begins a turn of the `repeat` at a place, if the loops of the run may begin one more.
+    #[inline(always)]
     fn begin(&mut self, place: usize, line: u32, left: u64) -> Result<(), ControlStop>
         ensures { Goes (begun MAX_TURNS (where_of self.old) place line left (where_of self.old).blocks) (λ l. l ≡ line)
             (where_of self.new) result }
@@ -136,6 +139,7 @@ impl Control {
     }
 
     /// A `repeat` that read this number; `exit` is the place after its `end`.
+    #[inline(always)]
     pub(crate) fn repeat(&mut self, line: u32, exit: usize, count: i64) -> Result<(), ControlStop>
         ensures { Goes (repeated MAX_TURNS (where_of self.old) line exit count) (λ l. l ≡ line)
             (where_of self.new) result }
@@ -151,6 +155,7 @@ impl Control {
     }
 
     /// An `if`; `other` is the place after its `else`, or of its `end`.
+    #[inline(always)]
     pub(crate) fn choose(&mut self, line: u32, other: usize, holds: bool) -> Result<(), ControlStop>
         ensures { Goes (Ok (chosen (where_of self.old) other holds)) (λ l. l ≡ line) (where_of self.new) result }
     {
@@ -161,6 +166,7 @@ impl Control {
     }
 
     /// An `end`: closes the innermost open block, or begins its next turn.
+    #[inline(always)]
     pub(crate) fn close(&mut self) -> Result<(), ControlStop>
         requires { (where_of self.old).place < 2 ^ 64 - 1 }
         ensures { Goes (closed MAX_TURNS (where_of self.old) (where_of self.old).blocks)
@@ -182,6 +188,7 @@ impl Control {
     }
 
     // Begins the next turn of the innermost block, the `repeat` at a place.
+    #[inline(always)]
     fn begin_next(&mut self, place: usize, line: u32, left: u64) -> Result<(), ControlStop>
         ensures { Goes (begun MAX_TURNS (where_of self.old) place line left
             (map block_view (reverse self.old.outer.items))) (λ l. l ≡ line) (where_of self.new) result }
@@ -197,6 +204,7 @@ impl Control {
     }
 
     // Goes on after the innermost block.
+    #[inline(always)]
     fn leave(&mut self)
         requires { self.old.place < 2 ^ 64 - 1 }
         ensures { where_of self.new ≡ record {

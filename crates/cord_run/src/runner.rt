@@ -1,7 +1,6 @@
 //! Runs plans, and scripts by their plans: steps through the operations, what each of them does, and the end.
 mod ends;
 mod known;
-mod operations;
 mod steps;
 
 ghost use Rattle.std.specs.Prelude.{◌≡◌, ◌≢◌, ◌<◌, ◌-◌, ◌^◌, IfOk, IfErr, OnErr, List, ℕ, map};

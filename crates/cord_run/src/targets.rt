@@ -23,12 +23,11 @@ ghost use Rattle.cord_run.specs.inner.Extents.{extent_in};
 ghost use Rattle.cord_run.specs.inner.Holdings.{holding_of};
 ghost use Rattle.cord_run.specs.inner.Known.{IsExtent, IsKnown, StaysKnown};
 ghost use Rattle.cord_run.specs.inner.Outcomes.{CountsReads, Gives};
-ghost use Rattle.cord_run.specs.inner.Targets.{target_operation};
 ghost use Rattle.cord_run.specs.inner.Frames.{KeepNoMore};
 
 use crate::checks::as_length;
 use crate::expressions::build;
-use crate::expressions::lengths::length_of;
+use crate::expressions::lengths::measured;
 use crate::stops::Stop;
 use crate::store::cords::balanced;
 use crate::store::{Content, Store};
@@ -44,52 +43,59 @@ use cord_plan::{Expr, Made};
 use cord_script::Name;
 use std::alloc::Global;
 
-/// What a name gets of what it is made of.
-#[derive(Clone, Copy)]
-pub(crate) enum Gets {
-    /// The cord.
-    Cord,
-    /// Its length alone: no cord is made, but a file is opened.
-    Length,
+/// Gives a name the cord of what it is made of. Refused with the fault that this means, with `ReadFailed` where the files
+/// failed, or with `NoMemory`.
+pub(crate) fn give_cord<F: Files>(
+    alloc: Global,
+    store: &mut Store,
+    sources: &mut Sources<F>,
+    target: &Name,
+    made: &Made,
+) -> Result<(), Stop>
+    requires over { IsOver (lengths_in (opened_in sources.old)) store.old.entries.items }
+    ensures over { IfOk result (λ _. IsOver (lengths_in (opened_in sources.new)) store.new.entries.items) }
+    ensures earlier { KeepNoMore ⟦<F as Files>⟧ (device_in sources.old) (device_in sources.new) }
+    ensures gives { (folder : Folder) → F.keeps (device_in sources.new) folder → Gives
+        (does MAX_LEN folder (plan.Build 0 target.now (made_view made.now))
+        (holding_of (table_in (opened_in sources.old) folder) store.old.entries.items))
+        (holding_of (table_in (opened_in sources.new) folder) store.new.entries.items) result }
+    ensures fails { IfErr result (FailsIn (plan.Build 0 target.now (made_view made.now))) }
+    ensures counts { CountsReads (F.failures (device_in sources.old)) (F.failures (device_in sources.new)) result }
+{
+    match edit_of(target, made, store) {
+        Some(edit) => edit_in_place(alloc, store, target, made, edit),
+        None => {
+            let cord = make(alloc, store, sources, made)?;
+            give(store, target, Content::Whole(cord))
+        }
+    }
 }
 
-/// Gives a name what it gets of what it is made of; a length that is known isn't measured. Refused with the fault that
-/// this means, with `ReadFailed` where the files failed, or with `NoMemory`.
-pub(crate) fn serve_target<F: Files>(
+/// Gives a name the length alone of what it is made of; a length that is known isn't measured. Refused so too.
+#[inline(always)]
+pub(crate) fn give_length<F: Files>(
     alloc: Global,
     store: &mut Store,
     sources: &mut Sources<F>,
     target: &Name,
     made: &Made,
     known: Option<u64>,
-    gets: Gets,
 ) -> Result<(), Stop>
     requires over { IsOver (lengths_in (opened_in sources.old)) store.old.entries.items }
     requires known { IfSome known (IsKnown store.old.entries.items (made_view made.now)) }
     ensures stays { IfOk result (λ _. StaysKnown store.new.entries.items
-        (target_operation gets target.now (made_view made.now))) }
+        (plan.Measure 0 target.now (made_view made.now))) }
     ensures over { IfOk result (λ _. IsOver (lengths_in (opened_in sources.new)) store.new.entries.items) }
     ensures earlier { KeepNoMore ⟦<F as Files>⟧ (device_in sources.old) (device_in sources.new) }
     ensures gives { (folder : Folder) → F.keeps (device_in sources.new) folder → Gives
-        (does MAX_LEN folder (target_operation gets target.now (made_view made.now))
+        (does MAX_LEN folder (plan.Measure 0 target.now (made_view made.now))
         (holding_of (table_in (opened_in sources.old) folder) store.old.entries.items))
         (holding_of (table_in (opened_in sources.new) folder) store.new.entries.items) result }
-    ensures fails { IfErr result (FailsIn (target_operation gets target.now (made_view made.now))) }
+    ensures fails { IfErr result (FailsIn (plan.Measure 0 target.now (made_view made.now))) }
     ensures counts { CountsReads (F.failures (device_in sources.old)) (F.failures (device_in sources.new)) result }
 {
-    match gets {
-        Gets::Cord => match edit_of(target, made, store) {
-            Some(edit) => edit_in_place(alloc, store, target, made, edit),
-            None => {
-                let cord = make(alloc, store, sources, made)?;
-                give(store, target, Content::Whole(cord))
-            }
-        },
-        Gets::Length => {
-            let len = measure(alloc, store, sources, made, known)?;
-            give(store, target, Content::Long(len))
-        }
-    }
+    let len = measure(alloc, store, sources, made, known)?;
+    give_long(store, target, len)
 }
 
 // Gives a name what was made for it.
@@ -98,6 +104,17 @@ fn give(store: &mut Store, target: &Name, content: Content) -> Result<(), Stop>
     ensures refused { IfErr result (λ stop. stop ≡ Stop.NoMemory) }
 {
     store.assign(target, content)?;
+    Ok(())
+}
+
+// Gives a name a length alone.
+#[inline(always)]
+fn give_long(store: &mut Store, target: &Name, len: u64) -> Result<(), Stop>
+    ensures has { IfOk result (λ _. HasContent target.now (Content.Long len) store.old.entries.items
+        store.new.entries.items) }
+    ensures refused { IfErr result (λ stop. stop ≡ Stop.NoMemory) }
+{
+    store.assign_length(target, len)?;
     Ok(())
 }
 
@@ -157,6 +174,7 @@ fn make_of_names(alloc: Global, store: &mut Store, made: &Made) -> Result<Cord, 
 
 // Tells the length for a name. No cord is made: memory is wanted for what is printed alone. A file is opened and not
 // read: after a refusal no file more is open.
+#[inline(always)]
 fn measure<F: Files>(
     alloc: Global,
     store: &Store,
@@ -189,6 +207,7 @@ fn measure<F: Files>(
 }
 
 // The same of what needs no file.
+#[inline(always)]
 fn measure_of_names(
     alloc: Global,
     store: &Store,
@@ -216,17 +235,19 @@ fn measure_of_names(
 }
 
 // The length of an expression, or its fault. It is measured where it isn't known.
+#[inline(always)]
 fn joined_length(expression: &Expr, known: Option<u64>, store: &Store) -> Result<u64, FaultKind>
     requires { IfSome known (IsKnown store.now.entries.items (plan.Joined (expr_view expression.now))) }
     ensures { result ≡ extent_in store.now.entries.items (expr_view expression.now) }
 {
     match known {
         Some(len) => as_length(len),
-        None => length_of(expression, store),
+        None => measured(expression, store),
     }
 }
 
 // A length or a fault, as a run has it.
+#[inline(always)]
 fn length_or_stop(length: Result<u64, FaultKind>) -> Result<u64, Stop>
     ensures stops { result ≡ length_or_stop length }
     ensures unbuilt { result ≢ Err Stop.NoMemory }

@@ -1,17 +1,13 @@
 // Where `repeat`, `if`, `else` and `end` lead.
-ghost use Rattle.std.specs.Prelude.{◌≡◌, ◌-◌, ◌^◌, ◌<◌, IfNone, IfSome};
+ghost use Rattle.std.specs.Prelude.{get_or, ◌≡◌, ◌+◌, ◌-◌, ◌^◌, ◌<◌, IfNone, IfSome};
 ghost use Rattle.cord_meaning.specs.Blocks.{Simple};
-ghost use Rattle.cord_meaning.specs.Statements.{compares};
-ghost use Rattle.cord_plan.specs.Meaning.{operation_shape};
-ghost use Rattle.cord_plan.specs.Planned as plan;
-ghost use Rattle.cord_plan.specs.Views.{operation_view};
+ghost use Rattle.cord_meaning.specs.Statements.{compares, shape_of};
 ghost use Rattle.cord_run.specs.inner.Controls.{Goes, statement_at, where_of};
 ghost use Rattle.cord_run.specs.inner.Steps.{IsRefusedAt, goal_of};
 
-use crate::control::{Control, ControlStop};
+use crate::control::{Control, ControlStop, exit_at};
 use crate::store::Store;
-use cord_plan::Operation;
-use cord_script::Relation;
+use cord_script::{Relation, Statement};
 use cord_syntax::{Control as ControlStatement, Family};
 
 /// A statement that leads the run, with the number of its line.
@@ -21,54 +17,56 @@ pub(crate) struct ControlLine<'a> {
     pub(crate) statement: ControlStatement<'a>,
 }
 
-/// The statement of an operation that is control.
+/// What leads the run, where a statement does.
 #[inline(always)]
-pub(crate) fn control_of(operation: &Operation) -> Option<ControlLine<'_>>
-    ensures kept { IfSome result (λ at. operation_view operation.now ≡ plan.Keep (statement_at at)) }
-    ensures simple { IfNone result (operation_shape (operation_view operation.now) ≡ Simple) }
+pub(crate) fn control_of(statement: &Statement) -> Option<ControlLine<'_>>
+    ensures control { IfSome result (λ at. statement.now ≡ statement_at at) }
+    ensures simple { IfNone result (shape_of statement.now ≡ Simple) }
 {
-    match operation {
-        Operation::Keep(statement) => match statement.family() {
-            Family::Control(control) => Some(ControlLine {
-                line: statement.line(),
-                statement: control,
-            }),
-            Family::Origin(_)
-            | Family::Composition(_)
-            | Family::Derivation(_)
-            | Family::Put { .. }
-            | Family::Computation(_)
-            | Family::Look(_)
-            | Family::Search(_)
-            | Family::Growth(_) => None,
-        },
-        Operation::Build { .. } | Operation::Measure { .. } | Operation::Write { .. } => None,
+    match statement.family() {
+        Family::Control(control) => Some(ControlLine {
+            line: statement.line(),
+            statement: control,
+        }),
+        Family::Origin(_)
+        | Family::Composition(_)
+        | Family::Derivation(_)
+        | Family::Put { .. }
+        | Family::Computation(_)
+        | Family::Look(_)
+        | Family::Search(_)
+        | Family::Growth(_) => None,
     }
 }
 
-/// Goes where a `repeat`, an `if`, an `else` or an `end` leads; `exit` is the place after what it may pass over.
+/// Goes where a `repeat`, an `if`, an `else` or an `end` leads; `jumps` are the places after what they may pass over.
+#[inline(always)]
 pub(crate) fn steer(
     at: ControlLine,
-    exit: usize,
+    jumps: &[usize],
     store: &Store,
     control: &mut Control,
 ) -> Result<(), ControlStop>
     requires place { (where_of control.old).place < 2 ^ 64 - 1 }
-    ensures { Goes (goal_of (statement_at at.entry) store.now.entries.items exit (where_of control.old))
+    ensures { Goes (goal_of (statement_at at.entry) store.now.entries.items
+        (get_or jumps.now (where_of control.old).place ((where_of control.old).place + 1)) (where_of control.old))
         (IsRefusedAt (statement_at at.entry) (where_of control.old)) (where_of control.new) result }
 {
     match at.statement {
-        ControlStatement::Repeat { count } => control.repeat(at.line, exit, store.value_of(count)),
+        ControlStatement::Repeat { count } => {
+            let exit = exit_at(jumps, control.place);
+            control.repeat(at.line, exit, store.value_of(count))
+        }
         ControlStatement::If {
             left,
             relation,
             right,
         } => {
             let holds = compares(relation, store.value_of(left), store.value_of(right));
-            control.choose(at.line, exit, holds)
+            control.choose(at.line, exit_at(jumps, control.place), holds)
         }
         ControlStatement::Else => {
-            control.go_to(exit);
+            control.go_to(exit_at(jumps, control.place));
             Ok(())
         }
         ControlStatement::End => control.close(),
@@ -76,6 +74,7 @@ pub(crate) fn steer(
 }
 
 /// Whether a relation holds of two numbers.
+#[inline(always)]
 pub(crate) fn compares(relation: Relation, left: i64, right: i64) -> bool
     ensures { result ≡ compares relation left right }
 {

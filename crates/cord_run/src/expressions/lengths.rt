@@ -7,12 +7,28 @@ ghost use Rattle.cord_run.specs.inner.Entries.{length_in};
 ghost use Rattle.cord_run.specs.inner.Extents.{counted, extent_in, members_extent, members_seen};
 
 use crate::checks::{as_byte, as_index, as_length};
+use crate::expressions::parts::range_parts;
 use crate::store::Store;
 use cord_io::MAX_LEN;
 use cord_meaning::FaultKind;
 use cord_plan::{Expr, Members};
 use cord_script::Name;
 use std::rc::Rc;
+
+/// The same as `length_of`, which costs less where the expression is a range of a name.
+#[inline(always)]
+pub(crate) fn measured(expression: &Expr, store: &Store) -> Result<u64, FaultKind>
+    ensures { result ≡ extent_in store.now.entries.items (expr_view expression.now) }
+{
+    match range_parts(expression) {
+        Some((name, start, count)) => length_of_range(
+            store.length_of(name),
+            store.value_of(start),
+            store.value_of(count),
+        ),
+        None => length_of(expression, store),
+    }
+}
 
 /// The length of an expression, or its fault. No byte is read.
 #[cycle(length_of)]
@@ -128,6 +144,7 @@ fn length_of_run(byte: i64, count: i64) -> Result<u64, FaultKind>
 }
 
 /// The length of at most so many bytes from a place on, of what has this length.
+#[inline(always)]
 pub(crate) fn length_of_range(len: u64, start: i64, count: i64) -> Result<u64, FaultKind>
     ensures { result ≡ measured_part MAX_LEN len start count }
 {

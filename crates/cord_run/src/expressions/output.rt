@@ -6,18 +6,15 @@ ghost use Rattle.cord_iter.specs.Output.{CountsFaults, failures_of};
 ghost use Rattle.cord_plan.specs.Meaning.{all_texts, cords};
 ghost use Rattle.cord_plan.specs.Values.{text_in};
 ghost use Rattle.cord_plan.specs.Views.{expr_view};
-ghost use Rattle.cord_run.specs.inner.Entries.{IsEntryAt, IsOver};
+ghost use Rattle.cord_run.specs.inner.Entries.{IsOver};
 ghost use Rattle.cord_run.specs.inner.Holdings.{holding_of, plain_of};
 ghost use Rattle.cord_run.specs.inner.Output.{CountsStops, Puts, PutsBytes, PutsText, Wrote, stop_of_failure};
-ghost use Rattle.cord_run.specs.inner.Resolution.{IsRange};
-ghost use Rattle.cord_run.specs.inner.Slices.{IsTextIn};
 ghost use Rattle.cord_io.specs.Device.{Folder};
 ghost use Rattle.cord_run.specs.inner.Frames.{IsSameSource};
 
 use crate::expressions::pieces_of;
 use crate::expressions::short_texts::gather;
 use crate::expressions::slices::slice_of;
-use crate::loops::reading::{ResolvedRange, range_slice};
 use crate::stops::Stop;
 use crate::store::Store;
 use arrayvec::ArrayVec;
@@ -27,21 +24,18 @@ use cord_iter::put_all;
 use cord_plan::Expr;
 use std::alloc::Global;
 
-/// Hands a sink the text of an expression, short parts at once and others one by one: no cord is made of the whole. The
-/// expression may be a range whose names are resolved.
+/// Hands a sink the text of an expression, short parts at once and others one by one: no cord is made of the whole.
 /// Where all its names hold texts, the sink took the text, or the expression's fault is answered and nothing was put,
 /// or after a failure of a device a prefix.
+#[inline(always)]
 pub(crate) fn write<R: Source, S: Sink>(
     alloc: Global,
     expression: &Expr,
-    range: Option<&ResolvedRange>,
     store: &Store,
     source: &mut R,
     sink: &mut S,
 ) -> Result<(), Stop>
     requires over { IsOver (R.lengths source.old) store.now.entries.items }
-    requires stands { IfSome range (λ range. IsRange (IsEntryAt store.now.entries.items) range.now
-        (expr_view expression.now)) }
     ensures wrote { (folder : Folder) → R.keeps source.new folder →
         all_texts (holding_of (R.table source.old folder) store.now.entries.items) (cords (expr_view expression.now))
         ≡ true → Wrote (text_in MAX_LEN (plain_of (R.table source.old folder) store.now.entries.items)
@@ -51,7 +45,7 @@ pub(crate) fn write<R: Source, S: Sink>(
     ensures finished { S.finished sink.new ≡ S.finished sink.old }
     ensures source { IsSameSource ⟦<R as Source>⟧ source.old source.new }
 {
-    match put_short(expression, range, store, sink) {
+    match put_short(expression, store, sink) {
         Some(put) => put,
         None => {
             let pieces = pieces_of(alloc, expression, store)?;
@@ -65,38 +59,15 @@ pub(crate) fn write<R: Source, S: Sink>(
 
 // Hands a sink the text of an expression that is a leaf or a range of one, or short ones side by side. None where it is
 // neither: then the sink is left alone.
-fn put_short<S: Sink>(
-    expression: &Expr,
-    range: Option<&ResolvedRange>,
-    store: &Store,
-    sink: &mut S,
-) -> Option<Result<(), Stop>>
-    requires { IfSome range (λ range. IsRange (IsEntryAt store.now.entries.items) range.now
-        (expr_view expression.now)) }
+#[inline(always)]
+fn put_short<S: Sink>(expression: &Expr, store: &Store, sink: &mut S) -> Option<Result<(), Stop>>
     ensures put { IfSome result
         (PutsText ⟦<S as Sink>⟧ store.now.entries.items (expr_view expression.now) sink.old sink.new) }
     ensures left { IfNone result (sink.new ≡ sink.old) }
 {
-    match slice_by(expression, range, store) {
+    match slice_of(expression, store) {
         Some(slice) => Some(put_bytes(slice, sink)),
         None => put_gathered(expression, store, sink),
-    }
-}
-
-// The text of an expression, or of the range that it is, where it is one leaf or a range of one.
-#[inline(always)]
-fn slice_by<'a>(
-    expression: &Expr,
-    range: Option<&ResolvedRange>,
-    store: &'a Store,
-) -> Option<&'a [u8]>
-    requires { IfSome range (λ range. IsRange (IsEntryAt store.now.entries.items) range.now
-        (expr_view expression.now)) }
-    ensures { IfSome result (λ slice. IsTextIn store.now.entries.items (expr_view expression.now) slice.now) }
-{
-    match range {
-        Some(range) => range_slice(store, range),
-        None => slice_of(expression, store),
     }
 }
 

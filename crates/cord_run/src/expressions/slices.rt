@@ -39,6 +39,7 @@ pub(crate) fn slice_of<'a>(expression: &Expr, store: &'a Store) -> Option<&'a [u
 }
 
 // The text of a name, where its cord is one leaf.
+#[inline(always)]
 fn named_slice<'a>(name: &Name, store: &'a Store) -> Option<&'a [u8]>
     ensures { IfSome result (λ slice. IsSliceOf (cord_in (content_in store.now.entries.items name.now)) slice.now) }
 {

@@ -25,6 +25,7 @@ use cord_syntax::Growth;
 use std::alloc::Global;
 
 /// Does what a statement means that begins an extensible cord or lets it grow.
+#[inline(always)]
 pub(crate) fn serve_growth(alloc: Global, store: &mut Store, growth: Growth<'_>) -> Result<(), Stop>
     ensures over { StaysOver store.old.entries.items store.new.entries.items result }
     ensures means { (t : Table) → IsOver (lengths_of t) store.old.entries.items → (line : ℕ) →
@@ -49,6 +50,7 @@ pub(crate) fn serve_growth(alloc: Global, store: &mut Store, growth: Growth<'_>)
 }
 
 // Lets the extensible cord of a name grow by a number in the place of a byte.
+#[inline(always)]
 fn grow_by_number(alloc: Global, store: &mut Store, name: &Name, byte: i64) -> Result<(), Stop>
     ensures over { StaysOver store.old.entries.items store.new.entries.items result }
     ensures becomes { GrowsByByte name.now (meant.as_byte byte) store.old.entries.items store.new.entries.items result }
@@ -69,6 +71,7 @@ fn begin(alloc: Global, store: &mut Store, name: &Name) -> Result<(), Stop>
 }
 
 // Lets the extensible cord of a name grow by a byte.
+#[inline(always)]
 fn grow_by_byte(alloc: Global, store: &mut Store, name: &Name, byte: u8) -> Result<(), Stop>
     ensures over { StaysOver store.old.entries.items store.new.entries.items result }
     ensures becomes { Becomes name.now (longer_text store.old.entries.items name.now (byte ∷ []))
@@ -81,6 +84,7 @@ fn grow_by_byte(alloc: Global, store: &mut Store, name: &Name, byte: u8) -> Resu
 }
 
 // Lets it grow by bytes.
+#[inline(always)]
 fn grow_by_bytes(alloc: Global, store: &mut Store, name: &Name, bytes: &[u8]) -> Result<(), Stop>
     ensures over { StaysOver store.old.entries.items store.new.entries.items result }
     ensures becomes { Becomes name.now (longer_text store.old.entries.items name.now bytes.now) store.old.entries.items

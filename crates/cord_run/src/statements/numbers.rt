@@ -1,5 +1,5 @@
 // Statements that give a name a number.
-ghost use Rattle.std.specs.Prelude.{◌≡◌, ◌≤◌, ◌+ℤ◌, ◌-ℤ◌, ℕ, List, IfErr, IfOk, IsSome, None, pos};
+ghost use Rattle.std.specs.Prelude.{◌≡◌, ◌≤◌, ◌+ℤ◌, ◌-ℤ◌, ℕ, List, IfErr, IfOk, IfSome, IsSome, None, Some, pos};
 ghost use Rattle.cord_io.specs.Device.{Folder};
 ghost use Rattle.cord_io.specs.Table.{Table};
 ghost use Rattle.cord_io.specs.declared.TheConstants.{MAX_LEN};
@@ -8,10 +8,11 @@ ghost use Rattle.cord_syntax.specs.Families.{statement_of};
 ghost use Rattle.cord_syntax.specs.Lines.{line_of};
 ghost use Rattle.cord_syntax.specs.Targets.{target_of};
 ghost use Rattle.cord_syntax.specs.declared.families.Family.TheVariants as families;
+ghost use Rattle.cord_syntax.specs.declared.statements.Statement.{Statement};
 ghost use Rattle.cord_syntax.specs.declared.statements.Statement.TheVariants as statements;
 ghost use Rattle.cord_run.specs.inner.Numbers.{CountsFinding, FindsOver, HasRead, in_i64, number_or_stop};
-ghost use Rattle.cord_run.specs.inner.Entries.{content_in, cord_in, HasNumber, IsEntryAt, IsOver, length_in};
-ghost use Rattle.cord_run.specs.inner.Resolution.{IsTargetAt};
+ghost use Rattle.cord_run.specs.inner.Entries.{content_in, cord_in, HasNumber, IsOver, length_in};
+ghost use Rattle.cord_run.specs.inner.Appends.{IsSum};
 ghost use Rattle.cord_run.specs.inner.Statements.{MeansOver, StaysOver};
 ghost use Rattle.cord_run.specs.inner.Outcomes.{CountsReads};
 
@@ -24,7 +25,7 @@ use cord_core::Cord;
 use cord_io::Source;
 use cord_meaning::FaultKind;
 use cord_script::{Name, Number, Statement};
-use cord_syntax::{Computation, Look, Search};
+use cord_syntax::{Computation, Family, Look, Search};
 
 /// Gives the name that a statement assigns the number that was found for it.
 pub(crate) fn assign_found(
@@ -45,70 +46,83 @@ pub(crate) fn assign_found(
     }
 }
 
-/// The same, where the name has its entry at a place.
-pub(crate) fn assign_at(
-    store: &mut Store,
-    place: u16,
-    statement: &Statement,
-    number: Result<i64, Stop>,
-) -> Result<(), Stop>
-    requires { IsTargetAt (IsEntryAt store.old.entries.items) place statement.now }
-    ensures over { StaysOver store.old.entries.items store.new.entries.items result }
-    ensures means { (t : Table) → FindsOver t statement.now store.old.entries.items number →
-        MeansOver t statement.now store.old.entries.items store.new.entries.items result }
-    ensures counts { (before after : ℕ) → CountsFinding before after number → CountsReads before after result }
+/// The computation of a number that a statement is, where it looks at no text.
+#[inline(always)]
+pub(crate) fn sum_of(statement: &Statement) -> Option<Computation<'_>>
+    ensures is { IfSome result (λ computation. statement_of (line_of statement.now) (families.Computation computation)
+        ≡ statement.now) }
+    ensures sum { IfSome result (λ _. IsSum statement.now) }
 {
-    let _ = statement;
-    let number = number?;
-    store.set_number_at(place as usize, number);
-    Ok(())
+    match statement.family() {
+        Family::Computation(computation) => match computation {
+            Computation::Len { .. } => None,
+            Computation::Assign { .. } | Computation::Add { .. } | Computation::Sub { .. } => {
+                Some(computation)
+            }
+        },
+        _ => None,
+    }
 }
 
-/// Does what a statement means that computes a number.
-pub(crate) fn assign_computed(
-    store: &mut Store,
-    statement: &Statement,
-    computation: Computation<'_>,
-) -> Result<(), Stop>
-    requires of { statement_of (line_of statement.now) (families.Computation computation) ≡ statement.now }
+/// Gives a name the number that is computed for it.
+#[inline(always)]
+pub(crate) fn serve_computation(store: &mut Store, computation: Computation<'_>) -> Result<(), Stop>
     requires short { (x : List ℕ) → length_in store.old.entries.items x ≤ MAX_LEN }
     ensures over { StaysOver store.old.entries.items store.new.entries.items result }
-    ensures means { (t : Table) → IsOver (lengths_of t) store.old.entries.items →
-        MeansOver t statement.now store.old.entries.items store.new.entries.items result }
+    ensures means { (t : Table) → IsOver (lengths_of t) store.old.entries.items → (line : ℕ) →
+        MeansOver t (statement_of line (families.Computation computation.entry)) store.old.entries.items
+        store.new.entries.items result }
     ensures counts { (n : ℕ) → CountsReads n n result }
 {
-    let number = number_or_stop(computed_number(store, computation));
-    assign_found(store, statement, number)
-}
-
-// The number that a computation gives.
-fn computed_number(store: &Store, computation: Computation<'_>) -> Result<i64, FaultKind>
-    requires short { (x : List ℕ) → length_in store.now.entries.items x ≤ MAX_LEN }
-    ensures { (t : Table) → IsOver (lengths_of t) store.now.entries.items → (line : ℕ) →
-        FindsOver t (statement_of line (families.Computation computation.entry)) store.now.entries.items
-        (number_or_stop result) }
-{
     match computation {
-        Computation::Len { operand, .. } => Ok(told_length(store, operand)),
-        Computation::Assign { value, .. } => Ok(store.value_of(value)),
-        Computation::Add { left, right, .. } => sum(store.value_of(left), store.value_of(right)),
-        Computation::Sub { left, right, .. } => {
-            difference(store.value_of(left), store.value_of(right))
+        Computation::Len { target, operand } => {
+            let len = told_length(store, operand);
+            give_computed(store, target, Ok(len))
+        }
+        Computation::Assign { target, value } => {
+            let value = store.value_of(value);
+            give_computed(store, target, Ok(value))
+        }
+        Computation::Add {
+            target,
+            left,
+            right,
+        } => {
+            let sum = sum(store.value_of(left), store.value_of(right));
+            give_computed(store, target, sum)
+        }
+        Computation::Sub {
+            target,
+            left,
+            right,
+        } => {
+            let difference = difference(store.value_of(left), store.value_of(right));
+            give_computed(store, target, difference)
         }
     }
 }
 
-// A number or a fault, as a run has it.
-fn number_or_stop(number: Result<i64, FaultKind>) -> Result<i64, Stop>
-    ensures { result ≡ number_or_stop number }
+// Gives a name the number that was computed for it, unless it is a fault.
+#[inline(always)]
+fn give_computed(
+    store: &mut Store,
+    target: &Name,
+    number: Result<i64, FaultKind>,
+) -> Result<(), Stop>
+    ensures over { StaysOver store.old.entries.items store.new.entries.items result }
+    ensures means { (t : Table) (l : Statement) →
+        FindsOver t l store.old.entries.items (number_or_stop number) → target_of l ≡ Some target.now →
+        MeansOver t l store.old.entries.items store.new.entries.items result }
+    ensures counts { (n : ℕ) → CountsReads n n result }
 {
     match number {
-        Ok(number) => Ok(number),
+        Ok(number) => give_number(store, target, number),
         Err(kind) => Err(Stop::Fault(kind)),
     }
 }
 
 // The length that is told of a name.
+#[inline(always)]
 fn told_length(store: &Store, name: &Name) -> i64
     requires { length_in store.now.entries.items name.now ≤ MAX_LEN }
     ensures { result ≡ pos (length_in store.now.entries.items name.now) }
@@ -235,6 +249,7 @@ pub(crate) fn search_number<R: Source>(
 }
 
 /// The cord of a name, or this empty one where it has none.
+#[inline(always)]
 pub(crate) fn cord_or<'a>(store: &'a Store, name: &Name, empty: &'a Cord) -> &'a Cord
     requires { empty.now ≡ None }
     ensures { result.now ≡ cord_in (content_in store.now.entries.items name.now) }
@@ -246,6 +261,7 @@ pub(crate) fn cord_or<'a>(store: &'a Store, name: &Name, empty: &'a Cord) -> &'a
 }
 
 /// A sum that an i64 can be.
+#[inline(always)]
 pub(crate) fn sum(left: i64, right: i64) -> Result<i64, FaultKind>
     ensures { result ≡ in_i64 (left +ℤ right) }
 {
@@ -256,6 +272,7 @@ pub(crate) fn sum(left: i64, right: i64) -> Result<i64, FaultKind>
 }
 
 /// A difference that an i64 can be.
+#[inline(always)]
 pub(crate) fn difference(left: i64, right: i64) -> Result<i64, FaultKind>
     ensures { result ≡ in_i64 (left -ℤ right) }
 {
@@ -266,6 +283,7 @@ pub(crate) fn difference(left: i64, right: i64) -> Result<i64, FaultKind>
 }
 
 // Gives a name of a number its number.
+#[inline(always)]
 fn give_number(store: &mut Store, target: &Name, number: i64) -> Result<(), Stop>
     ensures has { IfOk result (λ _. HasNumber target.now number store.old.entries.items store.new.entries.items) }
     ensures refused { IfErr result (λ stop. stop ≡ Stop.NoMemory) }

@@ -1,9 +1,8 @@
 // The growth of the extensible cord of an entry.
-ghost use Rattle.std.specs.Prelude.{◌≡◌, ◌+◌, ◌<◌, ◌≤◌, ℕ, List, true, false, length, IfOk, IsErr, OnOk, Err};
+ghost use Rattle.std.specs.Prelude.{◌≡◌, ◌+◌, ◌<◌, ◌≤◌, [], true, length, IfOk, IsErr, OnOk, Err};
 ghost use Rattle.cord_ec.specs.Grown.{IsGrownBy};
 ghost use Rattle.cord_run.specs.inner.Extensibles.{cells_of, Grew, GrewTo};
 ghost use Rattle.cord_run.specs.inner.Entries.{are_distinct, cells_in, extensible_in, names_in, IsEntryAt};
-ghost use Rattle.cord_run.specs.inner.Places.{StayFirst};
 
 use crate::store::Entry;
 use cord_ec::ExtCord;
@@ -11,38 +10,8 @@ use cord_io::{CordError, MAX_LEN};
 use cord_script::Name;
 use std::alloc::Global;
 
-/// Lets the extensible cord in the entry at a place grow by bytes. Answers whether it did.
-pub(crate) fn append_bytes(alloc: Global, entries: &mut [Entry], place: usize, bytes: &[u8]) -> bool
-    requires { place < length entries.old }
-    ensures grown { result ≡ true → (name : List ℕ) → IsEntryAt entries.old name place →
-        Grew name bytes.now entries.old entries.new }
-    ensures fits { result ≡ true → (name : List ℕ) → IsEntryAt entries.old name place →
-        length (cells_of (extensible_in entries.old name)) + length bytes.now ≤ MAX_LEN }
-    ensures left { result ≡ false → entries.new ≡ entries.old }
-    ensures names { names_in entries.new ≡ names_in entries.old }
-    ensures distinct { are_distinct (names_in entries.old) ≡ true → are_distinct (names_in entries.new) ≡ true }
-    ensures first { StayFirst entries.old entries.new }
-{
-    let entry = &mut entries[place];
-    append_begun(alloc, &mut entry.extensible, bytes)
-}
-
-// Lets an extensible cord that was begun grow by bytes. Answers whether it did.
-fn append_begun(alloc: Global, extensible: &mut Option<ExtCord>, bytes: &[u8]) -> bool
-    ensures grown { result ≡ true → GrewTo bytes.now extensible.old extensible.new }
-    ensures fits { result ≡ true → length (cells_of (cells_in extensible.old)) + length bytes.now ≤ MAX_LEN }
-    ensures left { result ≡ false → extensible.new ≡ extensible.old }
-{
-    match extensible {
-        Some(grown) => match append(alloc, grown, bytes) {
-            Ok(()) => true,
-            Err(_) => false,
-        },
-        None => false,
-    }
-}
-
 /// Lets the extensible cord in the entry of a name grow by bytes.
+#[inline(always)]
 pub(crate) fn append_at(
     alloc: Global,
     entries: &mut [Entry],
@@ -57,7 +26,6 @@ pub(crate) fn append_at(
     ensures too_long { result ≡ Err CordError.TooLong →
         MAX_LEN < length (cells_of (extensible_in entries.old name.now)) + length bytes.now }
     ensures distinct { are_distinct (names_in entries.old) ≡ true → are_distinct (names_in entries.new) ≡ true }
-    ensures first { StayFirst entries.old entries.new }
 {
     let _ = name;
     let entry = &mut entries[place];
@@ -65,6 +33,7 @@ pub(crate) fn append_at(
 }
 
 // Lets an extensible cord grow by bytes; where there is none, one is begun.
+#[inline(always)]
 fn append_to(alloc: Global, extensible: &mut Option<ExtCord>, bytes: &[u8]) -> Result<(), CordError>
     ensures grown { IfOk result (λ _. GrewTo bytes.now extensible.old extensible.new) }
     ensures fits { OnOk result (length (cells_of (cells_in extensible.old)) + length bytes.now ≤ MAX_LEN) }
@@ -74,12 +43,24 @@ fn append_to(alloc: Global, extensible: &mut Option<ExtCord>, bytes: &[u8]) -> R
     match extensible {
         Some(grown) => append(alloc, grown, bytes),
         None => {
-            let mut begun = ExtCord::new(alloc)?;
-            append(alloc, &mut begun, bytes)?;
+            let begun = begun_with(alloc, bytes)?;
             *extensible = Some(begun);
             Ok(())
         }
     }
+}
+
+// An extensible cord of bytes.
+#[cold]
+#[inline(never)]
+fn begun_with(alloc: Global, bytes: &[u8]) -> Result<ExtCord, CordError>
+    ensures grown { IfOk result (λ begun. IsGrownBy [] begun.text bytes.now) }
+    ensures fits { OnOk result (length bytes.now ≤ MAX_LEN) }
+    ensures too_long { result ≡ Err CordError.TooLong → MAX_LEN < length bytes.now }
+{
+    let mut begun = ExtCord::new(alloc)?;
+    append(alloc, &mut begun, bytes)?;
+    Ok(begun)
 }
 
 // Appends bytes: one alone costs less.

@@ -6,7 +6,6 @@ ghost use Rattle.cord_run.specs.inner.Edits.{HasSplice, IsContentSpliced, IsWhol
 ghost use Rattle.cord_run.specs.inner.Entries.{are_distinct, cells_in, content_in, cord_in, extensible_in, names_in};
 ghost use Rattle.cord_run.specs.inner.Entries.{HasContent};
 ghost use Rattle.cord_run.specs.inner.Entries.{HasExtensible, HasNumber, IsEntryAt};
-ghost use Rattle.cord_run.specs.inner.Places.{StayFirst};
 
 use crate::store::{Content, Entry};
 use cord_core::Cord;
@@ -23,10 +22,33 @@ pub(crate) fn set_content(entries: &mut [Entry], place: usize, content: Content)
         HasContent name content entries.old entries.new }
     ensures names { names_in entries.new ≡ names_in entries.old }
     ensures distinct { are_distinct (names_in entries.old) ≡ true → are_distinct (names_in entries.new) ≡ true }
-    ensures first { StayFirst entries.old entries.new }
 {
     let entry = &mut entries[place];
     entry.content = content;
+}
+
+/// Puts a length alone into the entry at a place.
+#[inline(always)]
+pub(crate) fn set_length(entries: &mut [Entry], place: usize, len: u64)
+    requires { place < length entries.old }
+    ensures set { (name : List ℕ) → IsEntryAt entries.old name place →
+        HasContent name (Content.Long len) entries.old entries.new }
+    ensures names { names_in entries.new ≡ names_in entries.old }
+    ensures distinct { are_distinct (names_in entries.old) ≡ true → are_distinct (names_in entries.new) ≡ true }
+{
+    let entry = &mut entries[place];
+    become_length(&mut entry.content, len);
+}
+
+// Puts a length alone in the place of a content: over another length nothing is let go.
+#[inline(always)]
+fn become_length(content: &mut Content, len: u64)
+    ensures { content.new ≡ Content.Long len }
+{
+    match content {
+        Content::Long(known) => *known = len,
+        content => *content = Content::Long(len),
+    }
 }
 
 /// Puts a cord in the place of so many bytes from a start on of the cord in the entry at a place.
@@ -48,7 +70,6 @@ pub(crate) fn splice_content(
     ensures refused { IfErr result IsRefusal }
     ensures names { names_in entries.new ≡ names_in entries.old }
     ensures distinct { are_distinct (names_in entries.old) ≡ true → are_distinct (names_in entries.new) ≡ true }
-    ensures first { StayFirst entries.old entries.new }
 {
     let entry = &mut entries[place];
     splice_within(alloc, &mut entry.content, start, count, middle)
@@ -81,7 +102,6 @@ pub(crate) fn set_number(entries: &mut [Entry], place: usize, number: i64)
     ensures set { (name : List ℕ) → IsEntryAt entries.old name place → HasNumber name number entries.old entries.new }
     ensures names { names_in entries.new ≡ names_in entries.old }
     ensures distinct { are_distinct (names_in entries.old) ≡ true → are_distinct (names_in entries.new) ≡ true }
-    ensures first { StayFirst entries.old entries.new }
 {
     let entry = &mut entries[place];
     entry.number = number;
@@ -99,7 +119,6 @@ pub(crate) fn set_extensible(
     ensures before { cells_in result ≡ extensible_in entries.old name.now }
     ensures set { HasExtensible name.now (cells_in extensible) entries.old entries.new }
     ensures distinct { are_distinct (names_in entries.old) ≡ true → are_distinct (names_in entries.new) ≡ true }
-    ensures first { StayFirst entries.old entries.new }
 {
     let _ = name;
     let entry = &mut entries[place];

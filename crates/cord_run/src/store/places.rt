@@ -1,7 +1,6 @@
 // The places of names among the entries.
 ghost use Rattle.std.specs.Prelude.{◌≡◌, ◌<◌, true, length, IfOk, IfSome, IfNone};
-ghost use Rattle.cord_run.specs.inner.Entries.{are_distinct, names_in, HasNoEntry, IsEntryAt, SameEntries};
-ghost use Rattle.cord_run.specs.inner.Places.{StayFirst};
+ghost use Rattle.cord_run.specs.inner.Entries.{are_distinct, names_in, HasNoEntry, IsEntryAt, IsFirst, SameEntries};
 
 use crate::store::{Content, Entry};
 use cord_core::Cord;
@@ -20,6 +19,19 @@ fn is_at(entries: &[Entry], place: usize, name: &Name) -> bool
     }
     let entry = &entries[place];
     name.is(&entry.name)
+}
+
+/// The entry of a name: the one of its hint, where it stands there.
+#[inline(always)]
+pub(crate) fn entry_by<'a>(entries: &'a [Entry], name: &Name) -> Option<&'a Entry>
+    requires distinct { are_distinct (names_in entries.now) ≡ true }
+    ensures some { IfSome result (λ entry. IsFirst entries.now name.now entry.now) }
+    ensures none { IfNone result (HasNoEntry entries.now name.now) }
+{
+    match place_by(entries, name) {
+        Some(place) => Some(&entries[place]),
+        None => None,
+    }
 }
 
 /// The place of a name: the one of its hint, where it stands there.
@@ -61,7 +73,6 @@ pub(crate) fn place_for(entries: &mut Vec<Entry>, name: &Name) -> Result<usize, 
     ensures place { IfOk result (IsEntryAt entries.new.items name.now) }
     ensures same { IfOk result (λ _. SameEntries entries.old.items entries.new.items) }
     ensures distinct { are_distinct (names_in entries.new.items) ≡ true }
-    ensures first { StayFirst entries.old.items entries.new.items }
 {
     match place_by(entries, name) {
         Some(place) => Ok(place),
@@ -79,7 +90,6 @@ fn new_place(entries: &mut Vec<Entry>, name: &Name) -> Result<usize, AllocError>
     ensures place { IfOk result (IsEntryAt entries.new.items name.now) }
     ensures same { IfOk result (λ _. SameEntries entries.old.items entries.new.items) }
     ensures distinct { are_distinct (names_in entries.new.items) ≡ true }
-    ensures first { StayFirst entries.old.items entries.new.items }
 {
     let name = name.clone()?;
     add(entries, name)
@@ -93,7 +103,6 @@ fn add(entries: &mut Vec<Entry>, name: Name) -> Result<usize, AllocError>
     ensures place { IfOk result (IsEntryAt entries.new.items name) }
     ensures same { IfOk result (λ _. SameEntries entries.old.items entries.new.items) }
     ensures distinct { are_distinct (names_in entries.new.items) ≡ true }
-    ensures first { StayFirst entries.old.items entries.new.items }
 {
     let place = entries.len();
     entries.push(Entry {

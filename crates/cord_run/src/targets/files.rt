@@ -29,6 +29,7 @@ pub(crate) enum Reading {
 }
 
 /// The file that a name is made of, and how much of it is read before it is looked at. None where no file is needed.
+#[inline(always)]
 pub(crate) fn file_of(made: &Made) -> Option<(&Path, Reading)>
     ensures some { IfSome result (λ file. file_made file.1 file.0.now ≡ made_view made.now) }
     ensures none { IfNone result (IsFileMade (made_view made.now) → ⊥) }

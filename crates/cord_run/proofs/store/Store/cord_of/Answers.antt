@@ -1,6 +1,6 @@
-use Rattle.std.proofs.Common.{refl, None, ap}
+use Rattle.std.proofs.Common.{refl, None, ap, sym, ◌∙◌}
 use Rattle.cord_run.specs.declared.store.Content.TheVariants.{Whole}
-use Rattle.cord_run.specs.inner.Entries.{cord_in}
+use Rattle.cord_run.specs.inner.Entries.{content_length, cord_in}
 use Rattle.cord_run.proofs.Entries.{none_there}
 use Rattle.cord_run.proofs.Slices.{still_none, still_some}
 use Rattle.cord_run.proofs.store.Store.cord_of.Goals as goal
@@ -11,10 +11,11 @@ returns-in-None-clause-none c =
     c.args.name.now refl c.in-None.ensures.none)
 
 pub returns-in-Some-clause-some : goal.returns-in-Some-clause-some
-returns-in-Some-clause-some c = still_some c.cord_at.result (λ cord is. is c.args.name.now c.in-Some.ensures.some) c.cord_at.ensures.some
+returns-in-Some-clause-some c = still_some c.cord.result (λ cord is. is ∙ ap cord_in (sym c.in-Some.ensures.some.content)) c.cord.ensures.some
 
 pub returns-in-Some-clause-len : goal.returns-in-Some-clause-len
-returns-in-Some-clause-len c = still_some c.cord_at.result (λ cord is. is c.args.name.now c.in-Some.ensures.some) c.cord_at.ensures.len
+returns-in-Some-clause-len c =
+    still_some c.cord.result (λ cord is. is ∙ ap content_length (sym c.in-Some.ensures.some.content)) c.cord.ensures.len
 
 pub returns-in-Some-clause-none : goal.returns-in-Some-clause-none
-returns-in-Some-clause-none c = still_none c.cord_at.result (λ is. is c.args.name.now c.in-Some.ensures.some) c.cord_at.ensures.none
+returns-in-Some-clause-none c = still_none c.cord.result (λ is. ap cord_in c.in-Some.ensures.some.content ∙ is) c.cord.ensures.none

@@ -1,8 +1,7 @@
 use Rattle.std.proofs.Common.{refl, ap, ◌∙◌, None}
 use Rattle.cord_run.specs.declared.store.Entry.{Entry}
 use Rattle.cord_run.specs.inner.Entries.{cells_in}
-use Rattle.cord_run.specs.inner.Places.{names_fixed}
-use Rattle.cord_run.proofs.Entries.{distinct_set, extensible_same, first_set, name_at_place, none_there, value_there}
+use Rattle.cord_run.proofs.Entries.{distinct_set, extensible_same, name_at_place, none_there, value_there}
 use Rattle.cord_run.proofs.Cords.{extended_name, extended_none}
 use Rattle.cord_run.proofs.store.Store.extended.Goals as goal
 
@@ -36,6 +35,4 @@ invariant_of-self c =
     record {
       distinct = distinct_set c.args.self.now.entries.items c.in-Some.place from to
           (ap (λ (e : Entry). e.name) c.index_mut.ensures.value) c.args.self.now.distinct;
-      first = first_set c.args.self.now.entries.items c.in-Some.place from to
-          (ap (λ (e : Entry). e.name) c.index_mut.ensures.value) (names_fixed c.args.self.now.marked) c.args.self.now.first;
     }

@@ -5,7 +5,7 @@ use Rattle.cord_node.specs.Tree.{Cell}
 use Rattle.cord_run.specs.declared.store.Entry.{Entry}
 use Rattle.cord_run.specs.inner.Extensibles.{cells_of, Grew, GrewTo}
 use Rattle.cord_run.specs.inner.Entries.{cells_in}
-use Rattle.cord_run.proofs.Entries.{distinct_set, first_set, grew_set, if_grew, name_at_place, value_at_place}
+use Rattle.cord_run.proofs.Entries.{distinct_set, grew_set, if_grew, name_at_place, value_at_place}
 use Rattle.cord_run.proofs.store.appends.append_at.Goals as goal
 
 pub returns-clause-grown : goal.returns-clause-grown
@@ -36,9 +36,3 @@ returns-clause-distinct c = λ distinct.
     let from : Entry = get_or c.args.entries.now c.args.place c.index-entries-place.result in
     let to : Entry = record { name = from.name; content = from.content; number = from.number; extensible = c.append_to.new.extensible } in
     distinct_set c.args.entries.now c.args.place c.index-entries-place.result to refl distinct
-
-pub returns-clause-first : goal.returns-clause-first
-returns-clause-first c =
-    let from : Entry = get_or c.args.entries.now c.args.place c.index-entries-place.result in
-    let to : Entry = record { name = from.name; content = from.content; number = from.number; extensible = c.append_to.new.extensible } in
-    first_set c.args.entries.now c.args.place c.index-entries-place.result to refl

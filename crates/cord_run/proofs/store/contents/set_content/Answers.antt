@@ -1,7 +1,7 @@
 use Rattle.std.proofs.Common.{refl, get_or}
 use Rattle.std.proofs.Math.Seq.{map-set_same}
 use Rattle.cord_run.specs.declared.store.Entry.{Entry}
-use Rattle.cord_run.proofs.Entries.{content_set, distinct_set, first_set, name_at_place}
+use Rattle.cord_run.proofs.Entries.{content_set, distinct_set, name_at_place}
 use Rattle.cord_run.proofs.store.contents.set_content.Goals as goal
 
 pub returns-clause-set : goal.returns-clause-set
@@ -19,9 +19,3 @@ returns-clause-distinct c = λ distinct.
     let from : Entry = get_or c.args.entries.now c.args.place c.index-entries-place.result in
     let to : Entry = record { name = from.name; content = c.args.content; number = from.number; extensible = from.extensible } in
     distinct_set c.args.entries.now c.args.place c.index-entries-place.result to refl distinct
-
-pub returns-clause-first : goal.returns-clause-first
-returns-clause-first c =
-    let from : Entry = get_or c.args.entries.now c.args.place c.index-entries-place.result in
-    let to : Entry = record { name = from.name; content = c.args.content; number = from.number; extensible = from.extensible } in
-    first_set c.args.entries.now c.args.place c.index-entries-place.result to refl

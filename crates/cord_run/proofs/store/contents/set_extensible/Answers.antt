@@ -3,7 +3,7 @@ use Rattle.std.specs.Prelude.{Option}
 use Rattle.cord_ec.specs.Gathered.{Growth}
 use Rattle.cord_run.specs.declared.store.Entry.{Entry}
 use Rattle.cord_run.specs.inner.Entries.{cells_in, HasExtensible}
-use Rattle.cord_run.proofs.Entries.{distinct_set, extensible_set, first_set, name_at_place, value_at_place}
+use Rattle.cord_run.proofs.Entries.{distinct_set, extensible_set, name_at_place, value_at_place}
 use Rattle.cord_run.proofs.store.contents.set_extensible.Goals as goal
 
 pub returns-clause-before : goal.returns-clause-before
@@ -25,9 +25,3 @@ returns-clause-distinct c = λ distinct.
     let from : Entry = get_or c.args.entries.now c.args.place c.index-entries-place.result in
     let to : Entry = record { name = from.name; content = from.content; number = from.number; extensible = c.replace.new.dest } in
     distinct_set c.args.entries.now c.args.place c.index-entries-place.result to refl distinct
-
-pub returns-clause-first : goal.returns-clause-first
-returns-clause-first c =
-    let from : Entry = get_or c.args.entries.now c.args.place c.index-entries-place.result in
-    let to : Entry = record { name = from.name; content = from.content; number = from.number; extensible = c.replace.new.dest } in
-    first_set c.args.entries.now c.args.place c.index-entries-place.result to refl

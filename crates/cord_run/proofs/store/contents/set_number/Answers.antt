@@ -3,7 +3,7 @@ use Rattle.std.proofs.Math.Seq.{map-set_same}
 use Rattle.std.proofs.lemmas.Int.{to_z-of_z}
 use Rattle.cord_run.specs.declared.store.Entry.{Entry}
 use Rattle.cord_run.specs.inner.Entries.{HasNumber}
-use Rattle.cord_run.proofs.Entries.{distinct_set, first_set, name_at_place, number_set}
+use Rattle.cord_run.proofs.Entries.{distinct_set, name_at_place, number_set}
 use Rattle.cord_run.proofs.store.contents.set_number.Goals as goal
 
 pub returns-clause-set : goal.returns-clause-set
@@ -29,10 +29,3 @@ returns-clause-distinct c = λ distinct.
     let to : Entry =
     record { name = from.name; content = from.content; number = to_z w64 (of_z w64 c.args.number); extensible = from.extensible } in
     distinct_set c.args.entries.now c.args.place c.index-entries-place.result to refl distinct
-
-pub returns-clause-first : goal.returns-clause-first
-returns-clause-first c =
-    let from : Entry = get_or c.args.entries.now c.args.place c.index-entries-place.result in
-    let to : Entry =
-    record { name = from.name; content = from.content; number = to_z w64 (of_z w64 c.args.number); extensible = from.extensible } in
-    first_set c.args.entries.now c.args.place c.index-entries-place.result to refl

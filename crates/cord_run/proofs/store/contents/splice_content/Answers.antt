@@ -8,7 +8,7 @@ use Rattle.cord_run.specs.declared.store.Content.TheVariants.{Whole}
 use Rattle.cord_run.specs.declared.store.Entry.{Entry}
 use Rattle.cord_run.specs.inner.Edits.{spliced_len}
 use Rattle.cord_run.specs.inner.Entries.{cord_in}
-use Rattle.cord_run.proofs.Entries.{distinct_set, first_set, value_at_place}
+use Rattle.cord_run.proofs.Entries.{distinct_set, value_at_place}
 use Rattle.cord_run.proofs.Splices.{splice_set, whole_there}
 use Rattle.cord_run.proofs.store.contents.splice_content.Goals as goal
 
@@ -39,13 +39,6 @@ returns-clause-distinct c = λ distinct.
     let to : Entry =
     record { name = from.name; content = c.splice_within.new.content; number = from.number; extensible = from.extensible } in
     distinct_set c.args.entries.now c.args.place c.index-entries-place.result to refl distinct
-
-pub returns-clause-first : goal.returns-clause-first
-returns-clause-first c =
-    let from : Entry = get_or c.args.entries.now c.args.place c.index-entries-place.result in
-    let to : Entry =
-    record { name = from.name; content = c.splice_within.new.content; number = from.number; extensible = from.extensible } in
-    first_set c.args.entries.now c.args.place c.index-entries-place.result to refl
 
 pub returns-clause-unchanged : goal.returns-clause-unchanged
 returns-clause-unchanged c = λ is.

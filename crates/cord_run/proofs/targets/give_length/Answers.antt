@@ -1,0 +1,31 @@
+use Rattle.cord_file.specs.Files.{as_long_as_told}
+use Rattle.cord_file.specs.Sources.{device_in, opened_in}
+use Rattle.cord_plan.specs.Views.{made_view}
+use Rattle.cord_run.specs.declared.store.Content.TheVariants.{Long}
+use Rattle.cord_run.proofs.Known.{length_stays}
+use Rattle.cord_run.proofs.TargetNames.{measured_target, nothing_changed, target_over}
+use Rattle.cord_run.proofs.targets.give_length.Goals as goal
+
+pub returns-clause-over : goal.returns-clause-over
+returns-clause-over g c =
+    target_over (opened_in c.args.sources.now) (opened_in c.measure.new.sources) c.in_ok-len.ensures.grows
+    c.args.store.now.entries.items
+    c.args.store.now.entries.items c.give_long.new.store.entries.items c.requires.over (nothing_changed c.args.store.now.entries.items)
+    c.args.target.now (made_view c.args.made.now) (Long c.in_ok-len.len) c.in_ok-len.ensures.told.short
+    c.give_long.result
+    c.give_long.ensures.has
+
+pub returns-clause-gives : goal.returns-clause-gives
+returns-clause-gives g c = λ folder agrees.
+    let s = c.args.sources.now in
+    let before = c.in_ok-len.ensures.earlier folder agrees in
+    measured_target (opened_in s) (opened_in c.measure.new.sources) c.in_ok-len.ensures.grows c.args.store.now.entries.items
+    c.args.store.now.entries.items c.give_long.new.store.entries.items c.requires.over (nothing_changed c.args.store.now.entries.items)
+    c.args.target.now (made_view c.args.made.now) (g.F.Files.keeps (device_in c.measure.new.sources)) folder agrees
+    (as_long_as_told (g.F.Files.keeps (device_in s)) s.entries.items s.sound.as_long folder before)
+    c.in_ok-len.len c.in_ok-len.ensures.told c.give_long.result c.give_long.ensures.has c.give_long.ensures.refused
+
+pub returns-clause-stays : goal.returns-clause-stays
+returns-clause-stays g c =
+    length_stays c.args.store.now.entries.items c.give_long.new.store.entries.items c.args.target.now (made_view c.args.made.now)
+    c.in_ok-len.len c.in_ok-len.ensures.extent c.give_long.result c.give_long.ensures.has
