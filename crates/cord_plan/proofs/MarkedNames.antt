@@ -1,6 +1,6 @@
 -- Words that mark names.
 use Rattle.std.proofs.Common.{◌≡◌, ◌⊎◌, ℕ, ◌+◌, ◌*◌, ◌/◌, ◌%◌, ◌^◌, ◌<◌, Bool, true, false, ◌||◌, List, [], ◌∷◌, ◌++◌, take, length, get_or}
-use Rattle.std.proofs.Common.{Some, None, refl, sym, ap, ◌∙◌, subst, inl, inr, arith}
+use Rattle.std.proofs.Common.{Some, refl, sym, ap, ◌∙◌, subst, inl, inr, arith}
 use Rattle.std.specs.Prelude.{slice_get}
 use Rattle.std.specs.Str.{bytes_eq}
 use Rattle.std.specs.Int.RustNames.{bit_or}
@@ -9,15 +9,11 @@ use Rattle.std.proofs.Math.Nat.{div-add-mod, mod-lt}
 use Rattle.std.proofs.lemmas.Bool.{cases_eq}
 use Rattle.std.proofs.lemmas.List.{take_more}
 use Rattle.cord_plan.specs.declared.flow.numbering.Numbering.{Numbering}
-use Rattle.cord_syntax.specs.declared.statements.Statement.{Statement}
-use Rattle.cord_operands.specs.declared.operands.Number as numbers
-use Rattle.cord_operands.specs.declared.operands.Argument.{Argument}
-use Rattle.cord_operands.specs.declared.operands.Argument.TheVariants.{Number, Cord}
-use Rattle.cord_plan.specs.Operands.{has, cord_arguments, read_by, target_of, reads, assigns}
+use Rattle.cord_plan.specs.Operands.{has}
 use Rattle.cord_plan.specs.inner.Numbering.{names_of, number_of}
 use Rattle.cord_plan.specs.inner.Marks.{bit, IsBit, Marks}
 use Rattle.cord_plan.proofs.Named.{same_bytes, own_bytes}
-use Rattle.cord_plan.proofs.Numbers.{number_there, arguments_more}
+use Rattle.cord_plan.proofs.Numbers.{number_there}
 use Rattle.cord_plan.proofs.Words.{bit_or_is, bit_zero_is, bit_one_same, bit_one_other}
 
 module _ (t : Numbering) (g : ℕ) where
@@ -60,9 +56,6 @@ module _ (t : Numbering) (g : ℕ) where
   pub marks_or : (f h : List ℕ → Bool) (v w : ℕ) → Marks t g f v → Marks t g h w → Marks t g (λ x. f x || h x) (bit_or v w)
   marks_or f h v w one two x i b = rw (bit_or_is v w i, one x i b, two x i b) refl
 
-  pub marks_nothing : Marks t g (λ x. false) 0
-  marks_nothing x i b = bit_zero_is i
-
   pub marks_same : (f h : List ℕ → Bool) (w : ℕ) → ((x : List ℕ) → h x ≡ f x) → Marks t g f w → Marks t g h w
   marks_same f h w same marks x i b = marks x i b ∙ sym (same x)
 
@@ -98,34 +91,11 @@ module _ (t : Numbering) (g : ℕ) where
       let small : i < 128 = b.within in
       other (omega arith))
 
-  pub marks_more : (names : List (List ℕ)) (i : ℕ) (y : List ℕ) (v w : ℕ) → i < length names → y ≡ get_or names i y →
-      Marks t g (λ x. has (take i names) x) v → Marks t g (λ x. bytes_eq x y) w → Marks t g (λ x. has (take (i + 1) names) x) (bit_or v w)
-  marks_more names i y v w lt is one two = marks_same t g (λ x. has (take i names) x || bytes_eq x y) (λ x. has (take (i + 1) names) x)
-      (bit_or v w) (λ x. has_more names i y x lt is) (marks_or t g (λ x. has (take i names) x) (λ x. bytes_eq x y) v w one two)
-
-  -- an argument more: a number
-  pub marks_number_more : (arguments : List Argument) (i : ℕ) (e : Argument) (n : numbers.Number) (v : ℕ) → i < length arguments →
-      e ≡ get_or arguments i e → e ≡ Number n → Marks t g (λ x. has (cord_arguments (take i arguments)) x) v →
-      Marks t g (λ x. has (cord_arguments (take (i + 1) arguments)) x) v
-  marks_number_more arguments i e n v lt is c one x j b = one x j b
-      ∙ sym (ap (λ (xs : List (List ℕ)). has xs x) (arguments_more arguments i e lt is) ∙ has_both (cord_arguments (take i arguments))
-      (cord_arguments (e ∷ [])) x ∙ rw c (or-false (has (cord_arguments (take i arguments)) x)))
-
-  -- and a cord
-  pub marks_cord_more : (arguments : List Argument) (i : ℕ) (e : Argument) (y : List ℕ) (v w : ℕ) → i < length arguments →
-      e ≡ get_or arguments i e → e ≡ Cord y → Marks t g (λ x. has (cord_arguments (take i arguments)) x) v →
-      Marks t g (λ x. bytes_eq x y) w → Marks t g (λ x. has (cord_arguments (take (i + 1) arguments)) x) (bit_or v w)
-  marks_cord_more arguments i e y v w lt is c one two x j b =
-      marks_or t g (λ z. has (cord_arguments (take i arguments)) z) (λ z. bytes_eq z y) v w one two x j b
-      ∙ sym (ap (λ (xs : List (List ℕ)). has xs x) (arguments_more arguments i e lt is) ∙ has_both (cord_arguments (take i arguments))
-      (cord_arguments (e ∷ [])) x ∙ rw (c, has_one y x) refl)
-
-  module _ (l : Statement) where
-    pub marks_reads : (xs : List (List ℕ)) (w : ℕ) → read_by l ≡ xs → Marks t g (λ x. has xs x) w → Marks t g (λ x. reads l x) w
-    marks_reads xs w is marks x i b = rw is (marks x i b)
-
-    pub marks_target : (y : List ℕ) (w : ℕ) → target_of l ≡ Some y → Marks t g (λ x. bytes_eq x y) w → Marks t g (λ x. assigns l x) w
-    marks_target y w is marks x i b = rw is (marks x i b)
-
-    pub marks_no_target : target_of l ≡ None → Marks t g (λ x. assigns l x) 0
-    marks_no_target is x i b = rw is (bit_zero_is i)
+-- a name that is marked or is one of those that are left, once the first of these is marked
+pub marked_next : (xs ys : List (List ℕ)) (y x : List ℕ) (v w i : ℕ) → xs ≡ y ∷ ys → bit w i ≡ bytes_eq x y →
+    (bit (bit_or v w) i || has ys x) ≡ (bit v i || has xs x)
+marked_next xs ys y x v w i is marks = rw (bit_or_is v w i, marks, is) (one_more (bit v i) (bytes_eq x y) (has ys x))
+  where
+    one_more : (a b c : Bool) → ((a || b) || c) ≡ (a || (b || c))
+    one_more true b c = refl
+    one_more false b c = refl

@@ -1,44 +1,19 @@
 -- Tables of places from which a name is read, as the backwards flow fills them.
-use Rattle.std.proofs.Common.{◌≡◌, ◌⊎◌, ℕ, zero, suc, ◌+◌, ◌-◌, ◌<◌, ◌≤◌, Bool, true, false, ◌&&◌, List, [], ◌∷◌, map, drop, length, set}
-use Rattle.std.proofs.Common.{get_or, None, refl, sym, ap, ◌∙◌, subst, inl, inr, ⊎_elim, arith, length-set, add-one}
+use Rattle.std.proofs.Common.{◌≡◌, ◌⊎◌, ℕ, zero, suc, ◌-◌, ◌<◌, ◌≤◌, Bool, true, false, ◌&&◌, List, [], ◌∷◌, map, length, set}
+use Rattle.std.proofs.Common.{None, refl, sym, ap, ◌∙◌, subst, inl, inr, ⊎_elim, arith, length-set}
 use Rattle.std.proofs.Math.Bool.{and-false}
 use Rattle.std.proofs.Math.Nat.{eq-or-lt_of_le}
 use Rattle.std.proofs.lemmas.List.{length-map, set-get_or}
 use Rattle.std.specs.Prelude.{slice_get, not}
-use Rattle.std.specs.Str.{bytes_eq}
-use Rattle.std.proofs.Math.Seq.{drop-cons}
 use Rattle.std.proofs.lemmas.Option.{slice_get_past}
 use Rattle.cord_syntax.specs.declared.statements.Statement.{Statement}
-use Rattle.cord_operands.specs.declared.operands.Number as numbers
-use Rattle.cord_operands.specs.declared.operands.Argument.{Argument}
-use Rattle.cord_operands.specs.declared.operands.Argument.TheVariants.{Number, Cord}
 use Rattle.cord_meaning.specs.Paths.{Next}
 use Rattle.cord_meaning.specs.Statements.{shape_of}
-use Rattle.cord_plan.specs.Operands.{has, cord_arguments, reads, reads_at, assigns, assigns_at}
+use Rattle.cord_plan.specs.Operands.{reads, reads_at, assigns, assigns_at}
 use Rattle.cord_plan.specs.Unread.{ReadBy, successors, some_of}
 use Rattle.cord_plan.specs.inner.Liveness.{at, finds, IsPartly, IsLive}
 use Rattle.cord_plan.specs.inner.Ahead.{flow}
 use Rattle.cord_plan.proofs.Flows.{Found, shape_found, shape_held}
-
-module _ (names : List (List ℕ)) (i : ℕ) (y x : List ℕ) (lt : i < length names) (is : y ≡ get_or names i y) where
-  -- whether a name stands in a list, by its first element
-  pub has_here : bytes_eq x y ≡ true → has (drop i names) x ≡ true
-  has_here e = rw (drop-cons names i y, ← is, e) refl
-
-  pub has_on : bytes_eq x y ≡ false → has (drop i names) x ≡ has (drop (i + 1) names) x
-  has_on e = rw (add-one, drop-cons names i y, ← is, e) refl
-
-module _ (arguments : List Argument) (i : ℕ) (a : Argument) (x : List ℕ) (lt : i < length arguments) (is : a ≡ get_or arguments i a) where
-  pub argument_here : (y : List ℕ) → a ≡ Cord y → bytes_eq x y ≡ true → has (cord_arguments (drop i arguments)) x ≡ true
-  argument_here y c e = rw (drop-cons arguments i a, ← is, c, e) refl
-
-  pub argument_on : (y : List ℕ) → a ≡ Cord y → bytes_eq x y ≡ false →
-      has (cord_arguments (drop i arguments)) x ≡ has (cord_arguments (drop (i + 1) arguments)) x
-  argument_on y c e = rw (add-one, drop-cons arguments i a, ← is, c, e) refl
-
-  pub number_on : (n : numbers.Number) → a ≡ Number n → has (cord_arguments (drop i arguments)) x
-      ≡ has (cord_arguments (drop (i + 1) arguments)) x
-  number_on n c = rw (add-one, drop-cons arguments i a, ← is, c) refl
 
 -- the parts of a find
 found_parts : (a b c : Bool) → (not a && (b && not c)) ≡ true → (a ≡ false) × (b ≡ true) × (c ≡ false)

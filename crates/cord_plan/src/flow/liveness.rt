@@ -86,26 +86,20 @@ fn flowed(word: u128, successors: u128, assigned: u128) -> u128
 }
 
 impl Flow<'_> {
-    // For each line the word of the names that it reads.
-    fn words_read(&self, alloc: Global) -> Result<Vec<u128>, AllocError>
-        ensures { IfOk result (λ v. ArePartly self.now.statements.now self.now.numbering.now self.now.group v.items) }
+    // For each line the word of the names that it reads, and that of the name that it assigns.
+    fn words(&self, alloc: Global) -> Result<(Vec<u128>, Vec<u128>), AllocError>
+        ensures read { IfOk result (λ w. ArePartly self.now.statements.now self.now.numbering.now self.now.group
+            w.0.items) }
+        ensures assigned { IfOk result (λ w. AreAssigned self.now.statements.now self.now.numbering.now self.now.group
+            w.1.items) }
     {
-        let mut words = Vec::with_capacity(alloc, self.statements.len())?;
+        let mut read = Vec::with_capacity(alloc, self.statements.len())?;
+        let mut assigned = Vec::with_capacity(alloc, self.statements.len())?;
         for statement in self.statements {
-            words.push_reserved(mark_read(self.numbering, self.group, statement));
+            read.push_reserved(mark_read(self.numbering, self.group, statement));
+            assigned.push_reserved(mark_assigned(self.numbering, self.group, statement));
         }
-        Ok(words)
-    }
-
-    // For each line the word of the name that it assigns.
-    fn words_assigned(&self, alloc: Global) -> Result<Vec<u128>, AllocError>
-        ensures { IfOk result (λ v. AreAssigned self.now.statements.now self.now.numbering.now self.now.group v.items) }
-    {
-        let mut words = Vec::with_capacity(alloc, self.statements.len())?;
-        for statement in self.statements {
-            words.push_reserved(mark_assigned(self.numbering, self.group, statement));
-        }
-        Ok(words)
+        Ok((read, assigned))
     }
 
     // The bits of the places that may come next after a place.
@@ -163,8 +157,7 @@ impl Flow<'_> {
         requires { ArePaths (map shape_of self.now.statements.now) self.now.successors.now }
         ensures { IfOk result (λ v. AreLive self.now.statements.now self.now.numbering.now self.now.group v.items) }
     {
-        let assigned = self.words_assigned(alloc)?;
-        let mut words = self.words_read(alloc)?;
+        let (mut words, assigned) = self.words(alloc)?;
         'sweeps: while self.sweep(&assigned, &mut words) {}
         Ok(words)
     }

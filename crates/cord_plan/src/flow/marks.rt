@@ -1,14 +1,14 @@
 // Sets of names by words: bit i of a word of a group stands for the name whose number is 128 times the group and i.
-ghost use Rattle.std.specs.Prelude.{◌≡◌, ◌<◌, ◌||◌, ℕ, List, Some};
+ghost use Rattle.std.specs.Prelude.{◌≡◌, ◌<◌, ℕ, List, Some};
 ghost use Rattle.cord_plan.specs.inner.Marks.{bit, Marks};
-ghost use Rattle.cord_plan.specs.Operands.{has, cord_arguments, reads, assigns};
+ghost use Rattle.cord_plan.specs.Operands.{reads, assigns};
 ghost use Rattle.std.specs.Str.{bytes_eq};
 ghost use Rattle.cord_plan.specs.declared.flow.numbering.Numbering.{Numbering};
 ghost use Rattle.cord_plan.specs.inner.Numbering.{number_of};
 
 use crate::flow::numbering::Numbering;
-use cord_script::{Argument, Name, Statement};
-use cord_syntax::{Operands, Reading};
+use crate::flow::readings::first_read;
+use cord_script::{Name, Statement};
 
 /// How many names a word stands for.
 pub(crate) const GROUP: usize = 128;
@@ -42,50 +42,17 @@ fn mark(numbering: &Numbering, group: usize, name: &Name) -> u128
     }
 }
 
-// The word of a list of names.
-fn mark_all(numbering: &Numbering, group: usize, names: &[Name]) -> u128
-    ensures { Marks numbering.now group (λ x. has names.now x) result }
-{
-    let mut word = 0;
-    for name in names {
-        word |= mark(numbering, group, name);
-    }
-    word
-}
-
-// The word of the cords among the arguments of a format.
-fn mark_arguments(numbering: &Numbering, group: usize, arguments: &[Argument]) -> u128
-    ensures { Marks numbering.now group (λ x. has (cord_arguments arguments.now) x) result }
-{
-    let mut word = 0;
-    for argument in arguments {
-        match argument {
-            Argument::Number(_) => {}
-            Argument::Cord(name) => word |= mark(numbering, group, name),
-        }
-    }
-    word
-}
-
-// The word of two names.
-fn mark_two(numbering: &Numbering, group: usize, left: &Name, right: &Name) -> u128
-    ensures { Marks numbering.now group (λ x. bytes_eq x left.now || bytes_eq x right.now) result }
-{
-    let first = mark(numbering, group, left);
-    first | mark(numbering, group, right)
-}
-
 /// The word of the names whose bytes a line reads.
 pub(crate) fn mark_read(numbering: &Numbering, group: usize, statement: &Statement) -> u128
     ensures { Marks numbering.now group (λ x. reads statement.now x) result }
 {
-    match statement.reading() {
-        Reading::Operands(Operands::Nothing) => 0,
-        Reading::Operands(Operands::One(operand)) => mark(numbering, group, operand),
-        Reading::Operands(Operands::Two(left, right)) => mark_two(numbering, group, left, right),
-        Reading::Operands(Operands::Listed(parts)) => mark_all(numbering, group, parts),
-        Reading::Printed(arguments) => mark_arguments(numbering, group, arguments),
+    let mut word = 0;
+    let mut left = statement.reading();
+    'names: while let Some((name, rest)) = first_read(left) {
+        word |= mark(numbering, group, name);
+        left = rest;
     }
+    word
 }
 
 /// The word of the name that a line assigns.

@@ -1,7 +1,7 @@
 // The operands of a line, whether it reads a name, and whether it assigns it.
-ghost use Rattle.std.specs.Prelude.{◌≡◌, [], ◌∷◌, option_map};
-ghost use Rattle.cord_syntax.specs.Readings.{operand_names};
-ghost use Rattle.cord_plan.specs.Operands.{has, cord_arguments, reads, assigns};
+ghost use Rattle.std.specs.Prelude.{◌≡◌, [], ◌∷◌, option_map, MatchOption};
+ghost use Rattle.cord_syntax.specs.Readings.{operand_names, read_names};
+ghost use Rattle.cord_plan.specs.Operands.{cord_arguments, reads, assigns};
 ghost use Rattle.cord_plan.specs.inner.Choices.{simple_operands};
 
 use cord_script::{Argument, Name, Statement};
@@ -25,56 +25,57 @@ pub(crate) fn operands_of(statement: &Statement) -> Option<Operands<'_>>
     }
 }
 
-fn is(operand: &Name, name: &Name) -> bool
-    ensures { result ≡ has (operand.now ∷ []) name.now }
+// The first cord among the arguments of a format, and the arguments after it.
+fn first_cord(arguments: &[Argument]) -> Option<(&Name, &[Argument])>
+    ensures { MatchOption result (cord_arguments arguments.now ≡ []) (λ r.
+        cord_arguments arguments.now ≡ r.0.now ∷ cord_arguments r.1.now) }
 {
-    name.is(operand)
-}
-
-fn is_either(left: &Name, right: &Name, name: &Name) -> bool
-    ensures { result ≡ has (left.now ∷ right.now ∷ []) name.now }
-{
-    is(left, name) || is(right, name)
-}
-
-fn is_among(names: &[Name], name: &Name) -> bool
-    ensures { result ≡ has names.now name.now }
-{
-    for operand in names {
-        if name.is(operand) {
-            return true;
-        }
-    }
-    false
-}
-
-fn is_argument(arguments: &[Argument], name: &Name) -> bool
-    ensures { result ≡ has (cord_arguments arguments.now) name.now }
-{
-    for argument in arguments {
+    for (index, argument) in arguments.iter().enumerate() {
         match argument {
             Argument::Number(_) => {}
-            Argument::Cord(operand) => {
-                if name.is(operand) {
-                    return true;
-                }
-            }
+            Argument::Cord(name) => return Some((name, &arguments[index + 1..])),
         }
     }
-    false
+    None
+}
+
+/// The first of the cords that are read, and those after it.
+#[inline(always)]
+pub(crate) fn first_read(reading: Reading<'_>) -> Option<(&Name, Reading<'_>)>
+    ensures { MatchOption result (read_names reading.entry ≡ []) (λ r.
+        read_names reading.entry ≡ r.0.now ∷ read_names r.1) }
+{
+    match reading {
+        Reading::Operands(Operands::Nothing) => None,
+        Reading::Operands(Operands::One(name)) => {
+            Some((name, Reading::Operands(Operands::Nothing)))
+        }
+        Reading::Operands(Operands::Two(left, right)) => {
+            Some((left, Reading::Operands(Operands::One(right))))
+        }
+        Reading::Operands(Operands::Listed(names)) => match names {
+            [] => None,
+            [first, rest @ ..] => Some((first, Reading::Operands(Operands::Listed(rest)))),
+        },
+        Reading::Printed(arguments) => {
+            let (name, rest) = first_cord(arguments)?;
+            Some((name, Reading::Printed(rest)))
+        }
+    }
 }
 
 /// Whether a line reads the bytes of a name.
 pub(crate) fn reads(statement: &Statement, name: &Name) -> bool
     ensures { result ≡ reads statement.now name.now }
 {
-    match statement.reading() {
-        Reading::Operands(Operands::Nothing) => false,
-        Reading::Operands(Operands::One(operand)) => is(operand, name),
-        Reading::Operands(Operands::Two(left, right)) => is_either(left, right, name),
-        Reading::Operands(Operands::Listed(names)) => is_among(names, name),
-        Reading::Printed(arguments) => is_argument(arguments, name),
+    let mut left = statement.reading();
+    'names: while let Some((operand, rest)) = first_read(left) {
+        if name.is(operand) {
+            return true;
+        }
+        left = rest;
     }
+    false
 }
 
 /// Whether a line assigns a name.

@@ -89,15 +89,6 @@ fn is_named_once(operands: Operands, name: &Name) -> bool
     }
 }
 
-// Whether no line after a line reads the name that it has as an operand, but for what the line itself assigns.
-fn is_free(line: &Line, name: &Name, later: bool) -> bool
-    requires { later ≡ tells line.now.recent.now.later.now name.now line.now.place }
-    ensures { result ≡ (assigns line.now.statement.now name.now || not
-        (tells line.now.recent.now.later.now name.now line.now.place)) }
-{
-    assigns(line.statement, name) || !later
-}
-
 // Whether nothing but a line itself needs the text of an operand: the line names it once, and assigns it or it isn't
 // read later.
 fn is_spare(line: &Line, operand: &Name, later: bool) -> bool
@@ -105,7 +96,7 @@ fn is_spare(line: &Line, operand: &Name, later: bool) -> bool
     ensures { result ≡ is_spare line.now.statements.now (tells line.now.recent.now.later.now) line.now.place
         line.now.statement.now (operand_names line.now.operands) operand.now }
 {
-    is_named_once(line.operands, operand) && is_free(line, operand, later)
+    is_named_once(line.operands, operand) && (assigns(line.statement, operand) || !later)
 }
 
 // The parts of a line's expression beside those of its operands.
@@ -220,17 +211,6 @@ fn stands(
     is_spare(line, operand, later) && stays(line, source, expression, facts)
 }
 
-// What is known of the expression of the line at a place, which assigns a name that may have a number.
-fn known_at<'a>(known: &'a Known, number: Option<usize>, place: usize) -> Option<&'a Facts>
-    ensures { (t : Numbering) (table : List (Option plain.Expr)) (e : plain.Expr) → IsKnown t table known.now →
-        expression_in table place ≡ Some e → IfSome result (λ f. IsFacts t e f.now) }
-{
-    match number {
-        None => None,
-        Some(number) => known.at(number, place),
-    }
-}
-
 /// What stands for the next operand of a line, which has this number, after those that were chosen for, where the lines
 /// before it have these operations.
 pub(crate) fn choose<'a>(
@@ -262,7 +242,7 @@ pub(crate) fn choose<'a>(
             Some(expression) => {
                 let later = line.recent.later;
                 let later = later.is_operand_later(operand, number, chosen.len(), line.place);
-                let facts = known_at(known, number, source);
+                let facts = known.at(number, source);
                 if stands(line, operand, later, source, expression, facts)
                     && stays_small(line, chosen, expression, facts)
                 {

@@ -1,6 +1,7 @@
 // The expression of the next line, over the operations of the lines before it.
 ghost use Rattle.std.specs.Prelude.{◌≡◌, ◌≤◌, ◌++◌, ◌∷◌, ◌&&◌, [], Some, IfOk, IsOkUnless, length, map};
 ghost use Rattle.std.specs.Prelude.{option_map};
+ghost use Rattle.cord_plan.specs.Forced.{expr_of, expr_with};
 ghost use Rattle.cord_plan.specs.inner.Choices.{choice_view, simple_operands};
 ghost use Rattle.cord_syntax.specs.Readings.{operand_names};
 ghost use Rattle.cord_plan.specs.inner.Known.{IsKnown};
@@ -64,6 +65,35 @@ fn adds_name(line: &Line, first: &Choice, second: &Choice) -> bool
     is_last(first, line.place) && is_named(second)
 }
 
+// The expression of a simple line with these choices, beside the lines that it takes.
+#[inline(always)]
+fn taking(
+    alloc: Global,
+    interner: &mut Interner,
+    statement: &Statement,
+    choices: &[Choice],
+    sources: Sources,
+    extends: bool,
+) -> Result<LineExpression, CordError>
+    ensures made { IfOk result (λ t. option_map expr_view t.expression
+        ≡ expr_with statement.now (map expr_of (map choice_view choices.now))) }
+    ensures sources { IfOk result (λ t. t.sources ≡ sources) }
+    ensures extends { IfOk result (λ t. t.extends ≡ extends) }
+    ensures refused { IsOkUnless result CordError.NoMemory }
+{
+    match expression_with(alloc, interner, statement, choices) {
+        Ok(expression) => Ok(LineExpression {
+            expression,
+            sources,
+            extends,
+        }),
+        Err(error) => {
+            drop(sources);
+            Err(error)
+        }
+    }
+}
+
 // The expression of a simple line. What is chosen for at most two operands takes no memory.
 fn expression_over<'a>(
     alloc: Global,
@@ -92,43 +122,34 @@ fn expression_over<'a>(
 {
     let (statement, numbering) = (line.statement, &line.recent.later.numbering);
     match line.operands {
-        Operands::Nothing => Ok(LineExpression {
-            expression: expression_with(alloc, interner, statement, &[])?,
-            sources: Sources::Nothing,
-            extends: false,
-        }),
+        Operands::Nothing => taking(alloc, interner, statement, &[], Sources::Nothing, false),
         Operands::One(operand) => {
             let number = numbering.number_of(operand);
             let choice = choose(line, known, operand, number, operations, &[]);
             known.note_one(line, &choice, number);
-            let extends = adds_byte(line, &choice);
-            Ok(LineExpression {
-                expression: expression_with(alloc, interner, statement, &[choice])?,
-                sources: Sources::One(source_of(&choice)),
-                extends,
-            })
+            let (sources, extends) = (Sources::One(source_of(&choice)), adds_byte(line, &choice));
+            taking(alloc, interner, statement, &[choice], sources, extends)
         }
         Operands::Two(left, right) => {
             let (one, two) = (numbering.number_of(left), numbering.number_of(right));
             let first = choose(line, known, left, one, operations, &[]);
             let second = choose(line, known, right, two, operations, &[first]);
             known.note_two(line, &first, one, &second, two);
+            let sources = Sources::Two(source_of(&first), source_of(&second));
             let extends = adds_name(line, &first, &second);
-            Ok(LineExpression {
-                expression: expression_with(alloc, interner, statement, &[first, second])?,
-                sources: Sources::Two(source_of(&first), source_of(&second)),
+            taking(
+                alloc,
+                interner,
+                statement,
+                &[first, second],
+                sources,
                 extends,
-            })
+            )
         }
         Operands::Listed(operands) => {
             let choices = choose_all(alloc, line, known, operands, operations)?;
-            let expression = expression_with(alloc, interner, statement, &choices)?;
             let sources = Sources::Listed(sources_of(alloc, &choices)?);
-            Ok(LineExpression {
-                expression,
-                sources,
-                extends: false,
-            })
+            taking(alloc, interner, statement, &choices, sources, false)
         }
     }
 }

@@ -45,9 +45,9 @@ fn with_copy(alloc: Global, members: Members, expression: &Expr) -> Result<Membe
 {
     match expression {
         Expr::Cat(inner) => members.with_shared(alloc, inner),
-        Expr::Name(_) => members.with(alloc, shared_copy(alloc, expression)?),
-        Expr::Run { .. } => members.with(alloc, shared_copy(alloc, expression)?),
-        Expr::Sub { .. } => members.with(alloc, shared_copy(alloc, expression)?),
+        Expr::Name(_) | Expr::Run { .. } | Expr::Sub { .. } => {
+            members.with(alloc, shared_copy(alloc, expression)?)
+        }
     }
 }
 

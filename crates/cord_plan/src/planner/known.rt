@@ -108,12 +108,12 @@ impl Known {
         Ok(Known { entries })
     }
 
-    /// What is known of the expression of the line at a place, which assigns the name of a number.
-    pub(crate) fn at(&self, number: usize, place: usize) -> Option<&Facts>
+    /// What is known of the expression of the line at a place, which assigns a name that may have a number.
+    pub(crate) fn at(&self, number: Option<usize>, place: usize) -> Option<&Facts>
         ensures { (t : Numbering) (table : List (Option plain.Expr)) (e : plain.Expr) → IsKnown t table self.now →
             expression_in table place ≡ Some e → IfSome result (λ f. IsFacts t e f.now) }
     {
-        match self.entries.get(number) {
+        match self.entries.get(number?) {
             Some(Some(entry)) if entry.place == place => Some(&entry.facts),
             _ => None,
         }
@@ -125,15 +125,9 @@ impl Known {
             number ≡ number_of t x → IsFrom table x (choice_view choice.now) →
             IfSome result (λ f. IsFacts t (expr_of (choice_view choice.now)) f) }
     {
-        match (choice, number) {
-            (Choice::Named(_), Some(number)) => Some(Facts::of_name(number)),
-            (Choice::Replaced(place, _), Some(number)) => {
-                match self.at(number, *place) {
-                    None => None,
-                    Some(facts) => Some(*facts),
-                }
-            }
-            _ => None,
+        match choice {
+            Choice::Named(_) => Some(Facts::of_name(number?)),
+            Choice::Replaced(place, _) => Some(*self.at(number, *place)?),
         }
     }
 

@@ -17,7 +17,7 @@ stands-requires-clause-facts c =
     let table = map operation_expression (map operation_view c.args.operations.now) in
     let e = expr_view c.in-Some-expression_at.expression.now in
     let there : Some e ≡ expression_in table c.in-Some.source = c.in-Some-expression_at.ensures in
-    c.known_at-facts.ensures line.recent.now.later.now.numbering table e c.requires.known (sym there)
+    c.at-facts.ensures line.recent.now.later.now.numbering table e c.requires.known (sym there)
 
 pub stays_small-requires-clause-facts : goal.stays_small-requires-clause-facts
 stays_small-requires-clause-facts c =
@@ -25,7 +25,7 @@ stays_small-requires-clause-facts c =
     let table = map operation_expression (map operation_view c.args.operations.now) in
     let e = expr_view c.in-Some-expression_at.expression.now in
     let there : Some e ≡ expression_in table c.in-Some.source = c.in-Some-expression_at.ensures in
-    c.known_at-facts.ensures line.recent.now.later.now.numbering table e c.requires.known (sym there)
+    c.at-facts.ensures line.recent.now.later.now.numbering table e c.requires.known (sym there)
 
 pub returns-in-None : goal.returns-in-None
 returns-in-None c =

@@ -11,9 +11,9 @@ returns-in-Some-Some c = λ t table e known there.
     let slot = c.in-Some-Some.field-0.now in
     let entries = c.deref.result.now in
     let lookup = c.in-Some-Some.ensures.lookup in
-    let read : slice_get entries c.args.number ≡ Some slot = slice_get_read entries (length entries) c.args.number slot refl lookup.3.0
+    let read : slice_get entries c.in_ok-number.field-0 ≡ Some slot = slice_get_read entries (length entries) c.in_ok-number.field-0 slot refl lookup.3.0
     lookup.1 in
-    let found : slice_get c.args.self.now.entries.items c.args.number ≡ Some (Some entry) =
+    let found : slice_get c.args.self.now.entries.items c.in_ok-number.field-0 ≡ Some (Some entry) =
     rw (← c.deref.ensures.value, ← c.in-Some-Some.field-0-is) read in
-    facts_are t (expression_in table entry.place) e entry.facts (known c.args.number entry found)
+    facts_are t (expression_in table entry.place) e entry.facts (known c.in_ok-number.field-0 entry found)
     (ap (expression_in table) c.if-entry-place.true ∙ there)
