@@ -17,7 +17,8 @@
 #define MIB ((uint64_t)1 << 20)
 #define PART 100 /* the bytes of a part of a text that is worked on */
 #define OTHER_PART 70
-#define MOST_PARTS ((uint64_t)10000000)
+#define MOST_PARTS ((uint64_t)1000000)
+#define MOST_LEN ((uint64_t)100000000) /* of a text that is made by cat of short parts */
 #define CALLS ((uint64_t)100000)
 
 char source[2 * SOURCE_LEN];
@@ -99,7 +100,7 @@ static struct sample memory_by_growing(const struct library *by, uint64_t size) 
 
 /* A text as many appends leave it: of parts of so many bytes, or of greater ones where they would be too many. */
 static void *grown(const struct library *by, uint64_t size, size_t part) {
-    return by->by_cat(size, size / part <= MOST_PARTS / 10 ? part : 40 * part);
+    return by->by_cat(size, size / part <= MOST_PARTS ? part : 40 * part);
 }
 
 static void *balanced(const struct library *by, uint64_t size) {
@@ -212,8 +213,8 @@ struct row {
 };
 
 static const struct row ROWS[] = {
-    {"append_10", "append 10 bytes by cat, an append", 0, 100000000, append_10},
-    {"append_100", "append 100 bytes by cat, an append", 0, MOST_PARTS * 100, append_100},
+    {"append_10", "append 10 bytes by cat, an append", 0, MOST_LEN, append_10},
+    {"append_100", "append 100 bytes by cat, an append", 0, MOST_LEN, append_100},
     {"grow_10", "append 10 bytes to a text that grows, an append", 0, UINT64_MAX, grow_10},
     {"grow_100", "append 100 bytes to one, an append", 0, UINT64_MAX, grow_100},
     {"cut_grown", "cut 100 bytes out of a grown text, a cut", 0, UINT64_MAX, cut_grown},
