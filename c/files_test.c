@@ -106,7 +106,7 @@ static void null_reads_nothing(void) {
     char bytes[8] = "";
     open_pipe(ends);
     EXPECT(write(ends[1], "abc", 3) == 3);
-    EXPECT(zc_from_fd(ends[0], NULL) == ZC_BAD_ARGUMENT);
+    EXPECT(zc_from_fd(ends[0], NULL) == ZC_NULL);
     EXPECT(read(ends[0], bytes, sizeof bytes) == 3 && memcmp(bytes, "abc", 3) == 0);
     close_pipe(ends);
 }
@@ -192,8 +192,8 @@ static void puts_of_ranges(void) {
     EXPECT(zc_put_range(&x, 4, 99, ends[1], &done) == ZC_OK && done == 2);
     EXPECT(zc_put_range(&x, 99, UINT64_MAX, ends[1], &done) == ZC_OK && done == 0);
     EXPECT(read(ends[0], bytes, sizeof bytes) == 4 && memcmp(bytes, "bcef", 4) == 0);
-    EXPECT(zc_put_range(&x, 0, 6, ends[1], NULL) == ZC_BAD_ARGUMENT);
-    EXPECT(zc_put_range(NULL, 0, 6, ends[1], &done) == ZC_BAD_ARGUMENT);
+    EXPECT(zc_put_range(&x, 0, 6, ends[1], NULL) == ZC_NULL);
+    EXPECT(zc_put_range(NULL, 0, 6, ends[1], &done) == ZC_NULL);
     EXPECT(zc_put_range(&x, 0, 6, full, &done) == ZC_WRITE_FAILED && errno == ENOSPC && done == 0);
     EXPECT(close(ends[0]) == 0);
     EXPECT(zc_put_range(&x, 0, 6, ends[1], &done) == ZC_WRITE_FAILED && errno == EPIPE && done == 0);
@@ -310,10 +310,10 @@ static void files_refused(void) {
     alarm(0);
     EXPECT(unlink(path) == 0);
     EXPECT(zc_files_open(&files, path, &file, &length) == ZC_READ_FAILED && errno == ENOENT);
-    EXPECT(zc_files_open(NULL, path, &file, &length) == ZC_BAD_ARGUMENT);
-    EXPECT(zc_files_open(&files, NULL, &file, &length) == ZC_BAD_ARGUMENT);
-    EXPECT(zc_files_open(&files, path, NULL, &length) == ZC_BAD_ARGUMENT);
-    EXPECT(zc_files_open(&files, path, &file, NULL) == ZC_BAD_ARGUMENT);
+    EXPECT(zc_files_open(NULL, path, &file, &length) == ZC_NULL);
+    EXPECT(zc_files_open(&files, NULL, &file, &length) == ZC_NULL);
+    EXPECT(zc_files_open(&files, path, NULL, &length) == ZC_NULL);
+    EXPECT(zc_files_open(&files, path, &file, NULL) == ZC_NULL);
     EXPECT(file == 7 && length == 7 && files.count == 0);
 }
 

@@ -222,6 +222,29 @@ static void join(size_t x, size_t y, size_t out) {
     }
 }
 
+/* The calls that change a cord in place, and repeats. */
+static void change(size_t x, size_t y, size_t out) {
+    uint64_t start = place_in(&texts[x]), count = count_in(&texts[x]) % 200, times = below(4);
+    switch (below(3)) {
+    case 0:
+        if (!fits(x, y)) return;
+        made = texts[x];
+        append(&made, texts[y].bytes, texts[y].count);
+        check_made(zc_append(&cords[x], &cords[y]), x);
+        break;
+    case 1:
+        if (!fits(x, y)) return;
+        replace_part(&made, &texts[x], start, count, &texts[y]);
+        check_made(zc_splice(&cords[x], start, count, &cords[y]), x);
+        break;
+    default:
+        if (texts[x].count * times > LONGEST) return;
+        made.count = 0;
+        for (uint64_t i = 0; i < times; i++) append(&made, texts[x].bytes, texts[x].count);
+        check_made(zc_repeat(&cords[x], times, &cords[out]), out);
+    }
+}
+
 static void join_many(size_t x, size_t y, size_t out) {
     size_t first = x < y ? x : y, count = below(CORDS - first + 1), total = 0;
     for (size_t i = first; i < first + count; i++) total += texts[i].count;
@@ -269,7 +292,7 @@ static void take_line(size_t x, size_t out) {
     int code = zc_nth_line(&cords[x], number, &cords[out]);
     if (begin >= all->count) {
         refuse_in = 0;
-        CHECK(code == ZC_BAD_ARGUMENT || code == ZC_NO_MEMORY);
+        CHECK(code == ZC_PAST_END || code == ZC_NO_MEMORY);
         check_cord(&cords[out], &texts[out]);
         return;
     }
@@ -281,13 +304,14 @@ static void take_line(size_t x, size_t out) {
 static void print_texts(size_t x, size_t out) {
     char wanted[64];
     zc_arg args[2] = {ZC_TEXT, ZC_NUMBER((int64_t)below(2000) - 1000)};
+    uint64_t at = 7;
     if (texts[x].count + 40 > LONGEST) return;
     refuse_in = 0;
     CHECK(zc_share(&cords[x], &args[0].text) == ZC_OK);
     refuse_in = below(16) == 0 ? 1 + below(4) : 0;
     made = texts[x];
     append(&made, wanted, (size_t)snprintf(wanted, sizeof wanted, "|%+05d%%", (int)args[1].number));
-    check_made(zc_sprintf("%s|%+05d%%", 10, args, 2, &cords[out]), out);
+    check_made(zc_sprintf("%s|%+05d%%", 10, args, 2, &cords[out], &at), out);
     zc_free(&args[0].text);
 }
 
@@ -315,6 +339,10 @@ static uint64_t last_place(const text *x, uint64_t end, unsigned char byte) {
     return found == NULL ? ZC_NOT_FOUND : (uint64_t)(found - x->bytes);
 }
 
+static int ends_with(const text *x, const text *end) {
+    return end->count <= x->count && memcmp(x->bytes + x->count - end->count, end->bytes, end->count) == 0;
+}
+
 static int32_t order_of(const unsigned char *x, size_t i, const unsigned char *y, size_t j) {
     int found = memcmp(x, y, i < j ? i : j);
     if (found == 0) found = (i > j) - (i < j);
@@ -329,9 +357,11 @@ static void search(size_t x, size_t y) {
     wanted = first_place(&texts[x], start, part.bytes, part.count);
     block = block_of(part.bytes, part.count);
     if (is_done(zc_find(&cords[x], start, block, part.count, &place))) CHECK(place == wanted);
+    CHECK(zc_starts_with(&cords[x], block, part.count) == (first_place(&texts[x], 0, part.bytes, part.count) == 0));
+    CHECK(zc_ends_with(&cords[x], block, part.count) == ends_with(&texts[x], &part));
     free(block);
-    CHECK(zc_chr(&cords[x], start, byte) == first_place(&texts[x], start, &byte, 1));
-    CHECK(zc_rchr(&cords[x], start, byte) == last_place(&texts[x], start, byte));
+    CHECK(zc_chr(&cords[x], start, byte, &place) == ZC_OK && place == first_place(&texts[x], start, &byte, 1));
+    CHECK(zc_rchr(&cords[x], start, byte, &place) == ZC_OK && place == last_place(&texts[x], start, byte));
 }
 
 static void search_cord(size_t x, size_t y) {
@@ -348,7 +378,9 @@ static void search_cord(size_t x, size_t y) {
 static void compare(size_t x, size_t y) {
     static text left, right;
     uint64_t i = place_in(&texts[x]), j = place_in(&texts[y]), count = count_in(&texts[x]);
-    int32_t order = 7;
+    int32_t order = 7, equal = 7;
+    if (is_done(zc_equal(&cords[x], &cords[y], &equal)))
+        CHECK(equal == (order_of(texts[x].bytes, texts[x].count, texts[y].bytes, texts[y].count) == 0));
     if (is_done(zc_cmp(&cords[x], &cords[y], &order)))
         CHECK(order == order_of(texts[x].bytes, texts[x].count, texts[y].bytes, texts[y].count));
     cut(&left, &texts[x], i, count);
@@ -363,8 +395,8 @@ static void read_some(size_t x) {
     unsigned char byte = 7, *block = block_of(NULL, count);
     CHECK(zc_read(&cords[x], start, block, count, &got) == ZC_OK && got == wanted);
     CHECK(got == 0 || memcmp(block, texts[x].bytes + start, got) == 0);
-    CHECK(zc_to_bytes(&cords[x], start, block, count) == (wanted == count ? ZC_OK : ZC_BAD_ARGUMENT));
-    CHECK(zc_fetch(&cords[x], start, &byte) == (start < texts[x].count ? ZC_OK : ZC_BAD_ARGUMENT));
+    CHECK(zc_to_bytes(&cords[x], start, block, count) == (wanted == count ? ZC_OK : ZC_PAST_END));
+    CHECK(zc_fetch(&cords[x], start, &byte) == (start < texts[x].count ? ZC_OK : ZC_PAST_END));
     CHECK(byte == (start < texts[x].count ? texts[x].bytes[start] : 7));
     free(block);
 }
@@ -419,7 +451,7 @@ static void step(size_t x) {
     stands = position_index < position_text.count;
     if (!stands) position_index = UINT64_MAX;
     CHECK(zc_pos_index(&position) == (stands ? position_index : ZC_NOT_FOUND));
-    CHECK(zc_pos_fetch(&position, &byte) == (stands ? ZC_OK : ZC_BAD_ARGUMENT));
+    CHECK(zc_pos_fetch(&position, &byte) == (stands ? ZC_OK : ZC_PAST_END));
     CHECK(byte == (stands ? position_text.bytes[position_index] : 7));
 }
 
@@ -490,7 +522,7 @@ static void ask_lazily(size_t x, size_t y, size_t out) {
     CHECK(place == last_place(&lazy_texts[x], start, byte));
     CHECK(zc_lazy_cmp(&files, &lazies[x], &lazies[y], &order) == ZC_OK);
     CHECK(order == order_of(lazy_texts[x].bytes, lazy_texts[x].count, lazy_texts[y].bytes, lazy_texts[y].count));
-    CHECK(zc_lazy_fetch(&files, &lazies[x], start, &found) == (start < lazy_texts[x].count ? ZC_OK : ZC_BAD_ARGUMENT));
+    CHECK(zc_lazy_fetch(&files, &lazies[x], start, &found) == (start < lazy_texts[x].count ? ZC_OK : ZC_PAST_END));
     CHECK(found == (start < lazy_texts[x].count ? lazy_texts[x].bytes[start] : 7));
     cut(&part, &lazy_texts[y], place_in(&lazy_texts[y]), below(6));
     if (is_done(zc_lazy_find(&files, &lazies[x], start, part.bytes, part.count, &place)))
@@ -536,6 +568,7 @@ static const struct {
     void (*three)(size_t x, size_t y, size_t out);
 } GROUPS[] = {
     {"make", make, NULL}, {"join", NULL, join}, {"join", NULL, join}, {"join_many", NULL, join_many},
+    {"change", NULL, change},
     {"edit", NULL, edit}, {"edit", NULL, edit}, {"edit", NULL, edit}, {"take_line", take_line, NULL}, {"print_texts", print_texts, NULL},
     {"move_handles", move_handles, NULL}, {"search", search, NULL}, {"search_cord", search_cord, NULL},
     {"compare", compare, NULL}, {"grow", grow, NULL},

@@ -24,10 +24,14 @@ const char *zc_message(int code) {
     case ZC_NO_MEMORY: return "no memory";
     case ZC_READ_FAILED: return "read failed";
     case ZC_WRITE_FAILED: return "write failed";
-    case ZC_BAD_ARGUMENT: return "bad argument";
+    case ZC_PAST_END: return "past the end";
     case ZC_IN_FILE: return "in a file";
     case ZC_TOO_MANY_FILES: return "too many files";
     case ZC_WOULD_BLOCK: return "would block";
+    case ZC_NULL: return "null pointer";
+    case ZC_BAD_FORMAT: return "bad format";
+    case ZC_WRONG_ARGUMENTS: return "wrong arguments";
+    case ZC_BAD_VALUE: return "bad value";
     default: return "unknown code";
     }
 }
@@ -71,7 +75,7 @@ static int read_source(const source *from, uint64_t start, void *bytes, size_t c
 
 static int put(const source *x, uint64_t from, uint64_t to, int fd, uint64_t *done) {
     unsigned char bytes[BLOCK];
-    if (done == NULL) return ZC_BAD_ARGUMENT;
+    if (done == NULL) return ZC_NULL;
     *done = 0;
     while (from + *done < to) {
         size_t got = 0;
@@ -84,7 +88,7 @@ static int put(const source *x, uint64_t from, uint64_t to, int fd, uint64_t *do
 
 int zc_put_range(zc_cord *x, uint64_t from, uint64_t to, int fd, uint64_t *done) {
     source read = {x, NULL, NULL};
-    return x == NULL ? ZC_BAD_ARGUMENT : put(&read, from, to, fd, done);
+    return x == NULL ? ZC_NULL : put(&read, from, to, fd, done);
 }
 
 int zc_put(zc_cord *x, int fd) {
@@ -94,7 +98,7 @@ int zc_put(zc_cord *x, int fd) {
 
 int zc_lazy_put_range(zc_files *files, zc_lazy *x, uint64_t from, uint64_t to, int fd, uint64_t *done) {
     source read = {NULL, x, files};
-    return files == NULL || x == NULL ? ZC_BAD_ARGUMENT : put(&read, from, to, fd, done);
+    return files == NULL || x == NULL ? ZC_NULL : put(&read, from, to, fd, done);
 }
 
 int zc_lazy_put(zc_files *files, zc_lazy *x, int fd) {
@@ -127,7 +131,7 @@ static int take(int fd, int is_part_kept, zc_cord *out) {
 }
 
 int zc_from_fd(int fd, zc_cord *out) {
-    return out == NULL ? ZC_BAD_ARGUMENT : take(fd, 1, out);
+    return out == NULL ? ZC_NULL : take(fd, 1, out);
 }
 
 /* Opens a file to be read, which a program that is started doesn't inherit: its descriptor, or -1. */
@@ -154,7 +158,7 @@ static int take_whole(int fd, zc_cord *out) {
 
 int zc_from_path(const char *path, zc_cord *out) {
     int fd;
-    if (path == NULL || out == NULL) return ZC_BAD_ARGUMENT;
+    if (path == NULL || out == NULL) return ZC_NULL;
     fd = open_to_read(path, 0);
     return fd < 0 ? ZC_READ_FAILED : take_whole(fd, out);
 }
@@ -208,7 +212,7 @@ static int keep(zc_files *files, int fd, const struct stat *told, uint32_t *file
 int zc_files_open(zc_files *files, const char *path, uint32_t *file, uint64_t *length) {
     struct stat told;
     int fd, code;
-    if (files == NULL || path == NULL || file == NULL || length == NULL) return ZC_BAD_ARGUMENT;
+    if (files == NULL || path == NULL || file == NULL || length == NULL) return ZC_NULL;
     fd = open_regular(path, &told);
     if (fd < 0) return ZC_READ_FAILED;
     code = keep(files, fd, &told, file);
@@ -246,7 +250,7 @@ static int lazy_of(zc_files *files, int fd, const struct stat *told, zc_lazy *ou
 int zc_lazy_from_path(zc_files *files, const char *path, zc_lazy *out) {
     struct stat told;
     int fd;
-    if (files == NULL || path == NULL || out == NULL) return ZC_BAD_ARGUMENT;
+    if (files == NULL || path == NULL || out == NULL) return ZC_NULL;
     fd = open_regular(path, &told);
     return fd < 0 ? ZC_READ_FAILED : lazy_of(files, fd, &told, out);
 }
@@ -255,7 +259,7 @@ int zc_lazy_by_length(zc_files *files, const char *path, zc_lazy *out) {
     zc_cord whole = ZC_EMPTY;
     struct stat told;
     int fd, code;
-    if (files == NULL || path == NULL || out == NULL) return ZC_BAD_ARGUMENT;
+    if (files == NULL || path == NULL || out == NULL) return ZC_NULL;
     fd = open_regular(path, &told);
     if (fd < 0) return ZC_READ_FAILED;
     if (told.st_size > ZC_SHORT_FILE) return lazy_of(files, fd, &told, out);
@@ -284,7 +288,7 @@ static ssize_t read_at(const zc_files *files, uint32_t file, uint64_t place, voi
 int zc_lazy_read(zc_files *files, zc_lazy *x, uint64_t start, void *bytes, size_t count, size_t *got) {
     unsigned char *to = (unsigned char *)bytes;
     size_t done = 0, part = 0;
-    if (files == NULL || x == NULL || got == NULL) return ZC_BAD_ARGUMENT;
+    if (files == NULL || x == NULL || got == NULL) return ZC_NULL;
     while (done < count) {
         uint32_t file = 0;
         uint64_t place = 0;
@@ -303,8 +307,8 @@ int zc_lazy_read(zc_files *files, zc_lazy *x, uint64_t start, void *bytes, size_
 int zc_lazy_fetch(zc_files *files, zc_lazy *x, uint64_t place, unsigned char *byte) {
     unsigned char found = 0;
     size_t got = 0;
-    int code = byte == NULL ? ZC_BAD_ARGUMENT : zc_lazy_read(files, x, place, &found, 1, &got);
-    if (code == ZC_OK && got == 0) code = ZC_BAD_ARGUMENT;
+    int code = byte == NULL ? ZC_NULL : zc_lazy_read(files, x, place, &found, 1, &got);
+    if (code == ZC_OK && got == 0) code = ZC_PAST_END;
     if (code == ZC_OK) *byte = found;
     return code;
 }
@@ -312,7 +316,7 @@ int zc_lazy_fetch(zc_files *files, zc_lazy *x, uint64_t place, unsigned char *by
 int zc_lazy_chr(zc_files *files, zc_lazy *x, uint64_t start, unsigned char byte, uint64_t *place) {
     unsigned char bytes[BLOCK], *found = NULL;
     size_t got = 0;
-    if (place == NULL) return ZC_BAD_ARGUMENT;
+    if (place == NULL) return ZC_NULL;
     for (; found == NULL; start += got) {
         int code = zc_lazy_read(files, x, start, bytes, sizeof bytes, &got);
         if (code != ZC_OK) return code;
@@ -327,7 +331,7 @@ int zc_lazy_chr(zc_files *files, zc_lazy *x, uint64_t start, unsigned char byte,
 int zc_lazy_rchr(zc_files *files, zc_lazy *x, uint64_t end, unsigned char byte, uint64_t *place) {
     unsigned char bytes[BLOCK];
     uint64_t at = smaller(zc_lazy_len(x), end), from = at;
-    if (files == NULL || x == NULL || place == NULL) return ZC_BAD_ARGUMENT;
+    if (files == NULL || x == NULL || place == NULL) return ZC_NULL;
     for (; at > 0; at--) {
         if (at == from) {
             size_t count = (size_t)smaller(at, sizeof bytes);
@@ -346,7 +350,7 @@ int zc_lazy_cmp(zc_files *files, zc_lazy *x, zc_lazy *y, int32_t *order) {
     uint64_t start = 0;
     size_t got = 0, other = 0;
     int found = 0;
-    if (order == NULL) return ZC_BAD_ARGUMENT;
+    if (order == NULL) return ZC_NULL;
     do {
         int code = zc_lazy_read(files, x, start, own, sizeof own, &got);
         if (code == ZC_OK) code = zc_lazy_read(files, y, start, others, sizeof others, &other);
@@ -395,7 +399,7 @@ static int find_in_windows(zc_files *files, zc_lazy *x, uint64_t start, const vo
 }
 
 int zc_lazy_find(zc_files *files, zc_lazy *x, uint64_t start, const void *bytes, size_t count, uint64_t *place) {
-    if (files == NULL || x == NULL || place == NULL) return ZC_BAD_ARGUMENT;
+    if (files == NULL || x == NULL || place == NULL) return ZC_NULL;
     if (count > 0) return find_in_windows(files, x, start, bytes, count, place);
     *place = start <= zc_lazy_len(x) ? start : ZC_NOT_FOUND;
     return ZC_OK;

@@ -18,7 +18,8 @@ static void must(int code) {
 /* A row of the table, whose name the argument has. */
 static void format_row(zc_arg *name, int64_t value, zc_cord *out) {
     zc_arg args[] = {*name, ZC_NUMBER(value)};
-    must(zc_sprintf("%-12s|%8d\n", 10, args, 2, out));
+    uint64_t at = 0;
+    must(zc_sprintf("%-12s|%8d\n", 10, args, 2, out, &at));
     name->text = args[0].text;
 }
 
@@ -32,7 +33,8 @@ static int64_t number_of(zc_cord *digits) {
 /* Adds the row of the line between two places. */
 static int64_t add_line(uint64_t begin, uint64_t end) {
     zc_arg name = ZC_TEXT;
-    uint64_t space = zc_chr(&text, begin, ' ');
+    uint64_t space = 0;
+    must(zc_chr(&text, begin, ' ', &space));
     must(zc_substr(&text, begin, space - begin, &name.text));
     must(zc_substr(&text, space + 1, end - space - 1, &number));
     int64_t value = number_of(&number);
@@ -51,7 +53,7 @@ int main(int words, char **word) {
     }
     must(zc_from_path(word[1], &text));
     for (uint64_t begin = 0, end; begin < zc_len(&text); begin = end + 1) {
-        end = zc_chr(&text, begin, '\n');
+        must(zc_chr(&text, begin, '\n', &end));
         if (end == ZC_NOT_FOUND) end = zc_len(&text);
         total += add_line(begin, end);
     }

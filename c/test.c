@@ -20,6 +20,18 @@ static void expect_text(zc_cord *x, const char *bytes, size_t count, int line) {
 }
 #define EXPECT_TEXT(x, text) expect_text((x), (text), sizeof(text) - 1, __LINE__)
 
+static uint64_t byte_place(zc_cord *x, uint64_t start, char byte) {
+    uint64_t place = 12345;
+    DO(zc_chr(x, start, (unsigned char)byte, &place));
+    return place;
+}
+
+static uint64_t last_byte_place(zc_cord *x, uint64_t end, char byte) {
+    uint64_t place = 12345;
+    DO(zc_rchr(x, end, (unsigned char)byte, &place));
+    return place;
+}
+
 static uint64_t place_of(zc_cord *x, uint64_t start, zc_cord *y) {
     uint64_t place = 12345;
     DO(zc_str(x, start, y, &place));
@@ -145,12 +157,14 @@ static void one_handle_twice_elsewhere(void) {
     zc_cord parts[2] = {ZC_EMPTY, ZC_EMPTY};
     zc_arg arg = ZC_TEXT;
     zc_lazy x = ZC_LAZY_EMPTY;
+    uint64_t at = 7;
     DO(zc_from_bytes("ab", 2, &parts[0]));
     DO(zc_from_bytes("cd", 2, &parts[1]));
     DO(zc_catn(parts, 2, &parts[0]));
     EXPECT_TEXT(&parts[0], "abcd");
     DO(zc_share(&parts[1], &arg.text));
-    DO(zc_sprintf("<%s>", 4, &arg, 1, &arg.text));
+    DO(zc_sprintf("<%s>", 4, &arg, 1, &arg.text, &at));
+    EXPECT(at == 7);
     EXPECT_TEXT(&arg.text, "<cd>");
     DO(zc_lazy_from_cord(&parts[0], &x));
     DO(zc_lazy_cat(&x, &x, &x));
@@ -166,8 +180,11 @@ static void one_handle_twice_elsewhere(void) {
     zc_lazy_free(&x);
 }
 
+static uint64_t format_at;
+
 static int format(const char *text, zc_arg *args, size_t count, zc_cord *out) {
-    return zc_sprintf(text, strlen(text), args, count, out);
+    format_at = 77;
+    return zc_sprintf(text, strlen(text), args, count, out, &format_at);
 }
 
 static void formats(void) {
@@ -202,17 +219,17 @@ static void formats_refused(void) {
     zc_cord out = ZC_EMPTY;
     DO(zc_from_bytes("old", 3, &out));
     if (!may_want) {
-        EXPECT(format("%", args, 0, &out) == ZC_BAD_ARGUMENT);
-        EXPECT(format("%f", args + 1, 1, &out) == ZC_BAD_ARGUMENT);
-        EXPECT(format("%+s", args, 1, &out) == ZC_BAD_ARGUMENT);
-        EXPECT(format("%s", args, 0, &out) == ZC_BAD_ARGUMENT);
-        EXPECT(format("%s", args, 2, &out) == ZC_BAD_ARGUMENT);
-        EXPECT(format("%d", args, 1, &out) == ZC_BAD_ARGUMENT);
-        EXPECT(format("%s", args + 1, 1, &out) == ZC_BAD_ARGUMENT);
-        EXPECT(format("%u", args + 1, 1, &out) == ZC_BAD_ARGUMENT);
-        EXPECT(format("%c", args + 1, 1, &out) == ZC_BAD_ARGUMENT);
+        EXPECT(format("%", args, 0, &out) == ZC_BAD_FORMAT && format_at == 0);
+        EXPECT(format("ab%f", args + 1, 1, &out) == ZC_BAD_FORMAT && format_at == 2);
+        EXPECT(format("%d %%%+s", args, 1, &out) == ZC_BAD_FORMAT && format_at == 5);
+        EXPECT(format("%s", args, 0, &out) == ZC_WRONG_ARGUMENTS && format_at == 77);
+        EXPECT(format("%s", args, 2, &out) == ZC_WRONG_ARGUMENTS && format_at == 77);
+        EXPECT(format("%d", args, 1, &out) == ZC_WRONG_ARGUMENTS && format_at == 77);
+        EXPECT(format("%s", args + 1, 1, &out) == ZC_WRONG_ARGUMENTS && format_at == 77);
+        EXPECT(format("%u", args + 1, 1, &out) == ZC_BAD_VALUE && format_at == 0);
+        EXPECT(format("%s%c", args, 2, &out) == ZC_BAD_VALUE && format_at == 1);
         args[1].number = 256;
-        EXPECT(format("%c", args + 1, 1, &out) == ZC_BAD_ARGUMENT);
+        EXPECT(format("%s%c", args, 2, &out) == ZC_BAD_VALUE && format_at == 1);
     }
     DO(zc_chars('m', ZC_MAX_LEN, &many[0].text));
     DO(zc_chars('m', 1, &many[1].text));
@@ -254,6 +271,61 @@ static void cuts(void) {
     zc_free(&c);
 }
 
+/* Cords that change in place, and repeats. */
+static void changes(void) {
+    zc_cord a = ZC_EMPTY, b = ZC_EMPTY, most = ZC_EMPTY;
+    DO(zc_from_bytes("ab", 2, &a));
+    DO(zc_append(&b, &a));
+    EXPECT_TEXT(&b, "ab");
+    DO(zc_append(&b, &a));
+    DO(zc_append(&b, &b));
+    EXPECT_TEXT(&b, "abababab");
+    DO(zc_splice(&b, 1, 5, &a));
+    EXPECT_TEXT(&b, "aabab");
+    DO(zc_splice(&b, 99, UINT64_MAX, &a));
+    EXPECT_TEXT(&b, "aababab");
+    DO(zc_splice(&b, 0, 5, &b));
+    EXPECT_TEXT(&b, "aabababab");
+    DO(zc_repeat(&a, 3, &b));
+    EXPECT_TEXT(&b, "ababab");
+    DO(zc_repeat(&b, 0, &b));
+    EXPECT_TEXT(&b, "");
+    DO(zc_repeat(&a, ZC_MAX_LEN / 2, &most));
+    EXPECT(zc_len(&most) == ZC_MAX_LEN - 1);
+    EXPECT(zc_append(&most, &a) == ZC_TOO_LONG || may_want);
+    EXPECT(zc_splice(&most, 5, 0, &a) == ZC_TOO_LONG || may_want);
+    EXPECT(zc_repeat(&most, 2, &a) == ZC_TOO_LONG || may_want);
+    EXPECT(zc_len(&most) == ZC_MAX_LEN - 1);
+    EXPECT_TEXT(&a, "ab");
+    zc_free(&a);
+    zc_free(&b);
+    zc_free(&most);
+}
+
+static int32_t is_equal(zc_cord *x, zc_cord *y) {
+    int32_t equal = 12345;
+    DO(zc_equal(x, y, &equal));
+    return equal;
+}
+
+/* Beginnings and ends, and cords that are equal. */
+static void beginnings(void) {
+    zc_cord a = ZC_EMPTY, b = ZC_EMPTY;
+    EXPECT(is_equal(&a, &b) == 1 && zc_starts_with(&a, NULL, 0) == 1 && zc_ends_with(&a, NULL, 0) == 1);
+    EXPECT(zc_starts_with(&a, "a", 1) == 0 && zc_ends_with(&a, "a", 1) == 0);
+    DO(zc_from_bytes("a\0bc", 4, &a));
+    EXPECT(zc_starts_with(&a, "a\0b", 3) == 1 && zc_starts_with(&a, "a\0c", 3) == 0 && zc_starts_with(&a, "b", 1) == 0);
+    EXPECT(zc_ends_with(&a, "\0bc", 3) == 1 && zc_ends_with(&a, "a", 1) == 0 && zc_ends_with(&a, "a\0bc", 4) == 1);
+    EXPECT(zc_starts_with(&a, "a\0bcd", 5) == 0 && zc_ends_with(&a, "xa\0bc", 5) == 0);
+    EXPECT(is_equal(&a, &b) == 0 && is_equal(&b, &a) == 0 && is_equal(&a, &a) == 1);
+    DO(zc_from_bytes("a\0b", 3, &b));
+    EXPECT(is_equal(&a, &b) == 0);
+    DO(zc_cat_char(&b, 'c', &b));
+    EXPECT(is_equal(&a, &b) == 1);
+    zc_free(&a);
+    zc_free(&b);
+}
+
 static void lines(void) {
     zc_cord a = ZC_EMPTY, line = ZC_EMPTY;
     DO(zc_from_bytes("one\n\nthree", 10, &a));
@@ -264,12 +336,12 @@ static void lines(void) {
     DO(zc_nth_line(&a, 2, &line));
     EXPECT_TEXT(&line, "three");
     if (!may_want) {
-        EXPECT(zc_nth_line(&a, 3, &line) == ZC_BAD_ARGUMENT);
-        EXPECT(zc_nth_line(&a, UINT64_MAX, &line) == ZC_BAD_ARGUMENT);
+        EXPECT(zc_nth_line(&a, 3, &line) == ZC_PAST_END);
+        EXPECT(zc_nth_line(&a, UINT64_MAX, &line) == ZC_PAST_END);
     }
     EXPECT_TEXT(&line, "three");
     zc_free(&a);
-    EXPECT(zc_nth_line(&a, 0, &line) == ZC_BAD_ARGUMENT);
+    EXPECT(zc_nth_line(&a, 0, &line) == ZC_PAST_END);
     zc_free(&line);
 }
 
@@ -285,7 +357,7 @@ static void limits(void) {
     EXPECT(zc_cat_char(&most, 'x', &out) == ZC_TOO_LONG || may_want);
     EXPECT(zc_insert(&most, 5, &one, &out) == ZC_TOO_LONG || may_want);
     EXPECT_TEXT(&out, "old");
-    EXPECT(zc_fetch(&most, ZC_MAX_LEN, &byte) == ZC_BAD_ARGUMENT);
+    EXPECT(zc_fetch(&most, ZC_MAX_LEN, &byte) == ZC_PAST_END);
     EXPECT(byte == 7);
     EXPECT(zc_fetch(&most, ZC_MAX_LEN - 1, &byte) == ZC_OK);
     EXPECT(byte == 'm');
@@ -317,14 +389,14 @@ static void trees(void) {
 static void searches(void) {
     zc_cord a = ZC_EMPTY, b = ZC_EMPTY;
     DO(zc_from_bytes("abcabcabd", 9, &a));
-    EXPECT(zc_chr(&a, 0, 'c') == 2);
-    EXPECT(zc_chr(&a, 3, 'c') == 5);
-    EXPECT(zc_chr(&a, 6, 'c') == ZC_NOT_FOUND);
-    EXPECT(zc_chr(&a, 99, 'c') == ZC_NOT_FOUND);
-    EXPECT(zc_rchr(&a, 9, 'c') == 5);
-    EXPECT(zc_rchr(&a, 5, 'c') == 2);
-    EXPECT(zc_rchr(&a, 2, 'c') == ZC_NOT_FOUND);
-    EXPECT(zc_rchr(&a, UINT64_MAX, 'd') == 8);
+    EXPECT(byte_place(&a, 0, 'c') == 2);
+    EXPECT(byte_place(&a, 3, 'c') == 5);
+    EXPECT(byte_place(&a, 6, 'c') == ZC_NOT_FOUND);
+    EXPECT(byte_place(&a, 99, 'c') == ZC_NOT_FOUND);
+    EXPECT(last_byte_place(&a, 9, 'c') == 5);
+    EXPECT(last_byte_place(&a, 5, 'c') == 2);
+    EXPECT(last_byte_place(&a, 2, 'c') == ZC_NOT_FOUND);
+    EXPECT(last_byte_place(&a, UINT64_MAX, 'd') == 8);
     EXPECT(place_of(&a, 0, &b) == 0);
     EXPECT(place_of(&a, 9, &b) == 9);
     EXPECT(place_of(&a, 10, &b) == ZC_NOT_FOUND);
@@ -400,8 +472,8 @@ static void copies(void) {
     DO(zc_to_bytes(&a, 3, bytes, 3));
     EXPECT(memcmp(bytes, "def", 4) == 0);
     if (!may_want) {
-        EXPECT(zc_to_bytes(&a, 4, bytes, 3) == ZC_BAD_ARGUMENT);
-        EXPECT(zc_to_bytes(&a, UINT64_MAX, bytes, 3) == ZC_BAD_ARGUMENT);
+        EXPECT(zc_to_bytes(&a, 4, bytes, 3) == ZC_PAST_END);
+        EXPECT(zc_to_bytes(&a, UINT64_MAX, bytes, 3) == ZC_PAST_END);
     }
     EXPECT(memcmp(bytes, "def", 4) == 0);
     DO(zc_to_bytes(&a, 99, NULL, 0));
@@ -414,14 +486,14 @@ static void nulls_of_others(zc_cord *a) {
     size_t *volatile no_number = NULL, got = 7;
     int32_t *volatile no_order = NULL, order = 7;
     zc_cord b = ZC_EMPTY;
-    EXPECT(zc_nth_line(none, 0, &b) == ZC_BAD_ARGUMENT);
-    EXPECT(zc_nth_line(a, 0, none) == ZC_BAD_ARGUMENT);
-    EXPECT(zc_ncmp(none, 0, a, 0, 1, &order) == ZC_BAD_ARGUMENT);
-    EXPECT(zc_ncmp(a, 0, none, 0, 1, &order) == ZC_BAD_ARGUMENT);
-    EXPECT(zc_ncmp(a, 0, &b, 0, 1, no_order) == ZC_BAD_ARGUMENT);
+    EXPECT(zc_nth_line(none, 0, &b) == ZC_NULL);
+    EXPECT(zc_nth_line(a, 0, none) == ZC_NULL);
+    EXPECT(zc_ncmp(none, 0, a, 0, 1, &order) == ZC_NULL);
+    EXPECT(zc_ncmp(a, 0, none, 0, 1, &order) == ZC_NULL);
+    EXPECT(zc_ncmp(a, 0, &b, 0, 1, no_order) == ZC_NULL);
     EXPECT(zc_count(none, 'a') == 0);
-    EXPECT(zc_read(none, 0, &byte, 1, &got) == ZC_BAD_ARGUMENT);
-    EXPECT(zc_read(a, 0, &byte, 1, no_number) == ZC_BAD_ARGUMENT);
+    EXPECT(zc_read(none, 0, &byte, 1, &got) == ZC_NULL);
+    EXPECT(zc_read(a, 0, &byte, 1, no_number) == ZC_NULL);
     EXPECT(byte == 7 && got == 7 && order == 7);
     EXPECT(zc_len(&b) == 0);
 }
@@ -434,44 +506,50 @@ static void nulls(void) {
     int32_t *volatile no_order = NULL, order = 7;
     zc_cord a = ZC_EMPTY, b = ZC_EMPTY, c = ZC_EMPTY;
     DO(zc_from_bytes("abc", 3, &a));
-    EXPECT(zc_from_bytes("abc", 3, none) == ZC_BAD_ARGUMENT);
-    EXPECT(zc_chars('a', 3, none) == ZC_BAD_ARGUMENT);
-    EXPECT(zc_cat(none, &a, &b) == ZC_BAD_ARGUMENT);
-    EXPECT(zc_cat(&a, none, &b) == ZC_BAD_ARGUMENT);
-    EXPECT(zc_cat(&a, &c, none) == ZC_BAD_ARGUMENT);
-    EXPECT(zc_cat_bytes(none, "abc", 3, &b) == ZC_BAD_ARGUMENT);
-    EXPECT(zc_cat_bytes(&a, "abc", 3, none) == ZC_BAD_ARGUMENT);
-    EXPECT(zc_cat_char(none, 'a', &b) == ZC_BAD_ARGUMENT);
-    EXPECT(zc_cat_char(&a, 'a', none) == ZC_BAD_ARGUMENT);
-    EXPECT(zc_substr(none, 0, 1, &b) == ZC_BAD_ARGUMENT);
-    EXPECT(zc_substr(&a, 0, 1, none) == ZC_BAD_ARGUMENT);
-    EXPECT(zc_insert(none, 0, &a, &b) == ZC_BAD_ARGUMENT);
-    EXPECT(zc_insert(&a, 0, none, &b) == ZC_BAD_ARGUMENT);
-    EXPECT(zc_insert(&a, 0, &c, none) == ZC_BAD_ARGUMENT);
-    EXPECT(zc_remove(none, 0, 1, &b) == ZC_BAD_ARGUMENT);
-    EXPECT(zc_remove(&a, 0, 1, none) == ZC_BAD_ARGUMENT);
-    EXPECT(zc_replace(none, 0, 1, &a, &b) == ZC_BAD_ARGUMENT);
-    EXPECT(zc_replace(&a, 0, 1, none, &b) == ZC_BAD_ARGUMENT);
-    EXPECT(zc_replace(&a, 0, 1, &c, none) == ZC_BAD_ARGUMENT);
-    EXPECT(zc_balance(none, &b) == ZC_BAD_ARGUMENT);
-    EXPECT(zc_balance(&a, none) == ZC_BAD_ARGUMENT);
-    EXPECT(zc_share(none, &b) == ZC_BAD_ARGUMENT);
-    EXPECT(zc_share(&a, none) == ZC_BAD_ARGUMENT);
-    EXPECT(zc_fetch(none, 0, &byte) == ZC_BAD_ARGUMENT);
-    EXPECT(zc_fetch(&a, 0, no_byte) == ZC_BAD_ARGUMENT);
-    EXPECT(zc_to_bytes(none, 0, &b, 0) == ZC_BAD_ARGUMENT);
+    EXPECT(zc_from_bytes("abc", 3, none) == ZC_NULL);
+    EXPECT(zc_chars('a', 3, none) == ZC_NULL);
+    EXPECT(zc_cat(none, &a, &b) == ZC_NULL);
+    EXPECT(zc_cat(&a, none, &b) == ZC_NULL);
+    EXPECT(zc_cat(&a, &c, none) == ZC_NULL);
+    EXPECT(zc_cat_bytes(none, "abc", 3, &b) == ZC_NULL);
+    EXPECT(zc_cat_bytes(&a, "abc", 3, none) == ZC_NULL);
+    EXPECT(zc_cat_char(none, 'a', &b) == ZC_NULL);
+    EXPECT(zc_cat_char(&a, 'a', none) == ZC_NULL);
+    EXPECT(zc_substr(none, 0, 1, &b) == ZC_NULL);
+    EXPECT(zc_substr(&a, 0, 1, none) == ZC_NULL);
+    EXPECT(zc_insert(none, 0, &a, &b) == ZC_NULL);
+    EXPECT(zc_insert(&a, 0, none, &b) == ZC_NULL);
+    EXPECT(zc_insert(&a, 0, &c, none) == ZC_NULL);
+    EXPECT(zc_remove(none, 0, 1, &b) == ZC_NULL);
+    EXPECT(zc_remove(&a, 0, 1, none) == ZC_NULL);
+    EXPECT(zc_replace(none, 0, 1, &a, &b) == ZC_NULL);
+    EXPECT(zc_replace(&a, 0, 1, none, &b) == ZC_NULL);
+    EXPECT(zc_replace(&a, 0, 1, &c, none) == ZC_NULL);
+    EXPECT(zc_balance(none, &b) == ZC_NULL);
+    EXPECT(zc_balance(&a, none) == ZC_NULL);
+    EXPECT(zc_share(none, &b) == ZC_NULL);
+    EXPECT(zc_share(&a, none) == ZC_NULL);
+    EXPECT(zc_fetch(none, 0, &byte) == ZC_NULL);
+    EXPECT(zc_fetch(&a, 0, no_byte) == ZC_NULL);
+    EXPECT(zc_to_bytes(none, 0, &b, 0) == ZC_NULL);
     EXPECT(zc_len(none) == 0);
     EXPECT(zc_depth(none) == 0);
-    EXPECT(zc_chr(none, 0, 'a') == ZC_NOT_FOUND);
-    EXPECT(zc_rchr(none, 9, 'a') == ZC_NOT_FOUND);
-    EXPECT(zc_str(none, 0, &a, &place) == ZC_BAD_ARGUMENT);
-    EXPECT(zc_str(&a, 0, none, &place) == ZC_BAD_ARGUMENT);
-    EXPECT(zc_str(&a, 0, &b, no_place) == ZC_BAD_ARGUMENT);
-    EXPECT(zc_find(none, 0, "a", 1, &place) == ZC_BAD_ARGUMENT);
-    EXPECT(zc_find(&a, 0, "a", 1, no_place) == ZC_BAD_ARGUMENT);
-    EXPECT(zc_cmp(none, &a, &order) == ZC_BAD_ARGUMENT);
-    EXPECT(zc_cmp(&a, none, &order) == ZC_BAD_ARGUMENT);
-    EXPECT(zc_cmp(&a, &b, no_order) == ZC_BAD_ARGUMENT);
+    EXPECT(zc_chr(none, 0, 'a', &place) == ZC_NULL && zc_chr(&a, 0, 'a', no_place) == ZC_NULL);
+    EXPECT(zc_rchr(none, 9, 'a', &place) == ZC_NULL && zc_rchr(&a, 9, 'a', no_place) == ZC_NULL);
+    EXPECT(zc_starts_with(none, "a", 1) == 0 && zc_ends_with(none, "a", 1) == 0);
+    EXPECT(zc_equal(none, &a, &order) == ZC_NULL && zc_equal(&a, none, &order) == ZC_NULL);
+    EXPECT(zc_equal(&a, &b, no_order) == ZC_NULL);
+    EXPECT(zc_append(none, &a) == ZC_NULL && zc_append(&a, none) == ZC_NULL);
+    EXPECT(zc_splice(none, 0, 0, &a) == ZC_NULL && zc_splice(&a, 0, 0, none) == ZC_NULL);
+    EXPECT(zc_repeat(none, 2, &b) == ZC_NULL && zc_repeat(&a, 2, none) == ZC_NULL);
+    EXPECT(zc_str(none, 0, &a, &place) == ZC_NULL);
+    EXPECT(zc_str(&a, 0, none, &place) == ZC_NULL);
+    EXPECT(zc_str(&a, 0, &b, no_place) == ZC_NULL);
+    EXPECT(zc_find(none, 0, "a", 1, &place) == ZC_NULL);
+    EXPECT(zc_find(&a, 0, "a", 1, no_place) == ZC_NULL);
+    EXPECT(zc_cmp(none, &a, &order) == ZC_NULL);
+    EXPECT(zc_cmp(&a, none, &order) == ZC_NULL);
+    EXPECT(zc_cmp(&a, &b, no_order) == ZC_NULL);
     EXPECT(place == 7);
     EXPECT(order == 7);
     zc_free(none);
@@ -525,7 +603,7 @@ static void grows_by_leaves(void) {
     EXPECT(zc_depth(&out) == 1);
     EXPECT(zc_len(&out) == 4097);
     EXPECT(zc_count(&out, 7) == 16);
-    EXPECT(zc_chr(&out, 4096, 'z') == 4096);
+    EXPECT(byte_place(&out, 4096, 'z') == 4096);
     DO(zc_ext_bytes(&grown, many, 4095));
     EXPECT(zc_ext_len(&grown) == 8192);
     DO(zc_ext_bytes(&grown, many, 5000));
@@ -535,7 +613,7 @@ static void grows_by_leaves(void) {
     DO(zc_ext_to_cord(&grown, &out));
     EXPECT(zc_len(&out) == 17289);
     EXPECT(zc_count(&out, 'm') == 13207); /* 4,095 and 5,000 and 4,096, and 16 among the first bytes */
-    EXPECT(zc_chr(&out, 4097, 'e') == 17288);
+    EXPECT(byte_place(&out, 4097, 'e') == 17288);
     zc_ext_free(&grown);
     zc_free(&out);
 }
@@ -553,7 +631,7 @@ static void grows_no_longer(void) {
     EXPECT(zc_ext_len(&grown) == ZC_MAX_LEN);
     DO(zc_ext_to_cord(&grown, &out));
     EXPECT(zc_len(&out) == ZC_MAX_LEN);
-    EXPECT(zc_rchr(&out, ZC_MAX_LEN, 'x') == ZC_MAX_LEN - 1);
+    EXPECT(last_byte_place(&out, ZC_MAX_LEN, 'x') == ZC_MAX_LEN - 1);
     zc_ext_free(&grown);
     zc_free(&most);
     zc_free(&out);
@@ -562,7 +640,7 @@ static void grows_no_longer(void) {
 static int byte_at(zc_pos *position) {
     unsigned char byte = 7;
     int code = zc_pos_fetch(position, &byte);
-    EXPECT(code == ZC_OK || (code == ZC_BAD_ARGUMENT && byte == 7));
+    EXPECT(code == ZC_OK || (code == ZC_PAST_END && byte == 7));
     return code == ZC_OK ? byte : -1;
 }
 
@@ -742,8 +820,8 @@ static void paths(void) {
     EXPECT(close(fd) == 0 && unlink(path) == 0);
     EXPECT(zc_from_path(path, &b) == ZC_READ_FAILED);
     EXPECT(zc_from_path("/", &b) == ZC_READ_FAILED);
-    EXPECT(zc_from_path(NULL, &b) == ZC_BAD_ARGUMENT);
-    EXPECT(zc_from_path("/dev/null", NULL) == ZC_BAD_ARGUMENT);
+    EXPECT(zc_from_path(NULL, &b) == ZC_NULL);
+    EXPECT(zc_from_path("/dev/null", NULL) == ZC_NULL);
     EXPECT(zc_len(&b) == 70004);
     zc_free(&a);
     zc_free(&b);
@@ -754,32 +832,33 @@ static void nulls_of_the_rest(void) {
     zc_ext *volatile no_ext = NULL;
     zc_pos *volatile no_pos = NULL;
     zc_chunks *volatile no_chunks = NULL;
+    uint64_t *volatile no_at = NULL, at = 7;
     unsigned char *volatile no_byte = NULL, byte = 7;
     zc_ext grown = ZC_EXT_EMPTY;
     zc_pos position = ZC_POS_NOWHERE;
     zc_chunks chunks = ZC_CHUNKS_EMPTY;
     zc_cord a = ZC_EMPTY;
-    EXPECT(zc_catn(&a, 1, none) == ZC_BAD_ARGUMENT);
-    EXPECT(zc_sprintf("", 0, NULL, 0, none) == ZC_BAD_ARGUMENT);
-    EXPECT(zc_put(none, 1) == ZC_BAD_ARGUMENT);
-    EXPECT(zc_ext_char(no_ext, 'a') == ZC_BAD_ARGUMENT);
-    EXPECT(zc_ext_bytes(no_ext, "a", 1) == ZC_BAD_ARGUMENT);
-    EXPECT(zc_ext_cord(no_ext, &a) == ZC_BAD_ARGUMENT);
-    EXPECT(zc_ext_cord(&grown, none) == ZC_BAD_ARGUMENT);
-    EXPECT(zc_ext_to_cord(no_ext, &a) == ZC_BAD_ARGUMENT);
-    EXPECT(zc_ext_to_cord(&grown, none) == ZC_BAD_ARGUMENT);
+    EXPECT(zc_catn(&a, 1, none) == ZC_NULL);
+    EXPECT(zc_sprintf("", 0, NULL, 0, none, &at) == ZC_NULL && zc_sprintf("", 0, NULL, 0, &a, no_at) == ZC_NULL);
+    EXPECT(zc_put(none, 1) == ZC_NULL);
+    EXPECT(zc_ext_char(no_ext, 'a') == ZC_NULL);
+    EXPECT(zc_ext_bytes(no_ext, "a", 1) == ZC_NULL);
+    EXPECT(zc_ext_cord(no_ext, &a) == ZC_NULL);
+    EXPECT(zc_ext_cord(&grown, none) == ZC_NULL);
+    EXPECT(zc_ext_to_cord(no_ext, &a) == ZC_NULL);
+    EXPECT(zc_ext_to_cord(&grown, none) == ZC_NULL);
     EXPECT(zc_ext_len(no_ext) == 0);
     zc_ext_free(no_ext);
-    EXPECT(zc_pos_set(none, 0, &position) == ZC_BAD_ARGUMENT);
-    EXPECT(zc_pos_set(&a, 0, no_pos) == ZC_BAD_ARGUMENT);
-    EXPECT(zc_pos_fetch(no_pos, &byte) == ZC_BAD_ARGUMENT);
-    EXPECT(zc_pos_fetch(&position, no_byte) == ZC_BAD_ARGUMENT);
+    EXPECT(zc_pos_set(none, 0, &position) == ZC_NULL);
+    EXPECT(zc_pos_set(&a, 0, no_pos) == ZC_NULL);
+    EXPECT(zc_pos_fetch(no_pos, &byte) == ZC_NULL);
+    EXPECT(zc_pos_fetch(&position, no_byte) == ZC_NULL);
     EXPECT(zc_pos_index(no_pos) == ZC_NOT_FOUND);
     zc_pos_next(no_pos);
     zc_pos_prev(no_pos);
     zc_pos_free(no_pos);
-    EXPECT(zc_chunks_set(none, 0, &chunks) == ZC_BAD_ARGUMENT);
-    EXPECT(zc_chunks_set(&a, 0, no_chunks) == ZC_BAD_ARGUMENT);
+    EXPECT(zc_chunks_set(none, 0, &chunks) == ZC_NULL);
+    EXPECT(zc_chunks_set(&a, 0, no_chunks) == ZC_NULL);
     EXPECT(zc_chunks_next(no_chunks) == 0);
     zc_chunks_free(no_chunks);
     EXPECT(byte == 7);
@@ -981,8 +1060,8 @@ static void lazies_from_the_end(void) {
     EXPECT(zc_lazy_fetch(&files, &b, 33617, &byte) == ZC_OK && byte == '7');
     EXPECT(zc_lazy_fetch(&files, &b, 33619, &byte) == ZC_OK && byte == '8');
     EXPECT(zc_lazy_fetch(&files, &a, 50000, &byte) == ZC_OK && byte == '!');
-    EXPECT(zc_lazy_fetch(&files, &a, 50001, &byte) == ZC_BAD_ARGUMENT && byte == '!');
-    EXPECT(zc_lazy_fetch(&files, &a, UINT64_MAX, &byte) == ZC_BAD_ARGUMENT && byte == '!');
+    EXPECT(zc_lazy_fetch(&files, &a, 50001, &byte) == ZC_PAST_END && byte == '!');
+    EXPECT(zc_lazy_fetch(&files, &a, UINT64_MAX, &byte) == ZC_PAST_END && byte == '!');
     EXPECT(unlink(path) == 0);
     zc_lazy_free(&a);
     zc_lazy_free(&b);
@@ -1045,7 +1124,7 @@ static void lazies_by_length(void) {
     EXPECT_LAZY(&files, &b, 131069, "9xxx");
     EXPECT(unlink(path) == 0 && unlink(longer) == 0);
     EXPECT(zc_lazy_by_length(&files, path, &a) == ZC_READ_FAILED);
-    EXPECT(zc_lazy_by_length(&files, path, NULL) == ZC_BAD_ARGUMENT);
+    EXPECT(zc_lazy_by_length(&files, path, NULL) == ZC_NULL);
     EXPECT(zc_lazy_len(&a) == ZC_SHORT_FILE);
     zc_lazy_free(&a);
     zc_lazy_free(&b);
@@ -1107,7 +1186,7 @@ static void put_lazily(void) {
     DO(zc_lazy_cat(&a, &word, &both));
     EXPECT(zc_lazy_put(&files, &both, fileno(file)) == ZC_OK);
     read_all(fileno(file), &read);
-    EXPECT(zc_len(&read) == 100001 && zc_count(&read, '7') == 10000 && zc_chr(&read, 0, '!') == 100000);
+    EXPECT(zc_len(&read) == 100001 && zc_count(&read, '7') == 10000 && byte_place(&read, 0, '!') == 100000);
     if (!may_want) EXPECT(zc_lazy_put(&files, &both, -1) == ZC_WRITE_FAILED);
     EXPECT(fclose(file) == 0 && unlink(path) == 0);
     zc_free(&read);
@@ -1126,18 +1205,18 @@ static void nulls_of_lazies(void) {
     unsigned char byte = 7;
     zc_cord plain = ZC_EMPTY;
     zc_lazy a = ZC_LAZY_EMPTY, b = ZC_LAZY_EMPTY;
-    EXPECT(zc_lazy_of_file(0, 1, none) == ZC_BAD_ARGUMENT);
-    EXPECT(zc_lazy_from_cord(no_cord, &a) == ZC_BAD_ARGUMENT && zc_lazy_from_cord(&plain, none) == ZC_BAD_ARGUMENT);
-    EXPECT(zc_lazy_cat(none, &a, &b) == ZC_BAD_ARGUMENT && zc_lazy_cat(&a, none, &b) == ZC_BAD_ARGUMENT);
-    EXPECT(zc_lazy_cat(&a, &b, none) == ZC_BAD_ARGUMENT);
-    EXPECT(zc_lazy_substr(none, 0, 1, &a) == ZC_BAD_ARGUMENT && zc_lazy_substr(&a, 0, 1, none) == ZC_BAD_ARGUMENT);
-    EXPECT(zc_lazy_balance(none, &a) == ZC_BAD_ARGUMENT && zc_lazy_balance(&a, none) == ZC_BAD_ARGUMENT);
-    EXPECT(zc_lazy_share(none, &a) == ZC_BAD_ARGUMENT && zc_lazy_share(&a, none) == ZC_BAD_ARGUMENT);
+    EXPECT(zc_lazy_of_file(0, 1, none) == ZC_NULL);
+    EXPECT(zc_lazy_from_cord(no_cord, &a) == ZC_NULL && zc_lazy_from_cord(&plain, none) == ZC_NULL);
+    EXPECT(zc_lazy_cat(none, &a, &b) == ZC_NULL && zc_lazy_cat(&a, none, &b) == ZC_NULL);
+    EXPECT(zc_lazy_cat(&a, &b, none) == ZC_NULL);
+    EXPECT(zc_lazy_substr(none, 0, 1, &a) == ZC_NULL && zc_lazy_substr(&a, 0, 1, none) == ZC_NULL);
+    EXPECT(zc_lazy_balance(none, &a) == ZC_NULL && zc_lazy_balance(&a, none) == ZC_NULL);
+    EXPECT(zc_lazy_share(none, &a) == ZC_NULL && zc_lazy_share(&a, none) == ZC_NULL);
     EXPECT(zc_lazy_len(none) == 0 && zc_lazy_depth(none) == 0);
-    EXPECT(zc_lazy_part(none, 0, &byte, 1, &got, &file, &place) == ZC_BAD_ARGUMENT);
-    EXPECT(zc_lazy_part(&a, 0, &byte, 1, no_count, &file, &place) == ZC_BAD_ARGUMENT);
-    EXPECT(zc_lazy_part(&a, 0, &byte, 1, &got, no_file, &place) == ZC_BAD_ARGUMENT);
-    EXPECT(zc_lazy_part(&a, 0, &byte, 1, &got, &file, no_place) == ZC_BAD_ARGUMENT);
+    EXPECT(zc_lazy_part(none, 0, &byte, 1, &got, &file, &place) == ZC_NULL);
+    EXPECT(zc_lazy_part(&a, 0, &byte, 1, no_count, &file, &place) == ZC_NULL);
+    EXPECT(zc_lazy_part(&a, 0, &byte, 1, &got, no_file, &place) == ZC_NULL);
+    EXPECT(zc_lazy_part(&a, 0, &byte, 1, &got, &file, no_place) == ZC_NULL);
     zc_lazy_free(none);
     zc_files_free(NULL);
     EXPECT(byte == 7 && place == 7 && got == 7 && file == 7);
@@ -1149,7 +1228,11 @@ static void messages(void) {
     EXPECT(strcmp(zc_message(ZC_NO_MEMORY), "no memory") == 0);
     EXPECT(strcmp(zc_message(ZC_READ_FAILED), "read failed") == 0);
     EXPECT(strcmp(zc_message(ZC_WRITE_FAILED), "write failed") == 0);
-    EXPECT(strcmp(zc_message(ZC_BAD_ARGUMENT), "bad argument") == 0);
+    EXPECT(strcmp(zc_message(ZC_PAST_END), "past the end") == 0);
+    EXPECT(strcmp(zc_message(ZC_NULL), "null pointer") == 0);
+    EXPECT(strcmp(zc_message(ZC_BAD_FORMAT), "bad format") == 0);
+    EXPECT(strcmp(zc_message(ZC_WRONG_ARGUMENTS), "wrong arguments") == 0);
+    EXPECT(strcmp(zc_message(ZC_BAD_VALUE), "bad value") == 0);
     EXPECT(strcmp(zc_message(ZC_IN_FILE), "in a file") == 0);
     EXPECT(strcmp(zc_message(ZC_TOO_MANY_FILES), "too many files") == 0);
     EXPECT(strcmp(zc_message(ZC_WOULD_BLOCK), "would block") == 0);
@@ -1165,17 +1248,17 @@ static void nulls_of_lazy_reads(void) {
     int32_t *volatile no_order = NULL, order = 7;
     zc_files files = ZC_FILES_NONE;
     zc_lazy a = ZC_LAZY_EMPTY, b = ZC_LAZY_EMPTY;
-    EXPECT(zc_lazy_rchr(no_files, &a, 1, 'x', &place) == ZC_BAD_ARGUMENT);
-    EXPECT(zc_lazy_rchr(&files, none, 1, 'x', &place) == ZC_BAD_ARGUMENT);
-    EXPECT(zc_lazy_rchr(&files, &a, 1, 'x', no_place) == ZC_BAD_ARGUMENT);
-    EXPECT(zc_lazy_fetch(no_files, &a, 0, &byte) == ZC_BAD_ARGUMENT);
-    EXPECT(zc_lazy_fetch(&files, none, 0, &byte) == ZC_BAD_ARGUMENT);
-    EXPECT(zc_lazy_fetch(&files, &a, 0, no_byte) == ZC_BAD_ARGUMENT);
-    EXPECT(zc_lazy_fetch(&files, &a, 0, &byte) == ZC_BAD_ARGUMENT);
-    EXPECT(zc_lazy_cmp(no_files, &a, &b, &order) == ZC_BAD_ARGUMENT);
-    EXPECT(zc_lazy_cmp(&files, none, &b, &order) == ZC_BAD_ARGUMENT);
-    EXPECT(zc_lazy_cmp(&files, &a, none, &order) == ZC_BAD_ARGUMENT);
-    EXPECT(zc_lazy_cmp(&files, &a, &b, no_order) == ZC_BAD_ARGUMENT);
+    EXPECT(zc_lazy_rchr(no_files, &a, 1, 'x', &place) == ZC_NULL);
+    EXPECT(zc_lazy_rchr(&files, none, 1, 'x', &place) == ZC_NULL);
+    EXPECT(zc_lazy_rchr(&files, &a, 1, 'x', no_place) == ZC_NULL);
+    EXPECT(zc_lazy_fetch(no_files, &a, 0, &byte) == ZC_NULL);
+    EXPECT(zc_lazy_fetch(&files, none, 0, &byte) == ZC_NULL);
+    EXPECT(zc_lazy_fetch(&files, &a, 0, no_byte) == ZC_NULL);
+    EXPECT(zc_lazy_fetch(&files, &a, 0, &byte) == ZC_PAST_END);
+    EXPECT(zc_lazy_cmp(no_files, &a, &b, &order) == ZC_NULL);
+    EXPECT(zc_lazy_cmp(&files, none, &b, &order) == ZC_NULL);
+    EXPECT(zc_lazy_cmp(&files, &a, none, &order) == ZC_NULL);
+    EXPECT(zc_lazy_cmp(&files, &a, &b, no_order) == ZC_NULL);
     EXPECT(place == 7 && byte == 7 && order == 7);
 }
 
@@ -1290,9 +1373,9 @@ static void orders_in_a_file(zc_cord *letters, zc_cord *text) {
     DO(zc_lazy_from_cord(&x, &whole));
     DO(zc_lazy_cmp(&files, &lazy, &whole, &order));
     EXPECT(order == 0);
-    EXPECT(zc_chr(&x, 0, '9') == 37 && lazy_byte_place(&files, &lazy, 0, '9') == 37);
-    EXPECT(zc_chr(&x, 3, 'a') == 38 && lazy_byte_place(&files, &lazy, 3, 'a') == 38);
-    EXPECT(zc_rchr(&x, 3566, '}') == 1);
+    EXPECT(byte_place(&x, 0, '9') == 37 && lazy_byte_place(&files, &lazy, 0, '9') == 37);
+    EXPECT(byte_place(&x, 3, 'a') == 38 && lazy_byte_place(&files, &lazy, 3, 'a') == 38);
+    EXPECT(last_byte_place(&x, 3566, '}') == 1);
     EXPECT(close(fd) == 0 && unlink(path) == 0);
     zc_lazy_free(&lazy);
     zc_lazy_free(&whole);
@@ -1368,6 +1451,8 @@ int main(int count, char **words) {
     one_handle_twice();
     one_handle_twice_elsewhere();
     cuts();
+    changes();
+    beginnings();
     lines();
     limits();
     searches();

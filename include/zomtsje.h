@@ -13,13 +13,12 @@
  *     zc_free(&both);
  *
  * Handles are owned one by one: a copy of the struct is the handle from then on, and the old one isn't used again.
- * Share the cord by zc_share to have two. One handle may be given twice in a call, and as its result too: zc_cat(&x,
- * &y, &x) appends. A call changes the handles that it reads while it runs, so they aren't const; they hold the same
- * cord when it returns.
+ * Share the cord by zc_share to have two. One handle may be given twice in a call, and as its result too. A call
+ * changes the handles that it reads while it runs, so they aren't const; they hold the same cord when it returns.
  *
  * Calls that make a cord write it to *out, a handle that was begun. What it held is freed; where the call gives another
- * code than ZC_OK, it holds what it held. A null pointer to a handle or to a result is answered by ZC_BAD_ARGUMENT, or
- * by what is said at the call; a null pointer to bytes is fine where their number is 0. Any other pointer to what isn't
+ * code than ZC_OK, it holds what it held. A null pointer to a handle or to a result is answered by ZC_NULL, or by
+ * what is said at the call; a null pointer to bytes is fine where their number is 0. Any other pointer to what isn't
  * there is the caller's fault, as are two handles that own one cord.
  *
  * Every call is MT-Unsafe race:cord: cords that have parts in common count them together, so one thread at a time
@@ -41,9 +40,9 @@ extern "C" {
 /* The version of this header. While the first number is 0, the second one changes where programs have to be compiled
    anew. */
 #define ZC_VERSION_MAJOR 0
-#define ZC_VERSION_MINOR 3
+#define ZC_VERSION_MINOR 4
 #define ZC_VERSION_PATCH 0
-#define ZC_VERSION "0.3.0"
+#define ZC_VERSION "0.4.0"
 
 /* The version of the library that was linked or loaded, as ZC_VERSION. */
 const char *zc_version(void);
@@ -64,15 +63,19 @@ typedef struct zc_cord {
 
 /* The codes that calls give. */
 enum {
-    ZC_OK = 0,             /* done */
-    ZC_TOO_LONG = 1,       /* the text would be longer than ZC_MAX_LEN */
-    ZC_NO_MEMORY = 2,      /* memory was refused */
-    ZC_READ_FAILED = 3,    /* read failed, and errno says how */
-    ZC_WRITE_FAILED = 4,   /* write failed, and errno says how */
-    ZC_BAD_ARGUMENT = 5,   /* a null pointer, or a place that isn't there */
-    ZC_IN_FILE = 6,        /* the bytes lie in a file */
-    ZC_TOO_MANY_FILES = 7, /* ZC_MOST_FILES are open */
-    ZC_WOULD_BLOCK = 8     /* the descriptor has no bytes now, or takes none */
+    ZC_OK = 0,                /* done */
+    ZC_TOO_LONG = 1,          /* the text would be longer than ZC_MAX_LEN */
+    ZC_NO_MEMORY = 2,         /* memory was refused */
+    ZC_READ_FAILED = 3,       /* read failed, and errno says how */
+    ZC_WRITE_FAILED = 4,      /* write failed, and errno says how */
+    ZC_PAST_END = 5,          /* there is no such place, or no such line */
+    ZC_IN_FILE = 6,           /* the bytes lie in a file */
+    ZC_TOO_MANY_FILES = 7,    /* ZC_MOST_FILES are open */
+    ZC_WOULD_BLOCK = 8,       /* the descriptor has no bytes now, or takes none */
+    ZC_NULL = 9,              /* a pointer is null */
+    ZC_BAD_FORMAT = 10,       /* the bytes are no format */
+    ZC_WRONG_ARGUMENTS = 11,  /* the format takes another number of arguments, or others' kinds */
+    ZC_BAD_VALUE = 12         /* an argument has a value that its conversion doesn't take */
 };
 
 /* A code in words. */
@@ -113,8 +116,19 @@ int zc_remove(zc_cord *x, uint64_t start, uint64_t count, zc_cord *out);
 /* x with the bytes of y in place of at most count of its bytes from start on. ZC_TOO_LONG, ZC_NO_MEMORY. O(d). */
 int zc_replace(zc_cord *x, uint64_t start, uint64_t count, zc_cord *y, zc_cord *out);
 
+/* Adds the bytes of y at the end of x. ZC_TOO_LONG, ZC_NO_MEMORY: x stays. As zc_cat. */
+int zc_append(zc_cord *x, zc_cord *y);
+
+/* Puts the bytes of y in place of at most count of those of x from start on. ZC_TOO_LONG, ZC_NO_MEMORY: x stays. As
+   zc_replace. */
+int zc_splice(zc_cord *x, uint64_t start, uint64_t count, zc_cord *y);
+
+/* The bytes of x, so many times. It takes two nodes at most for each binary digit of times. ZC_TOO_LONG,
+   ZC_NO_MEMORY. */
+int zc_repeat(zc_cord *x, uint64_t times, zc_cord *out);
+
 /* Line number of x, from 0, without its end. A line ends with the byte 10, which the last one may lack.
-   ZC_BAD_ARGUMENT where x has no more lines than that, ZC_NO_MEMORY. O(n), and O(d) for each line before it. */
+   ZC_PAST_END where x has no more lines than that, ZC_NO_MEMORY. O(n), and O(d) for each line before it. */
 int zc_nth_line(zc_cord *x, uint64_t number, zc_cord *out);
 
 /* The bytes of x in a tree no deeper than about 1.44 times the binary logarithm of their number. ZC_NO_MEMORY.
@@ -135,14 +149,14 @@ uint64_t zc_len(zc_cord *x);
 /* The depth of the tree: 0 for one part and for no bytes, and of null. O(1). */
 uint32_t zc_depth(zc_cord *x);
 
-/* Writes the byte at place to *byte. ZC_BAD_ARGUMENT at or past the end: *byte stays. O(d). */
+/* Writes the byte at place to *byte. ZC_PAST_END at or past the end: *byte stays. O(d). */
 int zc_fetch(zc_cord *x, uint64_t place, unsigned char *byte);
 
-/* The first place from start on that has the byte, or ZC_NOT_FOUND, also of null. O(n). */
-uint64_t zc_chr(zc_cord *x, uint64_t start, unsigned char byte);
+/* Writes the first place from start on that has the byte to *place, or ZC_NOT_FOUND. It takes no memory. O(n). */
+int zc_chr(zc_cord *x, uint64_t start, unsigned char byte, uint64_t *place);
 
-/* The last place before end that has the byte, or ZC_NOT_FOUND, also of null. O(n). */
-uint64_t zc_rchr(zc_cord *x, uint64_t end, unsigned char byte);
+/* Writes the last place before end that has the byte to *place, or ZC_NOT_FOUND. It takes no memory. O(n). */
+int zc_rchr(zc_cord *x, uint64_t end, unsigned char byte, uint64_t *place);
 
 /* Writes the first place of x from start on where the bytes of y stand to *place, or ZC_NOT_FOUND. No bytes stand at
    each place up to the end. ZC_NO_MEMORY: *place stays. O(n) in both texts. */
@@ -160,11 +174,20 @@ int zc_cmp(zc_cord *x, zc_cord *y, int32_t *order);
    ZC_NO_MEMORY: *order stays. O(count + d) at most. */
 int zc_ncmp(zc_cord *x, uint64_t i, zc_cord *y, uint64_t j, uint64_t count, int32_t *order);
 
+/* Writes 1 to *equal where x and y have the same bytes, else 0. ZC_NO_MEMORY: *equal stays. O(1) where the lengths
+   differ, else as zc_cmp. */
+int zc_equal(zc_cord *x, zc_cord *y, int32_t *equal);
+
+/* Whether x begins, or ends, with these bytes: 1, or 0, also of null. It takes no memory. O(count), and O(d) for
+   each. */
+int32_t zc_starts_with(zc_cord *x, const void *bytes, size_t count);
+int32_t zc_ends_with(zc_cord *x, const void *bytes, size_t count);
+
 /* How many bytes of x are this one; 0 of null. O(n), and O(d) for each part. */
 uint64_t zc_count(zc_cord *x, unsigned char byte);
 
-/* Copies count bytes of x from start on to bytes. ZC_BAD_ARGUMENT where x has fewer: then bytes stays. It takes no
-   memory. O(count + d). */
+/* Copies count bytes of x from start on to bytes. ZC_PAST_END where x has fewer: then bytes stays. It takes no memory.
+   O(count + d). */
 int zc_to_bytes(zc_cord *x, uint64_t start, void *bytes, size_t count);
 
 /* Copies bytes of x from start on to bytes, as many as there are and at most count, and writes their number to *got:
@@ -224,7 +247,7 @@ int zc_pos_set(zc_cord *x, uint64_t index, zc_pos *position);
 /* The index where it stands; ZC_NOT_FOUND where it stands nowhere, and of null. O(1). */
 uint64_t zc_pos_index(zc_pos *position);
 
-/* Writes the byte where it stands to *byte. ZC_BAD_ARGUMENT where it stands nowhere: *byte stays. O(d). */
+/* Writes the byte where it stands to *byte. ZC_PAST_END where it stands nowhere: *byte stays. O(d). */
 int zc_pos_fetch(zc_pos *position, unsigned char *byte);
 
 /* Goes to the next byte, from the last one nowhere. Nowhere it stays. O(1). */
@@ -280,12 +303,15 @@ typedef struct zc_arg {
 #define ZC_TEXT {ZC_EMPTY, 0, 1}
 
 /* The text of a format with these arguments, after C's printf. A conversion is % and d or i (a number), u, o, x or X (a
-   number from 0 on), c (the byte of a number), s or r (a cord) or %. In front of the letter may stand the flags -, with d,
-   i, u, o, x and X also 0, with d and i also +; a width; with all but c a precision, for s the most bytes of the cord; and
-   with d, i, u, o, x and X l or ll, which change nothing. %% takes none of these. Width and precision are at most 9,999. Trees of cords are shared.
-   ZC_BAD_ARGUMENT where the bytes are no format, or don't take these arguments; ZC_TOO_LONG, ZC_NO_MEMORY.
+   number from 0 on), c (the byte of a number), s or r (a cord) or %. In front of the letter may stand the flags -, with
+   d, i, u, o, x and X also 0, with d and i also +; a width; with all but c a precision, for s the most bytes of the
+   cord; and with d, i, u, o, x and X l or ll, which change nothing. %% takes none of these. Width and precision are at
+   most 9,999. Trees of cords are shared.
+   ZC_BAD_FORMAT where the bytes are no format: then *at is the offset of the first % that begins no conversion.
+   ZC_WRONG_ARGUMENTS where the format takes others. ZC_BAD_VALUE where a number is negative or no byte and may not be:
+   then *at is the number of the first such argument, from 0. ZC_TOO_LONG, ZC_NO_MEMORY. With other codes *at stays.
    O(format_count + count), and O(d) for each cord. */
-int zc_sprintf(const void *format, size_t format_count, zc_arg *args, size_t count, zc_cord *out);
+int zc_sprintf(const void *format, size_t format_count, zc_arg *args, size_t count, zc_cord *out, uint64_t *at);
 
 /* ---- cords over files ---- */
 
@@ -402,7 +428,7 @@ int zc_lazy_put(zc_files *files, zc_lazy *x, int fd);
 /* As zc_put_range, of a lazy cord. ZC_READ_FAILED too. */
 int zc_lazy_put_range(zc_files *files, zc_lazy *x, uint64_t from, uint64_t to, int fd, uint64_t *done);
 
-/* Writes the byte of x at place to *byte. ZC_BAD_ARGUMENT at or past the end, ZC_READ_FAILED: *byte stays. O(d). */
+/* Writes the byte of x at place to *byte. ZC_PAST_END at or past the end, ZC_READ_FAILED: *byte stays. O(d). */
 int zc_lazy_fetch(zc_files *files, zc_lazy *x, uint64_t place, unsigned char *byte);
 
 /* Writes the first place of x from start on that has the byte to *place, or ZC_NOT_FOUND. ZC_READ_FAILED: *place stays.

@@ -50,7 +50,7 @@ inline void check(int code) {
     case ZC_WRITE_FAILED:
     case ZC_WOULD_BLOCK: throw std::system_error(errno, std::generic_category(), std::string("zomtsje: ") + zc_message(code));
     case ZC_TOO_MANY_FILES: throw std::system_error(EMFILE, std::generic_category(), "zomtsje: too many files");
-    case ZC_BAD_ARGUMENT: throw std::out_of_range("zomtsje: bad argument");
+    case ZC_PAST_END: throw std::out_of_range("zomtsje: past the end");
     default: throw std::logic_error(std::string("zomtsje: ") + zc_message(code));
     }
 }
@@ -172,7 +172,7 @@ public:
 
     // The part from a place on: std::out_of_range past the end, as std::string.
     cord substr(size_type start = 0, size_type count = npos) const {
-        if (start > size()) detail::check(ZC_BAD_ARGUMENT);
+        if (start > size()) detail::check(ZC_PAST_END);
         cord made;
         detail::check(zc_substr(raw(), start, count, &made.handle_));
         return made;
@@ -184,7 +184,7 @@ public:
     }
 
     cord &append(const cord &more) {
-        detail::check(zc_cat(raw(), more.raw(), &handle_));
+        detail::check(zc_append(raw(), more.raw()));
         return *this;
     }
     cord &append(std::string_view more) {
@@ -201,18 +201,18 @@ public:
     template <class T> cord &operator+=(const T &more) { return append(more); }
 
     cord &insert(size_type place, const cord &more) {
-        if (place > size()) detail::check(ZC_BAD_ARGUMENT);
-        detail::check(zc_insert(raw(), place, more.raw(), &handle_));
+        if (place > size()) detail::check(ZC_PAST_END);
+        detail::check(zc_splice(raw(), place, 0, more.raw()));
         return *this;
     }
     cord &erase(size_type place = 0, size_type count = npos) {
-        if (place > size()) detail::check(ZC_BAD_ARGUMENT);
+        if (place > size()) detail::check(ZC_PAST_END);
         detail::check(zc_remove(raw(), place, count, &handle_));
         return *this;
     }
     cord &replace(size_type place, size_type count, const cord &more) {
-        if (place > size()) detail::check(ZC_BAD_ARGUMENT);
-        detail::check(zc_replace(raw(), place, count, more.raw(), &handle_));
+        if (place > size()) detail::check(ZC_PAST_END);
+        detail::check(zc_splice(raw(), place, count, more.raw()));
         return *this;
     }
 
@@ -228,11 +228,15 @@ public:
         return place;
     }
     size_type find(char byte, size_type start = 0) const noexcept {
-        return zc_chr(raw(), start, static_cast<unsigned char>(byte));
+        size_type place = npos;
+        zc_chr(raw(), start, static_cast<unsigned char>(byte), &place);
+        return place;
     }
     // The last place of a byte at or before a place.
     size_type rfind(char byte, size_type last = npos) const noexcept {
-        return zc_rchr(raw(), last == npos ? last : last + 1, static_cast<unsigned char>(byte));
+        size_type place = npos;
+        zc_rchr(raw(), last == npos ? last : last + 1, static_cast<unsigned char>(byte), &place);
+        return place;
     }
     bool contains(std::string_view bytes) const { return find(bytes) != npos; }
     size_type count(char byte) const noexcept { return zc_count(raw(), static_cast<unsigned char>(byte)); }
@@ -370,7 +374,9 @@ inline cord operator+(cord &&x, const cord &y) {
 }
 
 inline bool operator==(const cord &x, const cord &y) {
-    return x.size() == y.size() && x.compare(y) == 0;
+    std::int32_t equal = 0;
+    detail::check(zc_equal(x.raw(), y.raw(), &equal));
+    return equal != 0;
 }
 #if __cplusplus >= 202002L
 inline std::strong_ordering operator<=>(const cord &x, const cord &y) {

@@ -69,7 +69,11 @@ int main(int words, char **given) {
     total = cut(&text, count);
     say("cut", start, total);
     start = now();
-    for (int i = 0; i < 10; i++) found += zc_chr(&text, 0, 'z') != ZC_NOT_FOUND;
+    for (int i = 0; i < 10; i++) {
+        uint64_t place = 0;
+        must(zc_chr(&text, 0, 'z', &place));
+        found += place != ZC_NOT_FOUND;
+    }
     say("search", start, found);
     start = now();
     must(zc_put(&text, 1));

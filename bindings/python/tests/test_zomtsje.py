@@ -114,6 +114,8 @@ class OfBytes(unittest.TestCase):
             self.assertEqual(bytes(times * x), times * data)
             self.assertEqual(bytes(Cord(other).join([x, data, x])), other.join([data, data, data]))
         self.assertEqual(len(Cord(b"ab") * 500_000_000), 1_000_000_000)
+        self.assertRaises(OverflowError, lambda: Cord(b"ab") * 2**64)
+        self.assertEqual(Cord() * 2**64, b"")
         self.assertEqual(Cord(b",").join([]), b"")
 
     def test_order(self):

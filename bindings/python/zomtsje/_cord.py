@@ -8,7 +8,7 @@ from collections.abc import Iterable, Iterator
 from ctypes import byref, c_int32, c_size_t, c_ubyte, c_uint64, create_string_buffer, string_at
 from typing import TYPE_CHECKING, BinaryIO, SupportsIndex, Union, overload
 
-from ._library import NOT_FOUND, CordHandle, zc
+from ._library import MAX_LEN, NOT_FOUND, CordHandle, zc
 
 if TYPE_CHECKING:
     from ._lazy import Files, LazyCord
@@ -197,14 +197,9 @@ class Cord:
     def __mul__(self, times: int) -> Cord:
         if not isinstance(times, int):
             return NotImplemented
-        made, doubled = Cord(), self
-        while times > 0:
-            if times % 2:
-                made = made + doubled
-            times //= 2
-            if times:
-                doubled = doubled + doubled
-        return made
+        handle = CordHandle()
+        zc.zc_repeat(self._handle, min(max(times, 0), MAX_LEN + 1), handle)
+        return Cord._of(handle)
 
     __rmul__ = __mul__
 
@@ -259,7 +254,7 @@ class Cord:
             return found if found < 0 else found + within.start
         place = c_uint64()
         if isinstance(sub, int):
-            place.value = zc.zc_chr(self._handle, within.start, self._byte(sub))
+            zc.zc_chr(self._handle, within.start, self._byte(sub), byref(place))
         elif isinstance(sub, Cord):
             zc.zc_str(self._handle, within.start, sub._handle, byref(place))
         else:
@@ -271,8 +266,9 @@ class Cord:
         within = range_of(start, end, self._length)
         first, last = within.start, within.stop
         if isinstance(sub, int):
-            found = zc.zc_rchr(self._handle, last, self._byte(sub))
-            return -1 if found == NOT_FOUND or found < first else int(found)
+            place = c_uint64()
+            zc.zc_rchr(self._handle, last, self._byte(sub), byref(place))
+            return -1 if place.value == NOT_FOUND or place.value < first else place.value
         wanted = bytes(sub)
         high = last - len(wanted)  # the last place where it has room
         while high >= first:
@@ -408,7 +404,11 @@ class Cord:
     def __eq__(self, other: object) -> bool:
         if not isinstance(other, (Cord, bytes, bytearray, memoryview)):
             return NotImplemented
-        return self._length == len(other) and self._order(other) == 0
+        if self._length != len(other):
+            return False
+        equal = c_int32()
+        zc.zc_equal(self._handle, as_cord(other)._handle, byref(equal))
+        return equal.value != 0
 
     def __lt__(self, other: Cord | Bytes) -> bool:
         order = self._order(other)

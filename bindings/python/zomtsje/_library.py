@@ -7,7 +7,7 @@ import os
 from collections.abc import Callable
 from ctypes import POINTER, c_char_p, c_int, c_int32, c_size_t, c_ubyte, c_uint32, c_uint64, c_void_p
 
-NAME = "libzomtsje.so.0.3"
+NAME = "libzomtsje.so.0.4"
 NOT_FOUND = 2**64 - 1
 MAX_LEN = 2**40 - 1
 
@@ -51,6 +51,10 @@ CODED: dict[str, list[type]] = {
     "zc_replace": [CORD, U64, U64, CORD, CORD],
     "zc_balance": [CORD, CORD],
     "zc_fetch": [CORD, U64, POINTER(c_ubyte)],
+    "zc_chr": [CORD, U64, c_ubyte, PLACE],
+    "zc_rchr": [CORD, U64, c_ubyte, PLACE],
+    "zc_repeat": [CORD, U64, CORD],
+    "zc_equal": [CORD, CORD, ORDER],
     "zc_str": [CORD, U64, CORD, PLACE],
     "zc_find": [CORD, U64, c_char_p, c_size_t, PLACE],
     "zc_cmp": [CORD, CORD, ORDER],
@@ -75,8 +79,6 @@ PLAIN: dict[str, tuple[type | None, list[type]]] = {
     "zc_message": (c_char_p, [c_int]),
     "zc_len": (U64, [CORD]),
     "zc_depth": (c_uint32, [CORD]),
-    "zc_chr": (U64, [CORD, U64, c_ubyte]),
-    "zc_rchr": (U64, [CORD, U64, c_ubyte]),
     "zc_count": (U64, [CORD, c_ubyte]),
     "zc_free": (None, [CORD]),
     "zc_ext_len": (U64, [EXT]),

@@ -1,8 +1,9 @@
 -- Formats with arguments of C.
-use Rattle.std.specs.Prelude.{◌≡◌, ◌⊎◌, ◌<◌, ◌==◌, ℕ, if◌then◌else◌, None, List, length, map}
+use Rattle.std.specs.Prelude.{◌≡◌, ◌⊎◌, ◌<◌, ◌==◌, ℕ, if◌then◌else◌, Some, None, List, length, map}
 use Rattle.cord_io.specs.declared.TheConstants.{MAX_LEN}
 use Rattle.cord_printf.specs.declared.pieces.Piece.{Piece}
-use Rattle.cord_printf.specs.Format.{IsFormat, IsBadAt}
+use Rattle.cord_printf.specs.Format.{IsFormat}
+use Rattle.cord_printf.specs.declared.errors.PrintError.TheVariants.{Negative, BadByte}
 use Rattle.cord_printf.specs.Pieces.{wanted}
 use Rattle.cord_printf.specs.PieceText.{PieceArgument, number, text, kind_of, printed, first_refusal}
 use Rattle.cord_c.specs.declared.argument.Argument.{Argument}
@@ -33,6 +34,15 @@ pub record IsLongPrint (format : List ℕ) (args : List (PieceArgument ℕ)) : T
   pub takes : Takes pieces args
   pub long : MAX_LEN < length (printed (λ b. b) pieces args)
 
--- the bytes are no format, or one that doesn't take the arguments
-abbrev pub IsNoPrint : List ℕ → List (PieceArgument ℕ) → Type 0
-IsNoPrint format args = ((offset : ℕ) × IsBadAt format offset) ⊎ ((pieces : List Piece) × IsFormat format pieces × ¬ Takes pieces args)
+-- the bytes are a format that takes another number of arguments, or others' kinds
+pub record IsWrongFor (format : List ℕ) (args : List (PieceArgument ℕ)) : Type 0 where
+  pub pieces : List Piece
+  pub read : IsFormat format pieces
+  pub unwanted : ¬ (map kind_of args ≡ wanted pieces)
+
+-- the argument of this number is the first whose value its conversion doesn't take
+pub record HasBadValue (format : List ℕ) (args : List (PieceArgument ℕ)) (number : ℕ) : Type 0 where
+  pub pieces : List Piece
+  pub read : IsFormat format pieces
+  pub kinds : map kind_of args ≡ wanted pieces
+  pub refused : (first_refusal 0 pieces args ≡ Some (Negative number)) ⊎ (first_refusal 0 pieces args ≡ Some (BadByte number))

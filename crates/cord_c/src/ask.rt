@@ -1,18 +1,18 @@
 // What a text has.
 ghost use Rattle.std.specs.Prelude.{◌≡◌, ◌≢◌, ◌⊎◌, ◌-◌, ◌<◌, ◌≤◌, ◌==◌, [], ◌∷◌, length, take, drop, min, Some};
-ghost use Rattle.std.specs.Prelude.{None, slice_get, IfOk, OnErr};
+ghost use Rattle.std.specs.Prelude.{None, slice_get, IfOk, OnErr, IsTrue, pos, ◌↔◌};
 ghost use Rattle.std.specs.List.{count_by};
 ghost use Rattle.std.specs.Ordering.{nat_cmp};
 ghost use Rattle.std.specs.Cmp.Lexicographic.{slice_cmp};
 ghost use Rattle.cord_core.specs.Texts.{first};
-ghost use Rattle.cord.specs.Places.{last_before};
+ghost use Rattle.cord.specs.Places.{last_before, BeginsWith, EndsWith};
 ghost use Rattle.cord_c.specs.Codes.{MayLackMemory};
 ghost use Rattle.cord_c.specs.Answers.{place_or_none, sign_of};
 ghost use denote.RawPtr.{Testable};
 ghost use Rattle.core.specs.Ptr.{as_mut_ptr};
 
 use crate::Handle;
-use crate::code::{BAD_ARGUMENT, NO_MEMORY, NOT_FOUND, OK};
+use crate::code::{NO_MEMORY, NOT_FOUND, NULL_POINTER, OK, PAST_END};
 use crate::copy::copy_from;
 use crate::pointer::missing;
 use cord::{CordError, MAX_DEPTH, MOST_BYTES, Text};
@@ -51,56 +51,66 @@ pub extern "C" fn zc_depth(alloc: Global, x: &mut Handle) -> u32
     answer
 }
 
-/// Writes the byte of `x` at `place` to `byte`: `BAD_ARGUMENT` at or past the end, and `byte` stays.
+/// Writes the byte of `x` at `place` to `byte`: `PAST_END` at or past the end, and `byte` stays.
 #[unsafe(no_mangle)]
 pub extern "C" fn zc_fetch(alloc: Global, x: &mut Handle, place: u64, byte: &mut u8) -> i32
     requires places { Testable (as_mut_ptr x) × Testable (as_mut_ptr byte) }
     ensures byte { result ≡ OK → slice_get x.old.text place ≡ Some byte.new }
-    ensures past { result ≡ BAD_ARGUMENT → slice_get x.old.text place ≡ None }
+    ensures past { result ≡ PAST_END → slice_get x.old.text place ≡ None }
     ensures kept { (result ≡ OK) ⊎ (byte.new ≡ byte.old) }
-    ensures code { (result ≡ OK) ⊎ (result ≡ BAD_ARGUMENT) }
+    ensures code { (result ≡ OK) ⊎ (result ≡ PAST_END) }
     ensures x { x.new.text ≡ x.old.text }
 {
     if missing(x) || missing(byte) {
-        return BAD_ARGUMENT;
+        return NULL_POINTER;
     }
     let Some(found) = x.get(alloc, place) else {
-        return BAD_ARGUMENT;
+        return PAST_END;
     };
     *byte = found;
     OK
 }
 
-/// The first place of `x` from `start` on that has this byte.
+/// Writes the first place of `x` from `start` on that has this byte to `place`.
 #[unsafe(no_mangle)]
-pub extern "C" fn zc_chr(alloc: Global, x: &mut Handle, start: u64, byte: u8) -> u64
-    requires places { Testable (as_mut_ptr x) }
-    ensures first { result ≡ place_or_none (first x.old.text start (byte ∷ [])) }
+pub extern "C" fn zc_chr(
+    alloc: Global,
+    x: &mut Handle,
+    start: u64,
+    byte: u8,
+    place: &mut u64,
+) -> i32
+    requires places { Testable (as_mut_ptr x) × Testable (as_mut_ptr place) }
+    ensures first { result ≡ OK → place.new ≡ place_or_none (first x.old.text start (byte ∷ [])) }
+    ensures code { result ≡ OK }
     ensures x { x.new.text ≡ x.old.text }
 {
-    if missing(x) {
-        return NOT_FOUND;
+    if missing(x) || missing(place) {
+        return NULL_POINTER;
     }
     let text = x.lift(alloc);
-    let answer = text.text().find_byte(byte, start).unwrap_or(NOT_FOUND);
+    let found = text.text().find_byte(byte, start).unwrap_or(NOT_FOUND);
     x.lower(alloc, text);
-    answer
+    *place = found;
+    OK
 }
 
-/// The last place of `x` before `end` that has this byte.
+/// Writes the last place of `x` before `end` that has this byte to `place`.
 #[unsafe(no_mangle)]
-pub extern "C" fn zc_rchr(alloc: Global, x: &mut Handle, end: u64, byte: u8) -> u64
-    requires places { Testable (as_mut_ptr x) }
-    ensures last { result ≡ place_or_none (last_before x.old.text end byte) }
+pub extern "C" fn zc_rchr(alloc: Global, x: &mut Handle, end: u64, byte: u8, place: &mut u64) -> i32
+    requires places { Testable (as_mut_ptr x) × Testable (as_mut_ptr place) }
+    ensures last { result ≡ OK → place.new ≡ place_or_none (last_before x.old.text end byte) }
+    ensures code { result ≡ OK }
     ensures x { x.new.text ≡ x.old.text }
 {
-    if missing(x) {
-        return NOT_FOUND;
+    if missing(x) || missing(place) {
+        return NULL_POINTER;
     }
     let text = x.lift(alloc);
-    let answer = text.text().rfind_byte(byte, end).unwrap_or(NOT_FOUND);
+    let found = text.text().rfind_byte(byte, end).unwrap_or(NOT_FOUND);
     x.lower(alloc, text);
-    answer
+    *place = found;
+    OK
 }
 
 /// Writes the first place of `x` from `start` on where the bytes of `y` stand to `place`. No bytes stand at each place
@@ -121,7 +131,7 @@ pub extern "C" fn zc_str(
     ensures y { y.new.text ≡ y.old.text }
 {
     if missing(x) || missing(y) || missing(place) {
-        return BAD_ARGUMENT;
+        return NULL_POINTER;
     }
     match x.read_with(alloc, y) {
         Ok((left, right)) => {
@@ -150,7 +160,7 @@ pub extern "C" fn zc_find(
     ensures x { x.new.text ≡ x.old.text }
 {
     if missing(x) || missing(place) {
-        return BAD_ARGUMENT;
+        return NULL_POINTER;
     }
     let text = x.lift(alloc);
     let found = text.text().find(alloc, bytes, start);
@@ -160,6 +170,71 @@ pub extern "C" fn zc_find(
     };
     *place = found.unwrap_or(NOT_FOUND);
     OK
+}
+
+/// Whether `x` begins with these bytes: 1, else 0.
+#[unsafe(no_mangle)]
+pub extern "C" fn zc_starts_with(alloc: Global, x: &mut Handle, bytes: &[u8]) -> i32
+    requires places { Testable (as_mut_ptr x) }
+    ensures answer { (result ≡ pos 1) ↔ BeginsWith x.old.text bytes.now }
+    ensures number { (result ≡ pos 0) ⊎ (result ≡ pos 1) }
+    ensures x { x.new.text ≡ x.old.text }
+{
+    if missing(x) {
+        return 0;
+    }
+    let text = x.lift(alloc);
+    let answer = text.text().starts_with(bytes);
+    x.lower(alloc, text);
+    truth(answer)
+}
+
+/// Whether `x` ends with these bytes: 1, else 0.
+#[unsafe(no_mangle)]
+pub extern "C" fn zc_ends_with(alloc: Global, x: &mut Handle, bytes: &[u8]) -> i32
+    requires places { Testable (as_mut_ptr x) }
+    ensures answer { (result ≡ pos 1) ↔ EndsWith x.old.text bytes.now }
+    ensures number { (result ≡ pos 0) ⊎ (result ≡ pos 1) }
+    ensures x { x.new.text ≡ x.old.text }
+{
+    if missing(x) {
+        return 0;
+    }
+    let text = x.lift(alloc);
+    let answer = text.text().ends_with(bytes);
+    x.lower(alloc, text);
+    truth(answer)
+}
+
+// An answer as C is told it.
+fn truth(answer: bool) -> i32
+    ensures answer { (result ≡ pos 1) ↔ IsTrue answer }
+    ensures number { (result ≡ pos 0) ⊎ (result ≡ pos 1) }
+{
+    if answer { 1 } else { 0 }
+}
+
+/// Writes 1 to `equal` where both have the same bytes, else 0.
+#[unsafe(no_mangle)]
+pub extern "C" fn zc_equal(alloc: Global, x: &mut Handle, y: &mut Handle, equal: &mut i32) -> i32
+    requires places { Testable (as_mut_ptr x) × Testable (as_mut_ptr y) × Testable (as_mut_ptr equal) }
+    ensures equal { result ≡ OK → (equal.new ≡ pos 1) ↔ (x.old.text ≡ y.old.text) }
+    ensures number { result ≡ OK → (equal.new ≡ pos 0) ⊎ (equal.new ≡ pos 1) }
+    ensures kept { (result ≡ OK) ⊎ (equal.new ≡ equal.old) }
+    ensures code { MayLackMemory result }
+    ensures x { x.new.text ≡ x.old.text }
+    ensures y { y.new.text ≡ y.old.text }
+{
+    if missing(x) || missing(y) || missing(equal) {
+        return NULL_POINTER;
+    }
+    match x.read_with(alloc, y) {
+        Ok((left, right)) => {
+            *equal = truth(left == right);
+            OK
+        }
+        Err(_) => NO_MEMORY,
+    }
 }
 
 /// Writes the order of the two lists of bytes to `order`: -1 where `x` comes first, 0 where they are equal, 1 where `y`
@@ -174,7 +249,7 @@ pub extern "C" fn zc_cmp(alloc: Global, x: &mut Handle, y: &mut Handle, order: &
     ensures y { y.new.text ≡ y.old.text }
 {
     if missing(x) || missing(y) || missing(order) {
-        return BAD_ARGUMENT;
+        return NULL_POINTER;
     }
     write_order(order, x.read_with(alloc, y))
 }
@@ -199,7 +274,7 @@ pub extern "C" fn zc_ncmp(
     ensures y { y.new.text ≡ y.old.text }
 {
     if missing(x) || missing(y) || missing(order) {
-        return BAD_ARGUMENT;
+        return NULL_POINTER;
     }
     write_order(order, x.parts_with(alloc, i, y, j, count))
 }
@@ -245,24 +320,24 @@ pub extern "C" fn zc_count(alloc: Global, x: &mut Handle, byte: u8) -> u64
     answer
 }
 
-/// Copies as many bytes of `x` from `start` on as `bytes` has: `BAD_ARGUMENT` where there are fewer, and then `bytes`
+/// Copies as many bytes of `x` from `start` on as `bytes` has: `PAST_END` where there are fewer, and then `bytes`
 /// stays.
 #[unsafe(no_mangle)]
 pub extern "C" fn zc_to_bytes(alloc: Global, x: &mut Handle, start: u64, bytes: &mut [u8]) -> i32
     requires places { Testable (as_mut_ptr x) }
     ensures bytes { result ≡ OK → bytes.new ≡ take (length bytes.old) (drop start x.old.text) }
-    ensures few { result ≡ BAD_ARGUMENT → length x.old.text - start < length bytes.old }
+    ensures few { result ≡ PAST_END → length x.old.text - start < length bytes.old }
     ensures kept { (result ≡ OK) ⊎ (bytes.new ≡ bytes.old) }
-    ensures code { (result ≡ OK) ⊎ (result ≡ BAD_ARGUMENT) }
+    ensures code { (result ≡ OK) ⊎ (result ≡ PAST_END) }
     ensures x { x.new.text ≡ x.old.text }
 {
     if missing(x) {
-        return BAD_ARGUMENT;
+        return NULL_POINTER;
     }
     let text = x.lift(alloc);
     let left = text.text().len().saturating_sub(start);
     let code = if left < bytes.len() as u64 {
-        BAD_ARGUMENT
+        PAST_END
     } else {
         copy_from(text.text(), start, bytes);
         OK
@@ -289,7 +364,7 @@ pub extern "C" fn zc_read(
     ensures x { x.new.text ≡ x.old.text }
 {
     if missing(x) || missing(got) {
-        return BAD_ARGUMENT;
+        return NULL_POINTER;
     }
     let text = x.lift(alloc);
     let count = copy_from(text.text(), start, bytes);

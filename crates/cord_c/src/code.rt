@@ -13,11 +13,23 @@ pub const TOO_LONG: i32 = 1;
 /// Memory was refused.
 pub const NO_MEMORY: i32 = 2;
 
-/// A pointer was null, or there is no such place.
-pub const BAD_ARGUMENT: i32 = 5;
+/// There is no such place.
+pub const PAST_END: i32 = 5;
 
 /// The bytes lie in a file.
 pub const IN_FILE: i32 = 6;
+
+/// A pointer was null.
+pub const NULL_POINTER: i32 = 9;
+
+/// The bytes are no format.
+pub const BAD_FORMAT: i32 = 10;
+
+/// A format takes other arguments: another number of them, or others' kinds.
+pub const WRONG_ARGUMENTS: i32 = 11;
+
+/// An argument's value is none that its conversion takes.
+pub const BAD_VALUE: i32 = 12;
 
 /// The place that a search gives where it found none.
 pub const NOT_FOUND: u64 = u64::MAX;

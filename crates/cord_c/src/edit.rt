@@ -6,7 +6,7 @@ ghost use denote.RawPtr.{Testable};
 ghost use Rattle.core.specs.Ptr.{as_mut_ptr};
 
 use crate::Handle;
-use crate::code::{BAD_ARGUMENT, NO_MEMORY, OK, TOO_LONG, code_of};
+use crate::code::{NO_MEMORY, NULL_POINTER, OK, PAST_END, TOO_LONG, code_of};
 use crate::pointer::missing;
 use cord::{MAX_LEN, Text};
 use std::alloc::Global;
@@ -27,7 +27,7 @@ pub extern "C" fn zc_substr(
     ensures x { x.new.text ≡ x.old.text }
 {
     if missing(x) || missing(out) {
-        return BAD_ARGUMENT;
+        return NULL_POINTER;
     }
     let Ok(text) = x.part(alloc, start, count) else {
         return NO_MEMORY;
@@ -45,7 +45,7 @@ pub extern "C" fn zc_balance(alloc: Global, x: &mut Handle, out: &mut Handle) ->
     ensures x { x.new.text ≡ x.old.text }
 {
     if missing(x) || missing(out) {
-        return BAD_ARGUMENT;
+        return NULL_POINTER;
     }
     let Ok(old) = x.read(alloc) else {
         return NO_MEMORY;
@@ -75,7 +75,7 @@ pub extern "C" fn zc_insert(
     ensures y { y.new.text ≡ y.old.text }
 {
     if missing(x) || missing(y) || missing(out) {
-        return BAD_ARGUMENT;
+        return NULL_POINTER;
     }
     match x.read_with(alloc, y) {
         Ok((left, right)) => match left.insert(alloc, start, &right) {
@@ -102,7 +102,7 @@ pub extern "C" fn zc_remove(
     ensures x { x.new.text ≡ x.old.text }
 {
     if missing(x) || missing(out) {
-        return BAD_ARGUMENT;
+        return NULL_POINTER;
     }
     let Ok(old) = x.read(alloc) else {
         return NO_MEMORY;
@@ -136,7 +136,7 @@ pub extern "C" fn zc_replace(
     ensures y { y.new.text ≡ y.old.text }
 {
     if missing(x) || missing(y) || missing(out) {
-        return BAD_ARGUMENT;
+        return NULL_POINTER;
     }
     match x.read_with(alloc, y) {
         Ok((old, new)) => match old.replace_range(alloc, start, count, &new) {
@@ -147,26 +147,58 @@ pub extern "C" fn zc_replace(
     }
 }
 
-/// Line `number` of `x`, from 0, without its end: `BAD_ARGUMENT` where it has no more lines than that. A line ends with
+/// Puts the bytes of `y` in place of at most `count` of the bytes of `x` from `start` on.
+#[unsafe(no_mangle)]
+pub extern "C" fn zc_splice(
+    alloc: Global,
+    x: &mut Handle,
+    start: u64,
+    count: u64,
+    y: &mut Handle,
+) -> i32
+    requires places { Testable (as_mut_ptr x) × Testable (as_mut_ptr y) }
+    ensures text { result ≡ OK →
+        x.new.text ≡ take start x.old.text ++ y.old.text ++ drop (start + count) x.old.text }
+    ensures kept { (result ≡ OK) ⊎ (x.new.text ≡ x.old.text) }
+    ensures too_long { result ≡ TOO_LONG →
+        MAX_LEN < length (take start x.old.text ++ y.old.text ++ drop (start + count) x.old.text) }
+    ensures within_limit { result ≡ OK →
+        length (take start x.old.text ++ y.old.text ++ drop (start + count) x.old.text) ≤ MAX_LEN }
+    ensures code { MayBeTooLong result }
+    ensures y { y.new.text ≡ y.old.text }
+{
+    if missing(x) || missing(y) {
+        return NULL_POINTER;
+    }
+    match x.read_with(alloc, y) {
+        Ok((own, with)) => match own.replace_range(alloc, start, count, &with) {
+            Ok(text) => x.hold(alloc, text),
+            Err(refusal) => code_of(refusal),
+        },
+        Err(_) => NO_MEMORY,
+    }
+}
+
+/// Line `number` of `x`, from 0, without its end: `PAST_END` where it has no more lines than that. A line ends with
 /// the byte 10, which the last one may lack.
 #[unsafe(no_mangle)]
 pub extern "C" fn zc_nth_line(alloc: Global, x: &mut Handle, number: u64, out: &mut Handle) -> i32
     requires places { Testable (as_mut_ptr x) × Testable (as_mut_ptr out) }
     ensures line { result ≡ OK → slice_get (bare_lines x.old.text) number ≡ Some out.new.text }
-    ensures past { result ≡ BAD_ARGUMENT → slice_get (bare_lines x.old.text) number ≡ None }
+    ensures past { result ≡ PAST_END → slice_get (bare_lines x.old.text) number ≡ None }
     ensures kept { (result ≡ OK) ⊎ (out.new.text ≡ out.old.text) }
-    ensures code { (result ≡ OK) ⊎ (result ≡ NO_MEMORY) ⊎ (result ≡ BAD_ARGUMENT) }
+    ensures code { (result ≡ OK) ⊎ (result ≡ NO_MEMORY) ⊎ (result ≡ PAST_END) }
     ensures x { x.new.text ≡ x.old.text }
 {
     if missing(x) || missing(out) {
-        return BAD_ARGUMENT;
+        return NULL_POINTER;
     }
     let Ok(old) = x.read(alloc) else {
         return NO_MEMORY;
     };
     match old.nth_line(alloc, number) {
         Ok(Some(line)) => out.hold(alloc, line),
-        Ok(None) => BAD_ARGUMENT,
+        Ok(None) => PAST_END,
         Err(_) => NO_MEMORY,
     }
 }

@@ -7,7 +7,7 @@ ghost use Rattle.cord_c.specs.Grown.{grown};
 ghost use denote.RawPtr.{Testable};
 ghost use Rattle.core.specs.Ptr.{as_mut_ptr};
 
-use crate::code::{BAD_ARGUMENT, NO_MEMORY, OK, TOO_LONG, code_of};
+use crate::code::{NO_MEMORY, NULL_POINTER, OK, TOO_LONG, code_of};
 use crate::extensible::ROOM;
 use crate::pointer::missing;
 use crate::{Extensible, Handle};
@@ -38,7 +38,7 @@ pub extern "C" fn zc_ext_char(alloc: Global, x: &mut Extensible, byte: u8) -> i3
     ensures code { MayBeTooLong result }
 {
     if missing(x) {
-        return BAD_ARGUMENT;
+        return NULL_POINTER;
     }
     match x.push(alloc, byte) {
         Ok(()) => OK,
@@ -57,7 +57,7 @@ pub extern "C" fn zc_ext_bytes(alloc: Global, x: &mut Extensible, bytes: &[u8]) 
     ensures code { MayBeTooLong result }
 {
     if missing(x) {
-        return BAD_ARGUMENT;
+        return NULL_POINTER;
     }
     match x.append(alloc, bytes) {
         Ok(()) => OK,
@@ -77,7 +77,7 @@ pub extern "C" fn zc_ext_cord(alloc: Global, x: &mut Extensible, y: &mut Handle)
     ensures y { y.new.text ≡ y.old.text }
 {
     if missing(x) || missing(y) {
-        return BAD_ARGUMENT;
+        return NULL_POINTER;
     }
     let Ok(more) = y.read(alloc) else {
         return NO_MEMORY;
@@ -98,7 +98,7 @@ pub extern "C" fn zc_ext_to_cord(alloc: Global, x: &mut Extensible, out: &mut Ha
     ensures x { grown x.new ≡ grown x.old }
 {
     if missing(x) || missing(out) {
-        return BAD_ARGUMENT;
+        return NULL_POINTER;
     }
     match x.to_text(alloc) {
         Ok(text) => out.hold(alloc, text),

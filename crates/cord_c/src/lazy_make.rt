@@ -9,7 +9,7 @@ ghost use Rattle.cord_c.specs.Lazy.{cord_of};
 ghost use denote.RawPtr.{Testable};
 ghost use Rattle.core.specs.Ptr.{as_mut_ptr};
 
-use crate::code::{BAD_ARGUMENT, NO_MEMORY, OK, TOO_LONG, code_of};
+use crate::code::{NO_MEMORY, NULL_POINTER, OK, TOO_LONG, code_of};
 use crate::pointer::missing;
 use crate::{Handle, LazyHandle};
 use cord::{MAX_DEPTH, MAX_LEN};
@@ -60,7 +60,7 @@ pub extern "C" fn zc_lazy_from_cord(alloc: Global, x: &mut Handle, out: &mut Laz
     ensures x { x.new.text ≡ x.old.text }
 {
     if missing(x) || missing(out) {
-        return BAD_ARGUMENT;
+        return NULL_POINTER;
     }
     match x.read(alloc) {
         Ok(text) => out.hold(alloc, text.into_cord()),
@@ -86,7 +86,7 @@ pub extern "C" fn zc_lazy_cat(
     ensures y { cord_of y.new ≡ cord_of y.old }
 {
     if missing(x) || missing(y) || missing(out) {
-        return BAD_ARGUMENT;
+        return NULL_POINTER;
     }
     match x.read_with(alloc, y) {
         Ok((left, right)) => match Cord::cat(alloc, &left, &right) {
@@ -113,7 +113,7 @@ pub extern "C" fn zc_lazy_substr(
     ensures x { cord_of x.new ≡ cord_of x.old }
 {
     if missing(x) || missing(out) {
-        return BAD_ARGUMENT;
+        return NULL_POINTER;
     }
     let Ok(whole) = x.read(alloc) else {
         return NO_MEMORY;
@@ -135,7 +135,7 @@ pub extern "C" fn zc_lazy_balance(alloc: Global, x: &mut LazyHandle, out: &mut L
     ensures x { cord_of x.new ≡ cord_of x.old }
 {
     if missing(x) || missing(out) {
-        return BAD_ARGUMENT;
+        return NULL_POINTER;
     }
     let Ok(deep) = x.read(alloc) else {
         return NO_MEMORY;
@@ -156,7 +156,7 @@ pub extern "C" fn zc_lazy_share(alloc: Global, x: &mut LazyHandle, out: &mut Laz
     ensures x { cord_of x.new ≡ cord_of x.old }
 {
     if missing(x) || missing(out) {
-        return BAD_ARGUMENT;
+        return NULL_POINTER;
     }
     match x.read(alloc) {
         Ok(shared) => out.hold(alloc, shared),

@@ -9,7 +9,7 @@ ghost use denote.RawPtr.{Testable};
 ghost use Rattle.core.specs.Ptr.{as_mut_ptr};
 
 use crate::LazyHandle;
-use crate::code::{BAD_ARGUMENT, IN_FILE, NO_MEMORY, OK, TOO_LONG};
+use crate::code::{IN_FILE, NO_MEMORY, NULL_POINTER, OK, TOO_LONG};
 use crate::pointer::missing;
 use cord::MAX_LEN;
 use cord_core::Cord;
@@ -28,7 +28,7 @@ pub extern "C" fn zc_lazy_of_file(alloc: Global, file: u32, len: u64, out: &mut 
     ensures code { MayBeTooLong result }
 {
     if missing(out) {
-        return BAD_ARGUMENT;
+        return NULL_POINTER;
     }
     if len > MAX_LEN {
         return TOO_LONG;
@@ -67,7 +67,7 @@ pub extern "C" fn zc_lazy_part(
     ensures x { cord_of x.new ≡ cord_of x.old }
 {
     if missing(x) || missing(got) || missing(file) || missing(place) {
-        return BAD_ARGUMENT;
+        return NULL_POINTER;
     }
     let held = x.handle.lift(alloc);
     let ahead = Position::set(held.cord(), start).ahead();

@@ -26,7 +26,10 @@ mod walk;
 
 pub use argument::Argument;
 pub use chunks::{CHUNK, Chunks};
-pub use code::{BAD_ARGUMENT, IN_FILE, NO_MEMORY, NOT_FOUND, OK, TOO_LONG};
+pub use code::{
+    BAD_FORMAT, BAD_VALUE, IN_FILE, NO_MEMORY, NOT_FOUND, NULL_POINTER, OK, PAST_END, TOO_LONG,
+    WRONG_ARGUMENTS,
+};
 pub use extensible::{Extensible, ROOM};
 pub use handle::Handle;
 pub use lazy::LazyHandle;

@@ -7,7 +7,7 @@ ghost use denote.RawPtr.{Testable};
 ghost use Rattle.core.specs.Ptr.{as_mut_ptr};
 
 use crate::Handle;
-use crate::code::{BAD_ARGUMENT, NO_MEMORY, OK, TOO_LONG, code_of};
+use crate::code::{NO_MEMORY, NULL_POINTER, OK, TOO_LONG, code_of};
 use crate::pointer::missing;
 use cord::{CordError, MAX_LEN, Text};
 use std::alloc::Global;
@@ -24,7 +24,7 @@ pub extern "C" fn zc_catn(alloc: Global, parts: &mut [Handle], out: &mut Handle)
     ensures parts { texts_of parts.new ≡ texts_of parts.old }
 {
     if missing(out) {
-        return BAD_ARGUMENT;
+        return NULL_POINTER;
     }
     let Ok(texts) = shares(alloc, parts) else {
         return NO_MEMORY;

@@ -1,11 +1,12 @@
 // Texts made and freed.
-ghost use Rattle.std.specs.Prelude.{◌≡◌, ◌⊎◌, ◌+◌, ◌<◌, ◌≤◌, [], ◌∷◌, ◌++◌, length, replicate};
+ghost use Rattle.std.specs.Prelude.{◌≡◌, ◌⊎◌, ◌+◌, ◌*◌, ◌<◌, ◌≤◌, [], ◌∷◌, ◌++◌, length, replicate};
+ghost use Rattle.std.specs.List.{repeat};
 ghost use Rattle.cord_c.specs.Codes.{MayBeTooLong, MayLackMemory};
 ghost use denote.RawPtr.{Testable};
 ghost use Rattle.core.specs.Ptr.{as_mut_ptr};
 
 use crate::Handle;
-use crate::code::{BAD_ARGUMENT, NO_MEMORY, OK, TOO_LONG, code_of};
+use crate::code::{NO_MEMORY, NULL_POINTER, OK, TOO_LONG, code_of};
 use crate::pointer::missing;
 use cord::{MAX_LEN, Text};
 use std::alloc::Global;
@@ -21,7 +22,7 @@ pub extern "C" fn zc_from_bytes(alloc: Global, bytes: &[u8], out: &mut Handle) -
     ensures code { MayBeTooLong result }
 {
     if missing(out) {
-        return BAD_ARGUMENT;
+        return NULL_POINTER;
     }
     match Text::from_bytes(alloc, bytes) {
         Ok(text) => out.hold(alloc, text),
@@ -40,7 +41,7 @@ pub extern "C" fn zc_chars(alloc: Global, byte: u8, count: u64, out: &mut Handle
     ensures code { MayBeTooLong result }
 {
     if missing(out) {
-        return BAD_ARGUMENT;
+        return NULL_POINTER;
     }
     match Text::repeat(alloc, byte, count) {
         Ok(text) => out.hold(alloc, text),
@@ -61,7 +62,7 @@ pub extern "C" fn zc_cat(alloc: Global, x: &mut Handle, y: &mut Handle, out: &mu
     ensures y { y.new.text ≡ y.old.text }
 {
     if missing(x) || missing(y) || missing(out) {
-        return BAD_ARGUMENT;
+        return NULL_POINTER;
     }
     match x.read_with(alloc, y) {
         Ok((left, right)) => match Text::cat(alloc, &left, &right) {
@@ -84,7 +85,7 @@ pub extern "C" fn zc_cat_bytes(alloc: Global, x: &mut Handle, bytes: &[u8], out:
     ensures x { x.new.text ≡ x.old.text }
 {
     if missing(x) || missing(out) {
-        return BAD_ARGUMENT;
+        return NULL_POINTER;
     }
     let old = x.lift(alloc);
     let longer = old.text().append_bytes(alloc, bytes);
@@ -107,12 +108,58 @@ pub extern "C" fn zc_cat_char(alloc: Global, x: &mut Handle, byte: u8, out: &mut
     ensures x { x.new.text ≡ x.old.text }
 {
     if missing(x) || missing(out) {
-        return BAD_ARGUMENT;
+        return NULL_POINTER;
     }
     let old = x.lift(alloc);
     let longer = old.text().append_bytes(alloc, &[byte]);
     x.lower(alloc, old);
     match longer {
+        Ok(text) => out.hold(alloc, text),
+        Err(refusal) => code_of(refusal),
+    }
+}
+
+/// Adds the bytes of `y` at the end of `x`.
+#[unsafe(no_mangle)]
+pub extern "C" fn zc_append(alloc: Global, x: &mut Handle, y: &mut Handle) -> i32
+    requires places { Testable (as_mut_ptr x) × Testable (as_mut_ptr y) }
+    ensures text { result ≡ OK → x.new.text ≡ x.old.text ++ y.old.text }
+    ensures kept { (result ≡ OK) ⊎ (x.new.text ≡ x.old.text) }
+    ensures too_long { result ≡ TOO_LONG → MAX_LEN < length x.old.text + length y.old.text }
+    ensures within_limit { result ≡ OK → length x.old.text + length y.old.text ≤ MAX_LEN }
+    ensures code { MayBeTooLong result }
+    ensures y { y.new.text ≡ y.old.text }
+{
+    if missing(x) || missing(y) {
+        return NULL_POINTER;
+    }
+    match x.read_with(alloc, y) {
+        Ok((own, more)) => match Text::cat(alloc, &own, &more) {
+            Ok(text) => x.hold(alloc, text),
+            Err(refusal) => code_of(refusal),
+        },
+        Err(_) => NO_MEMORY,
+    }
+}
+
+/// The bytes of `x`, `times` times.
+#[unsafe(no_mangle)]
+pub extern "C" fn zc_repeat(alloc: Global, x: &mut Handle, times: u64, out: &mut Handle) -> i32
+    requires places { Testable (as_mut_ptr x) × Testable (as_mut_ptr out) }
+    ensures text { result ≡ OK → out.new.text ≡ repeat times x.old.text }
+    ensures kept { (result ≡ OK) ⊎ (out.new.text ≡ out.old.text) }
+    ensures too_long { result ≡ TOO_LONG → MAX_LEN < times * length x.old.text }
+    ensures within_limit { result ≡ OK → times * length x.old.text ≤ MAX_LEN }
+    ensures code { MayBeTooLong result }
+    ensures x { x.new.text ≡ x.old.text }
+{
+    if missing(x) || missing(out) {
+        return NULL_POINTER;
+    }
+    let Ok(once) = x.read(alloc) else {
+        return NO_MEMORY;
+    };
+    match once.repeated(alloc, times) {
         Ok(text) => out.hold(alloc, text),
         Err(refusal) => code_of(refusal),
     }
@@ -128,7 +175,7 @@ pub extern "C" fn zc_share(alloc: Global, x: &mut Handle, out: &mut Handle) -> i
     ensures x { x.new.text ≡ x.old.text }
 {
     if missing(x) || missing(out) {
-        return BAD_ARGUMENT;
+        return NULL_POINTER;
     }
     match x.read(alloc) {
         Ok(text) => out.hold(alloc, text),

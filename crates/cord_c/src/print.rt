@@ -1,37 +1,44 @@
 // Texts of formats with their arguments.
 ghost use Rattle.std.specs.Prelude.{◌≡◌, ◌⊎◌, IfOk, IfErr, IsOkUnless};
 ghost use Rattle.cord.specs.Prints as of_texts;
-ghost use Rattle.cord_c.specs.Prints.{piece_arguments, IsPrint, IsLongPrint, IsNoPrint};
+ghost use Rattle.cord_printf.specs.Format.{IsBadAt};
+ghost use Rattle.cord_c.specs.Prints.{piece_arguments, IsPrint, IsLongPrint, IsWrongFor, HasBadValue};
 ghost use Rattle.cord_c.specs.inner.Prints.{texts_in, IsRefusedPrint};
 ghost use denote.RawPtr.{Testable};
 ghost use Rattle.core.specs.Ptr.{as_mut_ptr};
 
 use crate::Handle;
 use crate::argument::Argument;
-use crate::code::{BAD_ARGUMENT, NO_MEMORY, OK, TOO_LONG};
+use crate::code::{BAD_FORMAT, BAD_VALUE, NO_MEMORY, NULL_POINTER, OK, TOO_LONG, WRONG_ARGUMENTS};
 use crate::pointer::missing;
 use cord::{CordError, Format, FormatError, PrintError, Text, TextArg};
 use std::alloc::Global;
 
-/// The text of a format with its arguments, which shares the trees of theirs. `BAD_ARGUMENT` where the bytes are no
-/// format, or where it doesn't take these arguments.
+/// The text of a format with its arguments, which shares the trees of theirs. `BAD_FORMAT` where the bytes are no
+/// format, and the offset of what is no conversion goes to `at`; `WRONG_ARGUMENTS` where it takes others; `BAD_VALUE`
+/// where one has a value that its conversion doesn't take, and its number, from 0, goes to `at`.
 #[unsafe(no_mangle)]
 pub extern "C" fn zc_sprintf(
     alloc: Global,
     format: &[u8],
     args: &mut [Argument],
     out: &mut Handle,
+    at: &mut u64,
 ) -> i32
-    requires places { Testable (as_mut_ptr out) }
+    requires places { Testable (as_mut_ptr out) × Testable (as_mut_ptr at) }
     ensures text { result ≡ OK → IsPrint format.now (piece_arguments args.old) out.new.text }
     ensures kept { (result ≡ OK) ⊎ (out.new.text ≡ out.old.text) }
     ensures too_long { result ≡ TOO_LONG → IsLongPrint format.now (piece_arguments args.old) }
-    ensures bad { result ≡ BAD_ARGUMENT → IsNoPrint format.now (piece_arguments args.old) }
-    ensures code { (result ≡ OK) ⊎ (result ≡ TOO_LONG) ⊎ (result ≡ NO_MEMORY) ⊎ (result ≡ BAD_ARGUMENT) }
+    ensures bad_format { result ≡ BAD_FORMAT → IsBadAt format.now at.new }
+    ensures wrong { result ≡ WRONG_ARGUMENTS → IsWrongFor format.now (piece_arguments args.old) }
+    ensures bad_value { result ≡ BAD_VALUE → HasBadValue format.now (piece_arguments args.old) at.new }
+    ensures at_kept { (result ≡ BAD_FORMAT) ⊎ (result ≡ BAD_VALUE) ⊎ (at.new ≡ at.old) }
+    ensures code { (result ≡ OK) ⊎ (result ≡ TOO_LONG) ⊎ (result ≡ NO_MEMORY) ⊎ (result ≡ BAD_FORMAT)
+        ⊎ (result ≡ WRONG_ARGUMENTS) ⊎ (result ≡ BAD_VALUE) }
     ensures args { piece_arguments args.new ≡ piece_arguments args.old }
 {
-    if missing(out) {
-        return BAD_ARGUMENT;
+    if missing(out) || missing(at) {
+        return NULL_POINTER;
     }
     let Ok(texts) = texts_of(alloc, args) else {
         return NO_MEMORY;
@@ -41,8 +48,28 @@ pub extern "C" fn zc_sprintf(
     };
     match print(alloc, format, &args) {
         Ok(text) => out.hold(alloc, text),
-        Err(code) => code,
+        Err(NoPrint::TooLong) => TOO_LONG,
+        Err(NoPrint::NoMemory) => NO_MEMORY,
+        Err(NoPrint::WrongArguments) => WRONG_ARGUMENTS,
+        Err(NoPrint::BadFormat(offset)) => {
+            *at = offset;
+            BAD_FORMAT
+        }
+        Err(NoPrint::BadValue(number)) => {
+            *at = number;
+            BAD_VALUE
+        }
     }
+}
+
+// Why there is no print: a bad format has the offset of what is no conversion, a bad value the number of its argument.
+#[derive(Clone, Copy)]
+enum NoPrint {
+    TooLong,
+    NoMemory,
+    BadFormat(u64),
+    WrongArguments,
+    BadValue(u64),
 }
 
 // The texts of arguments once more, which share their trees: those of numbers too. Refused for want of memory alone.
@@ -79,20 +106,22 @@ fn arguments<'a>(
     Ok(made)
 }
 
-// The text of a format with these arguments, or the code of its refusal.
-fn print(alloc: Global, format: &[u8], args: &[TextArg<'_>]) -> Result<Text, i32>
+// The text of a format with these arguments, or why there is none.
+fn print(alloc: Global, format: &[u8], args: &[TextArg<'_>]) -> Result<Text, NoPrint>
     ensures text { IfOk result (IsPrint format.now (of_texts.piece_arguments args.now)) }
     ensures refused { IfErr result (IsRefusedPrint format.now (of_texts.piece_arguments args.now)) }
 {
     let format = match Format::parse(alloc, format) {
         Ok(format) => format,
-        Err(FormatError::BadFormat(_)) => return Err(BAD_ARGUMENT),
-        Err(FormatError::NoMemory) => return Err(NO_MEMORY),
+        Err(FormatError::BadFormat(offset)) => return Err(NoPrint::BadFormat(offset as u64)),
+        Err(FormatError::NoMemory) => return Err(NoPrint::NoMemory),
     };
     match Text::print(alloc, &format, args) {
         Ok(text) => Ok(text),
-        Err(PrintError::TooLong) => Err(TOO_LONG),
-        Err(PrintError::NoMemory) => Err(NO_MEMORY),
-        Err(_) => Err(BAD_ARGUMENT),
+        Err(PrintError::TooLong) => Err(NoPrint::TooLong),
+        Err(PrintError::NoMemory) => Err(NoPrint::NoMemory),
+        Err(PrintError::WrongArgs) => Err(NoPrint::WrongArguments),
+        Err(PrintError::Negative(number)) => Err(NoPrint::BadValue(number)),
+        Err(PrintError::BadByte(number)) => Err(NoPrint::BadValue(number)),
     }
 }

@@ -5,7 +5,7 @@ ghost use Rattle.cord_c.specs.Chunks.{chunk_of, left_of};
 ghost use denote.RawPtr.{Testable};
 ghost use Rattle.core.specs.Ptr.{as_mut_ptr};
 
-use crate::code::{BAD_ARGUMENT, NO_MEMORY, OK};
+use crate::code::{NO_MEMORY, NULL_POINTER, OK};
 use crate::copy::copy_from;
 use crate::pointer::missing;
 use crate::{Chunks, Handle};
@@ -28,7 +28,7 @@ pub extern "C" fn zc_chunks_set(
     ensures x { x.new.text ≡ x.old.text }
 {
     if missing(x) || missing(chunks) {
-        return BAD_ARGUMENT;
+        return NULL_POINTER;
     }
     let Ok(text) = x.read(alloc) else {
         return NO_MEMORY;

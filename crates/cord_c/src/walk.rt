@@ -7,7 +7,7 @@ ghost use Rattle.cord_pos.specs.Position.{prev_index};
 ghost use denote.RawPtr.{Testable};
 ghost use Rattle.core.specs.Ptr.{as_mut_ptr};
 
-use crate::code::{BAD_ARGUMENT, NO_MEMORY, NOT_FOUND, OK};
+use crate::code::{NO_MEMORY, NOT_FOUND, NULL_POINTER, OK, PAST_END};
 use crate::pointer::missing;
 use crate::{Handle, Position};
 use std::alloc::Global;
@@ -29,7 +29,7 @@ pub extern "C" fn zc_pos_set(
     ensures x { x.new.text ≡ x.old.text }
 {
     if missing(x) || missing(position) {
-        return BAD_ARGUMENT;
+        return NULL_POINTER;
     }
     let Ok(text) = x.read(alloc) else {
         return NO_MEMORY;
@@ -57,23 +57,23 @@ pub extern "C" fn zc_pos_index(position: &mut Position) -> u64
     position.index().unwrap_or(NOT_FOUND)
 }
 
-/// Writes the byte where a position stands to `byte`: `BAD_ARGUMENT` where it stands nowhere, and `byte` stays.
+/// Writes the byte where a position stands to `byte`: `PAST_END` where it stands nowhere, and `byte` stays.
 #[unsafe(no_mangle)]
 pub extern "C" fn zc_pos_fetch(alloc: Global, position: &mut Position, byte: &mut u8) -> i32
     requires places { Testable (as_mut_ptr position) × Testable (as_mut_ptr byte) }
     ensures byte { result ≡ OK → byte_of position.old ≡ Some byte.new }
-    ensures nowhere { result ≡ BAD_ARGUMENT → index_of position.old ≡ None }
+    ensures nowhere { result ≡ PAST_END → index_of position.old ≡ None }
     ensures kept { (result ≡ OK) ⊎ (byte.new ≡ byte.old) }
-    ensures code { (result ≡ OK) ⊎ (result ≡ BAD_ARGUMENT) }
+    ensures code { (result ≡ OK) ⊎ (result ≡ PAST_END) }
     ensures bytes { bytes_of position.new ≡ bytes_of position.old }
     ensures index { index_of position.new ≡ index_of position.old }
 {
     if missing(position) || missing(byte) {
-        return BAD_ARGUMENT;
+        return NULL_POINTER;
     }
     let index = position.index;
     let Some(found) = position.text.get(alloc, index) else {
-        return BAD_ARGUMENT;
+        return PAST_END;
     };
     *byte = found;
     OK

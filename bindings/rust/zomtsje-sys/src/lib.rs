@@ -15,14 +15,22 @@ pub const ZC_NO_MEMORY: c_int = 2;
 pub const ZC_READ_FAILED: c_int = 3;
 /// A write failed, and errno says how.
 pub const ZC_WRITE_FAILED: c_int = 4;
-/// A null pointer, or a place that isn't there.
-pub const ZC_BAD_ARGUMENT: c_int = 5;
+/// There is no such place, or no such line.
+pub const ZC_PAST_END: c_int = 5;
 /// The bytes lie in a file.
 pub const ZC_IN_FILE: c_int = 6;
 /// 64 files are open.
 pub const ZC_TOO_MANY_FILES: c_int = 7;
 /// The descriptor has no bytes now, or takes none.
 pub const ZC_WOULD_BLOCK: c_int = 8;
+/// A pointer is null.
+pub const ZC_NULL: c_int = 9;
+/// The bytes are no format.
+pub const ZC_BAD_FORMAT: c_int = 10;
+/// The format takes another number of arguments, or others' kinds.
+pub const ZC_WRONG_ARGUMENTS: c_int = 11;
+/// An argument has a value that its conversion doesn't take.
+pub const ZC_BAD_VALUE: c_int = 12;
 
 /// The most bytes of a text.
 pub const ZC_MAX_LEN: u64 = (1 << 40) - 1;
@@ -92,7 +100,9 @@ extern "C" {
     pub fn zc_cat(x: *mut zc_cord, y: *mut zc_cord, out: *mut zc_cord) -> c_int;
     pub fn zc_cat_bytes(x: *mut zc_cord, bytes: *const c_void, count: usize, out: *mut zc_cord) -> c_int;
     pub fn zc_substr(x: *mut zc_cord, start: u64, count: u64, out: *mut zc_cord) -> c_int;
-    pub fn zc_replace(x: *mut zc_cord, start: u64, count: u64, y: *mut zc_cord, out: *mut zc_cord) -> c_int;
+    pub fn zc_append(x: *mut zc_cord, y: *mut zc_cord) -> c_int;
+    pub fn zc_splice(x: *mut zc_cord, start: u64, count: u64, y: *mut zc_cord) -> c_int;
+    pub fn zc_repeat(x: *mut zc_cord, times: u64, out: *mut zc_cord) -> c_int;
     pub fn zc_balance(x: *mut zc_cord, out: *mut zc_cord) -> c_int;
     pub fn zc_share(x: *mut zc_cord, out: *mut zc_cord) -> c_int;
     pub fn zc_free(x: *mut zc_cord);
@@ -100,9 +110,10 @@ extern "C" {
     pub fn zc_len(x: *mut zc_cord) -> u64;
     pub fn zc_depth(x: *mut zc_cord) -> u32;
     pub fn zc_fetch(x: *mut zc_cord, place: u64, byte: *mut u8) -> c_int;
-    pub fn zc_chr(x: *mut zc_cord, start: u64, byte: u8) -> u64;
-    pub fn zc_rchr(x: *mut zc_cord, end: u64, byte: u8) -> u64;
+    pub fn zc_chr(x: *mut zc_cord, start: u64, byte: u8, place: *mut u64) -> c_int;
+    pub fn zc_rchr(x: *mut zc_cord, end: u64, byte: u8, place: *mut u64) -> c_int;
     pub fn zc_find(x: *mut zc_cord, start: u64, bytes: *const c_void, count: usize, place: *mut u64) -> c_int;
+    pub fn zc_equal(x: *mut zc_cord, y: *mut zc_cord, equal: *mut i32) -> c_int;
     pub fn zc_cmp(x: *mut zc_cord, y: *mut zc_cord, order: *mut i32) -> c_int;
     pub fn zc_ncmp(x: *mut zc_cord, i: u64, y: *mut zc_cord, j: u64, count: u64, order: *mut i32) -> c_int;
     pub fn zc_count(x: *mut zc_cord, byte: u8) -> u64;

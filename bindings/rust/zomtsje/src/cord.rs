@@ -115,8 +115,16 @@ impl Cord {
     /// Adds bytes at the end.
     pub fn append(&mut self, more: impl Into<Cord>) {
         let more = more.into();
-        // SAFETY: both are handles; the library reads them before it writes the result.
-        infallible(checked(unsafe { sys::zc_cat(self.raw(), more.raw(), self.raw()) }));
+        // SAFETY: both are handles.
+        infallible(checked(unsafe { sys::zc_append(self.raw(), more.raw()) }));
+    }
+
+    /// Its bytes so many times. It shares its tree with itself.
+    ///
+    /// # Panics
+    /// Where that is more than [`MAX_LEN`] bytes.
+    pub fn times(&self, times: u64) -> Cord {
+        infallible(Cord::made(|out| unsafe { sys::zc_repeat(self.raw(), times, out) }))
     }
 
     /// Puts bytes in front of the one at a place.
@@ -149,7 +157,7 @@ impl Cord {
     /// As [`replace_range`](Cord::replace_range), where it may be refused.
     pub fn try_replace_range(&mut self, range: impl RangeBounds<u64>, with: &Cord) -> Result<(), Error> {
         let (start, end) = bounds(range, self.len());
-        checked(unsafe { sys::zc_replace(self.raw(), start, end - start, with.raw(), self.raw()) })
+        checked(unsafe { sys::zc_splice(self.raw(), start, end - start, with.raw()) })
     }
 
     /// The first place where some bytes stand.
@@ -167,12 +175,16 @@ impl Cord {
 
     /// The first place from `start` on that has a byte.
     pub fn find_byte(&self, start: u64, byte: u8) -> Option<u64> {
-        found(unsafe { sys::zc_chr(self.raw(), start, byte) })
+        let mut place = sys::ZC_NOT_FOUND;
+        unsafe { sys::zc_chr(self.raw(), start, byte, &mut place) };
+        found(place)
     }
 
     /// The last place before `end` that has a byte.
     pub fn rfind_byte(&self, end: u64, byte: u8) -> Option<u64> {
-        found(unsafe { sys::zc_rchr(self.raw(), end, byte) })
+        let mut place = sys::ZC_NOT_FOUND;
+        unsafe { sys::zc_rchr(self.raw(), end, byte, &mut place) };
+        found(place)
     }
 
     /// Whether some bytes stand in it.
@@ -380,7 +392,9 @@ impl Eq for Cord {}
 
 impl PartialEq for Cord {
     fn eq(&self, other: &Cord) -> bool {
-        self.len() == other.len() && self.cmp(other).is_eq()
+        let mut equal = 0;
+        infallible(checked(unsafe { sys::zc_equal(self.raw(), other.raw(), &mut equal) }));
+        equal == 1
     }
 }
 

@@ -45,7 +45,7 @@ fn values() {
     let mut two = one.clone();
     two += " two";
     assert_eq!((&two, &one), (&Cord::from(&b"one two"[..]), &Cord::from(String::from("one"))));
-    assert_eq!(Cord::repeat(b'x', 3), "xxx");
+    assert_eq!((Cord::repeat(b'x', 3), one.times(2), one.times(0)), ("xxx".into(), "oneone".into(), Cord::new()));
     assert_eq!([one.clone(), two.clone()].iter().collect::<Cord>(), "oneone two");
     assert_eq!(["a", "b"].into_iter().collect::<Cord>(), "ab");
     two.extend([b"!".to_vec(), vec![0]]);
