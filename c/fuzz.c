@@ -30,6 +30,8 @@ static zc_lazy lazies[LAZIES];
 static text lazy_texts[LAZIES];
 static zc_ext grown;
 static text grown_text;
+static zc_edit edited;
+static text edited_text;
 static zc_pos position;
 static text position_text;
 static uint64_t position_index = UINT64_MAX;
@@ -428,6 +430,43 @@ static void grow(size_t x, size_t out) {
     CHECK(zc_ext_len(&grown) == grown_text.count);
 }
 
+/* Edits of a text that is edited in place, most of them beside the one before. */
+static void retype(size_t x, size_t out) {
+    static uint64_t last;
+    static text more;
+    uint64_t start = below(4) == 0 ? place_in(&edited_text) : smaller(last, edited_text.count), count = below(6);
+    unsigned char *block;
+    if (below(40) == 0 || edited_text.count + texts[x].count >= LONGEST) {
+        if (is_done(zc_edit_set(&cords[x], &edited))) edited_text = texts[x];
+        else zc_edit_free(&edited), edited_text.count = 0;
+    }
+    if (edited_text.count + texts[x].count >= LONGEST) return;
+    more.count = 0;
+    made = edited_text;
+    switch (below(8)) {
+    case 0:
+        replace_part(&made, &edited_text, start, count, &texts[x]);
+        if (is_done(zc_edit_cord(&edited, start, count, &cords[x]))) edited_text = made;
+        break;
+    case 1: case 2:
+        replace_part(&made, &edited_text, start, count, &more);
+        if (is_done(zc_edit_remove(&edited, start, count))) edited_text = made;
+        break;
+    case 3:
+        check_made(zc_edit_to_cord(&edited, &cords[out]), out);
+        break;
+    default:
+        for (size_t i = 0; i < count; i++) more.bytes[more.count++] = some_byte();
+        if (made.count + count > LONGEST) return;
+        replace_part(&made, &edited_text, start, 0, &more);
+        block = block_of(more.bytes, count);
+        if (is_done(zc_edit_bytes(&edited, start, block, count))) edited_text = made;
+        free(block);
+    }
+    last = smaller(start, edited_text.count) + more.count;
+    CHECK(zc_edit_len(&edited) == edited_text.count);
+}
+
 static void step(size_t x) {
     uint64_t index = place_in(&texts[x]);
     unsigned char byte = 7;
@@ -571,7 +610,7 @@ static const struct {
     {"change", NULL, change},
     {"edit", NULL, edit}, {"edit", NULL, edit}, {"edit", NULL, edit}, {"take_line", take_line, NULL}, {"print_texts", print_texts, NULL},
     {"move_handles", move_handles, NULL}, {"search", search, NULL}, {"search_cord", search_cord, NULL},
-    {"compare", compare, NULL}, {"grow", grow, NULL},
+    {"compare", compare, NULL}, {"grow", grow, NULL}, {"retype", retype, NULL}, {"retype", retype, NULL},
 };
 
 /* One group of calls, with handles of its own choice. */
@@ -607,6 +646,7 @@ int main(int count, char **words) {
     for (size_t i = 0; i < CORDS; i++) zc_free(&cords[i]);
     for (size_t i = 0; i < LAZIES; i++) zc_lazy_free(&lazies[i]);
     zc_ext_free(&grown);
+    zc_edit_free(&edited);
     zc_pos_free(&position);
     zc_chunks_free(&chunks);
     zc_files_free(&files);

@@ -637,6 +637,96 @@ static void grows_no_longer(void) {
     zc_free(&out);
 }
 
+static void expect_edited(zc_edit *edit, const char *bytes, size_t count, int line) {
+    zc_cord whole = ZC_EMPTY;
+    expect(zc_edit_len(edit) == count, "the length of an edited text", line);
+    DO(zc_edit_to_cord(edit, &whole));
+    expect_text(&whole, bytes, count, line);
+    expect(zc_edit_len(edit) == count, "the length after it", line);
+    zc_free(&whole);
+}
+#define EXPECT_EDITED(edit, text) expect_edited((edit), (text), sizeof(text) - 1, __LINE__)
+
+static void edits(void) {
+    zc_edit edit = ZC_EDIT_EMPTY;
+    zc_cord a = ZC_EMPTY, b = ZC_EMPTY;
+    EXPECT_EDITED(&edit, "");
+    zc_edit_free(&edit);
+    EXPECT(zc_edit_len(&edit) == 0);
+    DO(zc_edit_bytes(&edit, 7, "b\0e", 3));
+    DO(zc_edit_bytes(&edit, 2, "cd", 2));
+    EXPECT_EDITED(&edit, "b\0cde");
+    DO(zc_edit_remove(&edit, 1, 1));
+    DO(zc_edit_bytes(&edit, 0, "a", 1));
+    DO(zc_edit_bytes(&edit, 3, NULL, 0));
+    EXPECT_EDITED(&edit, "abcde");
+    DO(zc_edit_remove(&edit, 5, 9));
+    DO(zc_edit_remove(&edit, 3, UINT64_MAX));
+    EXPECT_EDITED(&edit, "abc");
+    DO(zc_from_bytes("xyz", 3, &a));
+    DO(zc_edit_cord(&edit, 1, 1, &a));
+    DO(zc_edit_cord(&edit, 99, UINT64_MAX, &a));
+    EXPECT_EDITED(&edit, "axyzcxyz");
+    DO(zc_edit_to_cord(&edit, &b));
+    DO(zc_edit_set(&a, &edit));
+    DO(zc_edit_bytes(&edit, 2, "!", 1));
+    EXPECT_EDITED(&edit, "xy!z");
+    EXPECT_TEXT(&a, "xyz");
+    EXPECT_TEXT(&b, "axyzcxyz");
+    zc_edit_free(&edit);
+    EXPECT_EDITED(&edit, "");
+    zc_edit_free(&edit);
+    zc_edit_free(&edit);
+    zc_free(&a);
+    zc_free(&b);
+}
+
+/* Bytes that are typed one after another are one leaf, up to 4,096 of them. */
+static void edits_by_leaves(void) {
+    zc_edit edit = ZC_EDIT_EMPTY;
+    zc_cord a = ZC_EMPTY, out = ZC_EMPTY;
+    DO(zc_chars('m', 10, &a));
+    DO(zc_edit_set(&a, &edit));
+    for (uint64_t i = 0; i < 4096; i++) DO(zc_edit_bytes(&edit, 5 + i, "t", 1));
+    DO(zc_edit_to_cord(&edit, &a));
+    EXPECT(zc_len(&a) == 4106 && zc_depth(&a) == 2 && zc_count(&a, 't') == 4096);
+    DO(zc_substr(&a, 5, 4096, &out));
+    EXPECT(zc_depth(&out) == 0 && zc_count(&out, 't') == 4096);
+    zc_edit_free(&edit);
+    zc_free(&a);
+    zc_free(&out);
+}
+
+static void edits_no_longer(void) {
+    zc_edit edit = ZC_EDIT_EMPTY;
+    zc_cord most = ZC_EMPTY;
+    DO(zc_chars('m', ZC_MAX_LEN - 1, &most));
+    DO(zc_edit_set(&most, &edit));
+    EXPECT(zc_edit_bytes(&edit, 5, "xy", 2) == ZC_TOO_LONG);
+    if (!may_want) EXPECT(zc_edit_cord(&edit, 5, 3, &most) == ZC_TOO_LONG);
+    DO(zc_edit_bytes(&edit, 5, "x", 1));
+    EXPECT(zc_edit_bytes(&edit, 5, "y", 1) == ZC_TOO_LONG);
+    EXPECT(zc_edit_len(&edit) == ZC_MAX_LEN);
+    DO(zc_edit_to_cord(&edit, &most));
+    EXPECT(zc_len(&most) == ZC_MAX_LEN && byte_place(&most, 0, 'x') == 5);
+    zc_edit_free(&edit);
+    zc_free(&most);
+}
+
+static void nulls_of_edits(void) {
+    zc_cord *volatile none = NULL;
+    zc_edit *volatile no_edit = NULL;
+    zc_edit edit = ZC_EDIT_EMPTY;
+    zc_cord a = ZC_EMPTY;
+    EXPECT(zc_edit_set(none, &edit) == ZC_NULL && zc_edit_set(&a, no_edit) == ZC_NULL);
+    EXPECT(zc_edit_bytes(no_edit, 0, "a", 1) == ZC_NULL);
+    EXPECT(zc_edit_cord(no_edit, 0, 1, &a) == ZC_NULL && zc_edit_cord(&edit, 0, 1, none) == ZC_NULL);
+    EXPECT(zc_edit_remove(no_edit, 0, 1) == ZC_NULL);
+    EXPECT(zc_edit_to_cord(no_edit, &a) == ZC_NULL && zc_edit_to_cord(&edit, none) == ZC_NULL);
+    EXPECT(zc_edit_len(no_edit) == 0 && zc_edit_len(&edit) == 0);
+    zc_edit_free(no_edit);
+}
+
 static int byte_at(zc_pos *position) {
     unsigned char byte = 7;
     int code = zc_pos_fetch(position, &byte);
@@ -1462,6 +1552,9 @@ int main(int count, char **words) {
     grows();
     grows_by_leaves();
     grows_no_longer();
+    edits();
+    edits_by_leaves();
+    edits_no_longer();
     walks();
     chunks_in_order();
     long_chunks();
@@ -1481,6 +1574,7 @@ int main(int count, char **words) {
     lazies_at_most();
     put_lazily();
     nulls_of_lazies();
+    nulls_of_edits();
     nulls_of_lazy_reads();
     doubles();
     long_texts();

@@ -229,6 +229,42 @@ uint64_t zc_ext_len(zc_ext *x);
 /* Frees what x owns; x is then empty, and may be used or freed again. Null is fine. */
 void zc_ext_free(zc_ext *x);
 
+/* ---- texts that are edited ---- */
+
+/* A text that is edited in place, for many small edits, most of them beside the one before. It is a handle as zc_cord
+   is one: begin with ZC_EDIT_EMPTY or zeros, end with zc_edit_free. Its first edit takes 8,192 bytes for what will come
+   beside it. */
+typedef struct zc_edit {
+    void *text; /* for the library alone; null for no bytes */
+} zc_edit;
+
+#define ZC_EDIT_EMPTY {0}
+
+/* Edits the bytes of x from now on, in place of what was. Its tree is shared. ZC_NO_MEMORY: edit stays. O(1). */
+int zc_edit_set(zc_cord *x, zc_edit *edit);
+
+/* Puts these bytes, of which it takes a copy, in front of the byte at: at the end where there is no such byte.
+   ZC_TOO_LONG, ZC_NO_MEMORY: the text stays. O(count) beside the last edit, elsewhere O(count + d). */
+int zc_edit_bytes(zc_edit *edit, uint64_t at, const void *bytes, size_t count);
+
+/* Puts the bytes of y, whose tree is shared, in place of at most count of the bytes from start on: at the end where
+   there are none. ZC_TOO_LONG, ZC_NO_MEMORY: the text stays. O(d). */
+int zc_edit_cord(zc_edit *edit, uint64_t start, uint64_t count, zc_cord *y);
+
+/* Takes out at most count of the bytes from start on. ZC_NO_MEMORY: the text stays. O(1) beside the last edit,
+   elsewhere O(d). */
+int zc_edit_remove(zc_edit *edit, uint64_t start, uint64_t count);
+
+/* The bytes as a cord, whose tree is shared. They may be edited further. ZC_NO_MEMORY. O(d) after an edit, else
+   O(1). */
+int zc_edit_to_cord(zc_edit *edit, zc_cord *out);
+
+/* The number of bytes; 0 of null. O(1). */
+uint64_t zc_edit_len(zc_edit *edit);
+
+/* Frees what edit owns; it is then ZC_EDIT_EMPTY, and may be used or freed again. Null is fine. */
+void zc_edit_free(zc_edit *edit);
+
 /* ---- positions ---- */
 
 /* A cord and an index in it, or nowhere, as past the end and before the beginning. It owns a share of the cord, so it

@@ -1,6 +1,7 @@
 pub mod Answers
 pub mod Chunks
 pub mod Codes
+pub mod Editors
 pub mod Grown
 pub mod Handles
 pub mod Referent

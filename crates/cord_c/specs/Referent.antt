@@ -1,17 +1,26 @@
--- What lies behind a pointer, as a text and as a cord.
+-- What lies behind a pointer, as a text, as a cord and as a text that is edited.
 use Rattle.std.specs.Prelude.{ℕ, List, [], Option, None}
 use Rattle.cord_node.specs.declared.Node.{Node}
 use Rattle.cord_c.specs.declared.referent.Referent.{Referent}
-use Rattle.cord_c.specs.declared.referent.Referent.TheVariants.{Nothing, Text, Cord}
+use Rattle.cord_c.specs.declared.referent.Referent.TheVariants.{Nothing, Text, Cord, Editor}
 
 -- the bytes of the text, none where there is none
 abbrev pub text_by : Referent → List ℕ
 text_by Nothing = []
 text_by (Text t) = t
 text_by (Cord c) = []
+text_by (Editor t) = []
 
 -- the cord, that of no bytes where there is none
 abbrev pub cord_by : Referent → Option Node
 cord_by Nothing = None
 cord_by (Text t) = None
 cord_by (Cord c) = c
+cord_by (Editor t) = None
+
+-- the bytes of the text that is edited, none where there is none
+abbrev pub edited_by : Referent → List ℕ
+edited_by Nothing = []
+edited_by (Text t) = []
+edited_by (Cord c) = []
+edited_by (Editor t) = t

@@ -18,8 +18,9 @@ use std::alloc::Global;
 use std::marker::Model;
 use std::mem::replace;
 
-/// Owns what lies at the pointer, where it isn't null: a text, or a cord if it is a `LazyHandle`'s. In C it is a struct
-/// of one pointer, which doesn't say to what. Its `text` is that of the text, and has no bytes where there is none.
+/// Owns what lies at the pointer, where it isn't null: a text, a cord if it is a `LazyHandle`'s, or a text that is edited
+/// if it is an `Editor`'s. In C it is a struct of one pointer, which doesn't say to what. Its `text` is that of the text,
+/// and has no bytes where there is none.
 #[repr(C)]
 pub struct Handle {
     at: *mut u8,
@@ -91,8 +92,8 @@ impl Handle {
         }
     }
 
-    // As `lift`: nothing where the pointer is null.
-    fn lift_box(&mut self, alloc: Global) -> Option<Box<Referent, Global>>
+    /// As `lift`: nothing where the pointer is null.
+    pub(crate) fn lift_box(&mut self, alloc: Global) -> Option<Box<Referent, Global>>
         ensures referent { referent_in result ≡ self.old.referent }
         ensures left { self.new.referent ≡ Referent.Nothing }
     {
@@ -112,8 +113,8 @@ impl Handle {
         self.lower_box(alloc, held);
     }
 
-    // As `lower`: nothing makes the pointer null.
-    fn lower_box(&mut self, alloc: Global, held: Option<Box<Referent, Global>>)
+    /// As `lower`: nothing makes the pointer null.
+    pub(crate) fn lower_box(&mut self, alloc: Global, held: Option<Box<Referent, Global>>)
         ensures { self.new.referent ≡ referent_in held }
     {
         match held {

@@ -7,6 +7,8 @@ mod chunks;
 mod code;
 mod copy;
 mod edit;
+mod editing;
+mod editor;
 mod extend;
 mod extensible;
 mod handle;
@@ -30,6 +32,7 @@ pub use code::{
     BAD_FORMAT, BAD_VALUE, IN_FILE, NO_MEMORY, NOT_FOUND, NULL_POINTER, OK, PAST_END, TOO_LONG,
     WRONG_ARGUMENTS,
 };
+pub use editor::Editor;
 pub use extensible::{Extensible, ROOM};
 pub use handle::Handle;
 pub use lazy::LazyHandle;

@@ -1,7 +1,7 @@
 //! What calls use of a handle.
-ghost use Rattle.std.specs.Prelude.{◌≡◌, None, []};
+ghost use Rattle.std.specs.Prelude.{◌≡◌, None, [], length};
 ghost use Rattle.cord_core.specs.Cord.{IsCord};
-ghost use Rattle.cord_c.specs.Referent.{text_by, cord_by};
+ghost use Rattle.cord_c.specs.Referent.{text_by, cord_by, edited_by};
 ghost use Rattle.cord_c.specs.inner.Referent.{referent_in};
 
 use crate::referent::Referent;
@@ -45,5 +45,17 @@ impl Lifted {
             }
         }
         &self.no_cord
+    }
+
+    /// The number of bytes of the text that is edited, 0 where there is none.
+    pub(crate) fn edited_len(&self) -> u64
+        ensures { result ≡ length (edited_by (referent_in self.now.held)) }
+    {
+        if let Some(referent) = &self.held {
+            if let Referent::Editor(text) = referent.as_ref() {
+                return text.len();
+            }
+        }
+        0
     }
 }

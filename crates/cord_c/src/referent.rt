@@ -1,5 +1,5 @@
 //! What lies behind the pointers that C keeps.
-use cord::Text;
+use cord::{Text, TextEditor};
 use cord_core::Cord;
 
 /// What a handle leads to.
@@ -11,4 +11,6 @@ pub enum Referent {
     Text(Text),
     /// A cord, which may have parts in files.
     Cord(Cord),
+    /// A text that is edited in place.
+    Editor(TextEditor),
 }

@@ -1,0 +1,168 @@
+// Texts that are edited in place, most edits beside the one before.
+ghost use Rattle.std.specs.Prelude.{◌≡◌, ◌⊎◌, ◌+◌, ◌<◌, ◌≤◌, [], ◌++◌, length, take, drop};
+ghost use Rattle.cord_c.specs.Codes.{MayBeTooLong, MayLackMemory};
+ghost use Rattle.cord_c.specs.Editors.{edited_of};
+ghost use denote.RawPtr.{Testable};
+ghost use Rattle.core.specs.Ptr.{as_mut_ptr};
+
+use crate::code::{NO_MEMORY, NULL_POINTER, OK, TOO_LONG, code_of};
+use crate::pointer::missing;
+use crate::{Editor, Handle};
+use cord::{MAX_LEN, TextEditor};
+use std::alloc::Global;
+
+/// The bytes of `x` are edited from now on, in place of what was. Its tree is shared.
+#[unsafe(no_mangle)]
+pub extern "C" fn zc_edit_set(alloc: Global, x: &mut Handle, edit: &mut Editor) -> i32
+    requires places { Testable (as_mut_ptr x) × Testable (as_mut_ptr edit) }
+    ensures text { result ≡ OK → edited_of edit.new ≡ x.old.text }
+    ensures kept { (result ≡ OK) ⊎ (edited_of edit.new ≡ edited_of edit.old) }
+    ensures code { MayLackMemory result }
+    ensures x { x.new.text ≡ x.old.text }
+{
+    if missing(x) || missing(edit) {
+        return NULL_POINTER;
+    }
+    let text = x.lift(alloc);
+    let made = TextEditor::of(alloc, text.text());
+    x.lower(alloc, text);
+    match made {
+        Ok(text) => edit.hold(alloc, text),
+        Err(_) => NO_MEMORY,
+    }
+}
+
+/// The number of bytes.
+#[unsafe(no_mangle)]
+pub extern "C" fn zc_edit_len(alloc: Global, edit: &mut Editor) -> u64
+    requires places { Testable (as_mut_ptr edit) }
+    ensures len { result ≡ length (edited_of edit.old) }
+    ensures edit { edited_of edit.new ≡ edited_of edit.old }
+{
+    if missing(edit) {
+        return 0;
+    }
+    let held = edit.handle.lift(alloc);
+    let answer = held.edited_len();
+    edit.handle.lower(alloc, held);
+    answer
+}
+
+/// Puts these bytes, of which it takes a copy, in front of the byte `at`: at the end where there is no such byte.
+#[unsafe(no_mangle)]
+pub extern "C" fn zc_edit_bytes(alloc: Global, edit: &mut Editor, at: u64, bytes: &[u8]) -> i32
+    requires places { Testable (as_mut_ptr edit) }
+    ensures text { result ≡ OK →
+        edited_of edit.new ≡ take at (edited_of edit.old) ++ bytes.now ++ drop at (edited_of edit.old) }
+    ensures kept { (result ≡ OK) ⊎ (edited_of edit.new ≡ edited_of edit.old) }
+    ensures too_long { result ≡ TOO_LONG → MAX_LEN < length (edited_of edit.old) + length bytes.now }
+    ensures within_limit { result ≡ OK → length (edited_of edit.old) + length bytes.now ≤ MAX_LEN }
+    ensures code { MayBeTooLong result }
+{
+    if missing(edit) {
+        return NULL_POINTER;
+    }
+    let Ok(mut taken) = edit.take(alloc) else {
+        return NO_MEMORY;
+    };
+    let done = taken.text.insert_bytes(alloc, at, bytes);
+    edit.put_back(alloc, taken);
+    match done {
+        Ok(()) => OK,
+        Err(refusal) => code_of(refusal),
+    }
+}
+
+/// Takes out at most `count` of the bytes from `start` on.
+#[unsafe(no_mangle)]
+pub extern "C" fn zc_edit_remove(alloc: Global, edit: &mut Editor, start: u64, count: u64) -> i32
+    requires places { Testable (as_mut_ptr edit) }
+    ensures text { result ≡ OK →
+        edited_of edit.new ≡ take start (edited_of edit.old) ++ drop (start + count) (edited_of edit.old) }
+    ensures kept { (result ≡ OK) ⊎ (edited_of edit.new ≡ edited_of edit.old) }
+    ensures code { MayLackMemory result }
+{
+    if missing(edit) {
+        return NULL_POINTER;
+    }
+    let Ok(mut taken) = edit.take(alloc) else {
+        return NO_MEMORY;
+    };
+    let done = taken.text.remove(alloc, start, count);
+    edit.put_back(alloc, taken);
+    match done {
+        Ok(()) => OK,
+        Err(_) => NO_MEMORY,
+    }
+}
+
+/// Puts the bytes of `y`, whose tree is shared, in place of at most `count` of the bytes from `start` on.
+#[unsafe(no_mangle)]
+pub extern "C" fn zc_edit_cord(
+    alloc: Global,
+    edit: &mut Editor,
+    start: u64,
+    count: u64,
+    y: &mut Handle,
+) -> i32
+    requires places { Testable (as_mut_ptr edit) × Testable (as_mut_ptr y) }
+    ensures text { result ≡ OK →
+        edited_of edit.new ≡ take start (edited_of edit.old) ++ y.old.text ++ drop (start + count) (edited_of edit.old) }
+    ensures kept { (result ≡ OK) ⊎ (edited_of edit.new ≡ edited_of edit.old) }
+    ensures too_long { result ≡ TOO_LONG → MAX_LEN
+        < length (take start (edited_of edit.old) ++ y.old.text ++ drop (start + count) (edited_of edit.old)) }
+    ensures within_limit { result ≡ OK →
+        length (take start (edited_of edit.old) ++ y.old.text ++ drop (start + count) (edited_of edit.old)) ≤ MAX_LEN }
+    ensures code { MayBeTooLong result }
+    ensures y { y.new.text ≡ y.old.text }
+{
+    if missing(edit) || missing(y) {
+        return NULL_POINTER;
+    }
+    let Ok(mut taken) = edit.take(alloc) else {
+        return NO_MEMORY;
+    };
+    let text = y.lift(alloc);
+    let done = taken.text.replace_range(alloc, start, count, text.text());
+    y.lower(alloc, text);
+    edit.put_back(alloc, taken);
+    match done {
+        Ok(()) => OK,
+        Err(refusal) => code_of(refusal),
+    }
+}
+
+/// The bytes as a cord, whose tree is shared. They can be edited further.
+#[unsafe(no_mangle)]
+pub extern "C" fn zc_edit_to_cord(alloc: Global, edit: &mut Editor, out: &mut Handle) -> i32
+    requires places { Testable (as_mut_ptr edit) × Testable (as_mut_ptr out) }
+    ensures text { result ≡ OK → out.new.text ≡ edited_of edit.old }
+    ensures kept { (result ≡ OK) ⊎ (out.new.text ≡ out.old.text) }
+    ensures code { MayLackMemory result }
+    ensures edit { edited_of edit.new ≡ edited_of edit.old }
+{
+    if missing(edit) || missing(out) {
+        return NULL_POINTER;
+    }
+    let Ok(mut taken) = edit.take(alloc) else {
+        return NO_MEMORY;
+    };
+    let made = taken.text.to_text(alloc);
+    edit.put_back(alloc, taken);
+    match made {
+        Ok(text) => out.hold(alloc, text),
+        Err(_) => NO_MEMORY,
+    }
+}
+
+/// Frees what `edit` owns, which then has no bytes.
+#[unsafe(no_mangle)]
+pub extern "C" fn zc_edit_free(alloc: Global, edit: &mut Editor)
+    requires places { Testable (as_mut_ptr edit) }
+    ensures text { edited_of edit.new ≡ [] }
+{
+    if missing(edit) {
+        return;
+    }
+    edit.handle = Handle::empty(alloc);
+}
