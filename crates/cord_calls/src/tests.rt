@@ -7,6 +7,7 @@ mod entry;
 mod extensible;
 mod files;
 mod formats;
+mod gaps;
 mod iteration;
 mod made;
 mod marks;

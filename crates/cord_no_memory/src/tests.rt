@@ -14,6 +14,7 @@ macro_rules! again {
 mod cords;
 mod extensible;
 mod files;
+mod gaps;
 mod iteration;
 mod nodes;
 mod plans;
