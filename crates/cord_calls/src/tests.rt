@@ -16,4 +16,5 @@ mod positions;
 mod raw;
 mod rows;
 mod search;
+mod sharing;
 mod trees;
