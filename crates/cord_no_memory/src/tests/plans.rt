@@ -77,16 +77,20 @@ fn made(rt: &impl Abort, first: Result<Plan, CordError>, second: Result<Plan, Co
     }
 }
 
-// That a script still has its statements.
-fn expect_statements(rt: &impl Abort, script: &Script, lines: usize) {
-    assert!(rt; script.statements().len() == lines);
+// That a script of which a plan was refused still has all of its statements, as its trivial plan shows them.
+fn expect_statements(rt: &impl Abort, alloc: Global, script: &Script, row: &Planned) {
+    assert!(rt; script.statements().len() == row.lines);
+    let unplanned = Plan::trivial(alloc, script).expect(rt, "memory");
+    expect_shown(rt, alloc, &unplanned, row.unplanned);
 }
 
 // Makes the plan of a script.
 fn make(rt: &impl Abort, alloc: Global, row: &Planned) {
     let script = read(rt, alloc, row.script, row.lines);
     let first = plan(alloc, &script);
-    expect_statements(rt, &script, row.lines);
+    if first.is_err() {
+        expect_statements(rt, alloc, &script, row);
+    }
     let planned = made(rt, first, plan(alloc, &script));
     expect_shows(rt, alloc, &planned, row.planned);
 }
@@ -95,7 +99,9 @@ fn make(rt: &impl Abort, alloc: Global, row: &Planned) {
 fn make_trivial(rt: &impl Abort, alloc: Global, row: &Planned) {
     let script = read(rt, alloc, row.script, row.lines);
     let first = Plan::trivial(alloc, &script);
-    expect_statements(rt, &script, row.lines);
+    if first.is_err() {
+        expect_statements(rt, alloc, &script, row);
+    }
     let unplanned = made(rt, first, Plan::trivial(alloc, &script));
     expect_shows(rt, alloc, &unplanned, row.unplanned);
 }
@@ -122,13 +128,22 @@ fn refused_trivial_plans(rt: HostRuntime) {
     }
 }
 
-// The jumps of a plan of so many operations.
-fn jumps_of(rt: &impl Abort, alloc: Global, made: &Plan, count: usize) -> Vec<usize> {
+const BLOCKS: Planned = Planned {
+    script: "let x \"a\"\nrepeat 2\nlen n x\nif n eq 1\nlet x \"b\"\nelse\nlet x \"c\"\nend\nif n gt 1\nput x\nend\nend\n\
+        put x",
+    lines: 13,
+    planned: "",
+    unplanned: "1 build x literal(1)\n2 repeat 2\n3 number n len(x)\n4 if n eq 1\n5 build x literal(1)\n6 else\n\
+        7 build x literal(1)\n8 end\n9 if n gt 1\n10 write x\n11 end\n12 end\n13 write x\n",
+};
+
+// The jumps of a plan that shows this.
+fn jumps_of(rt: &impl Abort, alloc: Global, made: &Plan, text: &str) -> Vec<usize> {
     match made.jumps(alloc) {
         Ok(jumps) => jumps,
         Err(error) => {
             expect_no_memory(rt, error);
-            assert!(rt; made.operations().len() == count);
+            expect_shown(rt, alloc, made, text);
             made.jumps(alloc).expect(rt, "memory")
         }
     }
@@ -139,15 +154,9 @@ fn jumps_of(rt: &impl Abort, alloc: Global, made: &Plan, count: usize) -> Vec<us
 #[test]
 fn refused_jumps(rt: HostRuntime) {
     let alloc = rt.alloc();
-    let script = read(
-        &rt,
-        alloc,
-        "let x \"a\"\nrepeat 2\nlen n x\nif n eq 1\nlet x \"b\"\nelse\nlet x \"c\"\nend\nif n gt 1\nput x\nend\n\
-            end\nput x",
-        13,
-    );
+    let script = read(&rt, alloc, BLOCKS.script, BLOCKS.lines);
     let made = again!(&rt, Plan::trivial(alloc, &script));
-    let jumps = jumps_of(&rt, alloc, &made, 13);
+    let jumps = jumps_of(&rt, alloc, &made, BLOCKS.unplanned);
     let expected: [usize; 13] = [1, 12, 3, 6, 5, 7, 7, 8, 10, 10, 11, 12, 13];
     assert!(rt; jumps.as_slice() == expected.as_slice());
 }
