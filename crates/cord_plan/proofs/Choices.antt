@@ -6,7 +6,7 @@ use Rattle.cord_syntax.specs.declared.statements.Statement.{Statement}
 use Rattle.cord_syntax.specs.declared.statements.Statement.TheVariants.{Chars, Nul, Cat, Catn, Catc, Substr, Put}
 use Rattle.cord_plan.specs.Exprs.{Expr, name}
 use Rattle.cord_plan.specs.Operands.{read_by}
-use Rattle.cord_plan.specs.Forced.{Choice, Table, expr_of, setter, chosen_of, choices, entry, operands_chosen, own}
+use Rattle.cord_plan.specs.Forced.{Choice, named, Table, expr_of, expr_with, setter, chosen_of, choices, entry, operands_chosen, own}
 use Rattle.cord_plan.specs.inner.Choices.{AreChoices, IsChoice, simple_operands}
 
 -- a simple line reads its operands
@@ -19,6 +19,19 @@ simple_reads (Nul line target n) xs e = cc
 simple_reads (Substr line target operand start n) xs e = cc
 simple_reads (Put line operand) xs e = cc
 simple_reads l xs e = let bad : ⊥ = cc in absurd bad
+
+-- operands that stand for themselves
+pub all_themselves : (xs : List (List ℕ)) → map (λ c. expr_of c) (map (λ x. named x) xs) ≡ map (λ x. name x) xs
+all_themselves [] = refl
+all_themselves (x ∷ xs) = ap (λ (es : List Expr). name x ∷ es) (all_themselves xs)
+
+-- the expression of a simple line whose operands stand for themselves is its own
+pub own_named : (l : Statement) (xs : List (List ℕ)) (cs : List Choice) → simple_operands l ≡ Some xs → cs ≡ map (λ x. named x) xs →
+    expr_with l (map (λ c. expr_of c) cs) ≡ own l
+own_named l xs cs simple same =
+    ap (λ (ds : List Choice). expr_with l (map (λ c. expr_of c) ds)) same
+    ∙ (ap (λ (es : List Expr). expr_with l es) (all_themselves xs)
+    ∙ ap (λ (ys : List (List ℕ)). expr_with l (map (λ x. name x) ys)) (sym (simple_reads l xs simple)))
 
 module _ (s : List Statement) (later : List ℕ → ℕ → Bool) (t : Table) (b : ℕ) (l : Statement) where
   -- a choice more, and an operand less

@@ -7,8 +7,7 @@ use Rattle.cord_plan.specs.declared.planner.choosing.Choice.{Choice}
 use Rattle.cord_plan.specs.Forced as plain
 use Rattle.cord_plan.specs.Forced.{expr_of}
 use Rattle.cord_plan.specs.inner.Choices.{choice_view}
-use Rattle.cord_plan.specs.Views.{members_of}
-use Rattle.cord_plan.proofs.Appending.{append_nothing, append_thrice, members_of_both}
+use Rattle.cord_plan.proofs.Appending.{append_nothing, append_thrice}
 
 front_append : (e : Expr) (a b : Exprs) → in_front e (append a b) ≡ append (in_front e a) b
 front_append (name x) a b = refl
@@ -56,13 +55,3 @@ joined_more es old new last c n made added is = ap cat (
 pub added_name : (old : Exprs) (copy v : Expr) (x : List ℕ) → copy ≡ name x → v ≡ name x →
     append old (member copy nothing) ≡ append old (in_front v nothing)
 added_name old copy v x made same = added_one old copy v (name x) (made ∙ sym same) same refl
-
--- the members that names give, with one name more
-pub named_more : (xs : List (List ℕ)) (i : ℕ) (x : List ℕ) (copy : Expr) → i < length xs → x ≡ get_or xs i x → copy ≡ name x →
-    append (members_of (map (λ y. name y) (take i xs))) (member copy nothing) ≡ members_of (map (λ y. name y) (take (i + 1) xs))
-named_more xs i x copy lt is made =
-    ap (λ (e : Expr). append (members_of (map (λ y. name y) (take i xs))) (member e nothing)) made
-    ∙ (sym (members_of_both (map (λ y. name y) (take i xs)) (name x ∷ []))
-    ∙ ap members_of (sym (
-    ap (λ (ys : List (List ℕ)). map (λ y. name y) ys) (take_more xs i x lt ∙ ap (λ (y : List ℕ). take i xs ++ y ∷ []) (sym is))
-    ∙ map-append (λ (y : List ℕ). name y) (take i xs) (x ∷ []))))

@@ -132,17 +132,6 @@ impl Members {
         }
     }
 
-    /// These two members, without taking memory.
-    #[inline(always)]
-    pub(crate) fn pair(left: Rc<Expr>, right: Rc<Expr>) -> Self
-        ensures { members_view result ≡ member (shared_view left) (member (shared_view right) nothing) }
-    {
-        Members {
-            front: None,
-            rest: Rest::two(left, right),
-        }
-    }
-
     /// The members in front, where other expressions may share them, and those after them. Some stand after a front.
     #[inline(always)]
     #[cycle(halves)]

@@ -20,9 +20,9 @@ ghost use Rattle.cord_plan.specs.Planned as plan;
 ghost use Rattle.cord_plan.specs.Unread.{IsLater};
 ghost use Rattle.cord_plan.specs.Views.{operation_view};
 
-pub(crate) use self::constructors::own_expression;
 use self::expressions::{NextExpression, next_expression};
 pub(crate) use self::interning::Interner;
+pub(crate) use self::joining::own_expression;
 use self::known::Known;
 pub(crate) use self::lines::operation_of;
 use crate::flow::{Later, Recent};

@@ -3,18 +3,21 @@ ghost use Rattle.std.specs.Prelude.{◌≡◌, ◌++◌, ◌∷◌, [], pos, IfO
 ghost use Rattle.cord_plan.specs.Exprs as plain;
 ghost use Rattle.cord_plan.specs.Exprs.{append, in_front, members, nothing};
 ghost use Rattle.cord_operands.specs.declared.operands.Number.TheVariants.{Numeral};
-ghost use Rattle.cord_plan.specs.Forced.{expr_of, expr_with};
+ghost use Rattle.cord_plan.specs.Forced as chosen;
+ghost use Rattle.cord_plan.specs.Forced.{expr_of, expr_with, own};
 ghost use Rattle.cord_plan.specs.inner.Choices.{choice_view};
 ghost use Rattle.cord_plan.specs.Views.{expr_view, members_view, shared_view};
 
+use crate::flow::operands_of;
 use crate::planner::choosing::Choice;
 use crate::planner::constructors::{named, run, run_of, sub_of};
 use crate::planner::interning::Interner;
 use crate::planner::parts::copy;
 use crate::{Expr, Members};
 use cord_io::CordError;
-use cord_script::{Number, Statement};
-use std::alloc::Global;
+use cord_script::{Name, Number, Statement};
+use cord_syntax::Operands;
+use std::alloc::{AllocError, Global};
 use std::rc::Rc;
 
 // An expression that stands for an operand.
@@ -178,5 +181,42 @@ pub(crate) fn expression_with(
             [choice, ..] => Ok(Some(expression_of(choice)?)),
         },
         _ => Ok(None),
+    }
+}
+
+// Each of these names, standing for itself.
+fn all_named<'a>(alloc: Global, names: &'a [Name]) -> Result<Vec<Choice<'a>>, AllocError>
+    ensures { IfOk result (λ cs. map choice_view cs.items ≡ map (λ x. chosen.named x) names.now) }
+{
+    let mut choices = Vec::with_capacity(alloc, names.len())?;
+    for name in names {
+        choices.push(Choice::Named(name))?;
+    }
+    Ok(choices)
+}
+
+/// The own expression of a simple statement; of any other there is none. Refused only with `NoMemory`.
+pub(crate) fn own_expression(
+    alloc: Global,
+    interner: &mut Interner,
+    statement: &Statement,
+) -> Result<Option<Expr>, CordError>
+    ensures made { IfOk result (λ e. option_map expr_view e ≡ own statement.now) }
+    ensures refused { IsOkUnless result CordError.NoMemory }
+{
+    match operands_of(statement) {
+        None => Ok(None),
+        Some(Operands::Nothing) => expression_with(alloc, interner, statement, &[]),
+        Some(Operands::One(operand)) => {
+            expression_with(alloc, interner, statement, &[Choice::Named(operand)])
+        }
+        Some(Operands::Two(left, right)) => {
+            let choices = [Choice::Named(left), Choice::Named(right)];
+            expression_with(alloc, interner, statement, &choices)
+        }
+        Some(Operands::Listed(names)) => {
+            let choices = all_named(alloc, names)?;
+            expression_with(alloc, interner, statement, &choices)
+        }
     }
 }

@@ -1,0 +1,7 @@
+use Rattle.std.proofs.Common.{◌≡◌, map, take}
+use Rattle.cord_plan.specs.Forced as plain
+use Rattle.cord_plan.specs.inner.Choices.{choice_view}
+use Rattle.cord_plan.proofs.planner.joining.all_named.Given as goal
+
+abbrev pub invariant-loop-name : goal.invariant-loop-name
+invariant-loop-name l = map choice_view l.choices.items ≡ map (λ x. plain.named x) (take l.name-index l.names)
