@@ -11,5 +11,5 @@ pub(crate) use self::liveness::Later;
 pub(crate) use self::marks::{GROUP, has_bit, mark_number};
 pub(crate) use self::numbering::Numbering;
 pub(crate) use self::readings::{assigns, operands_of, reads};
-pub(crate) use self::recent::{Recent, entry_at, entry_of, is_before, unless_after};
+pub(crate) use self::recent::{Recent, entry_at, is_before, unless_after};
 pub(crate) use self::successors::{Shape, is_block, jump, shape_of};

@@ -241,14 +241,6 @@ fn is_read_in(statements: &[Statement], name: &Name) -> bool
     false
 }
 
-// Whether one of the lines after a place does.
-fn is_read_after(statements: &[Statement], place: usize, name: &Name) -> bool
-    requires { place < length statements.now }
-    ensures { result ≡ later_in (drop (place + 1) statements.now) name.now }
-{
-    is_read_in(&statements[place + 1..], name)
-}
-
 impl Found {
     // What is read later in a script of these statements, whose names are numbered.
     fn of(
@@ -312,7 +304,7 @@ impl<'a> Later<'a> {
     {
         match &self.found {
             Found::ByLines(lines) if index < OPERANDS => has_operand(line_at(lines, place), index),
-            Found::ByLines(_) => is_read_after(self.statements, place, operand),
+            Found::ByLines(_) => is_read_in(&self.statements[place + 1..], operand),
             Found::ByGroups(successors, groups) => {
                 is_live_after(successors, groups, number, place)
             }

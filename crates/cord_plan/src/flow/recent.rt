@@ -40,17 +40,6 @@ pub(crate) fn entry_at(places: &[Option<usize>], number: Option<usize>) -> Optio
     }
 }
 
-/// What they have for a name.
-pub(crate) fn entry_of(
-    numbering: &Numbering,
-    places: &[Option<usize>],
-    name: &Name,
-) -> Option<Option<usize>>
-    ensures { result ≡ entry_of numbering.now places.now name.now }
-{
-    entry_at(places, numbering.number_of(name))
-}
-
 // Whether a place, where there is one, stands after another.
 fn is_after(place: Option<usize>, other: usize) -> bool
     ensures { result ≡ is_after place other }

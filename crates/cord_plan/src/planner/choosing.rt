@@ -255,14 +255,6 @@ pub(crate) fn choose<'a>(
     }
 }
 
-// Whether a place is that just before another.
-#[inline(always)]
-fn is_just_before(source: usize, place: usize) -> bool
-    ensures { result ≡ (place - source == 1) }
-{
-    place.saturating_sub(source) == 1
-}
-
 #[inline(always)]
 fn is_cat(expression: &Expr) -> bool
     ensures { result ≡ is_cat (expr_view expression.now) }
@@ -281,7 +273,7 @@ pub(crate) fn is_last(choice: &Choice, place: usize) -> bool
     match choice {
         Choice::Named(_) => false,
         Choice::Replaced(source, expression) => {
-            is_just_before(*source, place) && is_cat(expression)
+            place.saturating_sub(*source) == 1 && is_cat(expression)
         }
     }
 }

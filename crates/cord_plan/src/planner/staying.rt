@@ -10,9 +10,7 @@ ghost use Rattle.cord_plan.specs.inner.Numbering.{number_of};
 ghost use Rattle.cord_plan.specs.inner.Recent.{IsRecent, stay, bars};
 ghost use Rattle.cord_plan.specs.Views.{expr_view, members_of, members_view, shared_view};
 
-use crate::flow::{
-    GROUP, Numbering, assigns, entry_at, entry_of, is_before, is_block, reads, unless_after,
-};
+use crate::flow::{GROUP, Numbering, assigns, entry_at, is_before, is_block, reads, unless_after};
 use crate::planner::choosing::Line;
 use crate::planner::known::Facts;
 use crate::{Expr, Members};
@@ -84,7 +82,8 @@ fn name_stays(line: &Line, from: usize, name: &Name) -> bool
     ensures { result ≡ stay line.now.statements.now from line.now.place (name.now ∷ []) }
 {
     let recent = line.recent;
-    match entry_of(&recent.later.numbering, &recent.assigned, name) {
+    let number = recent.later.numbering.number_of(name);
+    match entry_at(&recent.assigned, number) {
         Some(last) => is_before(last, from),
         None => stays_by_lines(line.statements, from, line.place, name),
     }
