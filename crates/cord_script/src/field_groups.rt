@@ -4,7 +4,8 @@ ghost use Rattle.cord_script.specs.Forms.Term.{Target, Operand, Value, FilePath}
 ghost use Rattle.cord_script.specs.inner.LineReading.{IsFresh, GivesAll, paired};
 
 use crate::kinds::Kind;
-use crate::line_words::{LineWords, Unread};
+use crate::line_words::LineWords;
+use crate::unread::Unread;
 use crate::{Name, Number, Path, Shared};
 
 /// The fields before and the next one, unless that is refused.

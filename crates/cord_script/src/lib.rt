@@ -21,6 +21,7 @@ mod parser;
 mod refusals;
 mod statements;
 mod table;
+mod unread;
 mod verbs;
 mod words;
 

@@ -18,42 +18,15 @@ use crate::fields::{begins_numeral, function_of, path_of, relation_of};
 use crate::kinds::{Kind, Want};
 use crate::numerals::numeral_of;
 use crate::table::Known;
+use crate::unread::Unread;
 use crate::words::{Word, blanks, next_word, plain_word};
 use crate::{
-    Argument, Arguments, Function, MAX_PARTS, MIN_PARTS, Name, Names, Number, Path, RefusalKind,
-    Relation, Shared, Text,
+    Argument, Arguments, Function, MAX_PARTS, MIN_PARTS, Name, Names, Number, Path, Relation,
+    Shared, Text,
 };
-use cord_printf::{Format, FormatError};
-use std::alloc::{AllocError, AllocFailed, Global};
+use cord_printf::Format;
+use std::alloc::Global;
 use std::marker::Model;
-
-/// A line that isn't read: something is wrong with it, or memory was refused for its statement.
-#[derive(Drop)]
-pub struct Unread;
-
-impl From<AllocError> for Unread {
-    fn from(_error: AllocError) -> Unread {
-        Unread
-    }
-}
-
-impl<T: Drop> From<AllocFailed<T>> for Unread {
-    fn from(_failed: AllocFailed<T>) -> Unread {
-        Unread
-    }
-}
-
-impl From<RefusalKind> for Unread {
-    fn from(_kind: RefusalKind) -> Unread {
-        Unread
-    }
-}
-
-impl From<FormatError> for Unread {
-    fn from(_error: FormatError) -> Unread {
-        Unread
-    }
-}
 
 /// The words of a line that are still to be read, after what the lines before it leave, and what those that were read
 /// add to it.

@@ -10,7 +10,8 @@ use crate::field_groups::{
 };
 use crate::formats::wants_of_pieces;
 use crate::kinds::Kind;
-use crate::line_words::{LineWords, Unread};
+use crate::line_words::LineWords;
+use crate::unread::Unread;
 use crate::verbs::{
     Composition, Computation, Control, Derivation, FixedVerb, Growth, Look, Origin, Search, Verb,
 };

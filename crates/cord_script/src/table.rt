@@ -7,8 +7,8 @@ ghost use Rattle.cord_script.specs.Flaws.{unless};
 ghost use Rattle.cord_operands.specs.Keys.{key_of};
 
 use crate::kinds::Kind;
-use crate::line_words::Unread;
 use crate::names::{is_name, is_same};
+use crate::unread::Unread;
 use crate::{MAX_NAMES, Name, RefusalKind, key_of, slot_of};
 use std::alloc::Global;
 use std::marker::Model;
