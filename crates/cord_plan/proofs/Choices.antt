@@ -7,7 +7,7 @@ use Rattle.cord_syntax.specs.declared.statements.Statement.TheVariants.{Chars, N
 use Rattle.cord_plan.specs.Exprs.{Expr, name}
 use Rattle.cord_plan.specs.Operands.{read_by}
 use Rattle.cord_plan.specs.Forced.{Choice, named, Table, expr_of, expr_with, setter, chosen_of, choices, entry, operands_chosen, own}
-use Rattle.cord_plan.specs.inner.Choices.{AreChoices, IsChoice, simple_operands}
+use Rattle.cord_plan.specs.inner.Choices.{simple_operands}
 
 -- a simple line reads its operands
 pub simple_reads : (l : Statement) (xs : List (List ℕ)) → simple_operands l ≡ Some xs → read_by l ≡ xs
@@ -64,19 +64,3 @@ chosen_simple s later t b (Nul line target n) = refl
 chosen_simple s later t b (Substr line target operand start n) = refl
 chosen_simple s later t b (Put line operand) = refl
 chosen_simple s later t b l = refl
-
--- the choices of a line with one operand, and with two
-module _ (s : List Statement) (later : List ℕ → ℕ → Bool) (b : ℕ) (l : Statement) (table : List (Option Expr)) where
-  pub one_chosen : (x : List ℕ) (c : Choice) → simple_operands l ≡ Some (x ∷ []) → IsChoice s later b l (x ∷ []) x table [] c →
-      AreChoices s later b l table (c ∷ [])
-  one_chosen x c simple chosen t has =
-      ap (λ (d : Choice). d ∷ []) (chosen t has)
-      ∙ sym (ap (λ (ys : List (List ℕ)). choices s later t b l [] ys) (simple_reads l (x ∷ []) simple))
-
-  pub two_chosen : (x y : List ℕ) (c d : Choice) → simple_operands l ≡ Some (x ∷ y ∷ []) →
-      IsChoice s later b l (x ∷ y ∷ []) x table [] c → IsChoice s later b l (x ∷ y ∷ []) y table (c ∷ []) d →
-      AreChoices s later b l table (c ∷ d ∷ [])
-  two_chosen x y c d simple first second t has =
-      ap (λ (z : Choice). c ∷ z ∷ []) (second t has)
-      ∙ ap (λ (z : Choice). z ∷ chosen_of s later t b l y (expr_of z ∷ []) [] (setter s y b) ∷ []) (first t has)
-      ∙ sym (ap (λ (ys : List (List ℕ)). choices s later t b l [] ys) (simple_reads l (x ∷ y ∷ []) simple))

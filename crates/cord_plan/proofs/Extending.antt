@@ -15,16 +15,15 @@ use Rattle.cord_plan.specs.Exprs.{Expr, Exprs, name, run, cat, sub, nothing, mem
 use Rattle.cord_plan.specs.Extending.{Extends, IsLonger, joined_at, joined_by}
 use Rattle.cord_plan.specs.inner.Extensions.{AreExtending}
 use Rattle.cord_plan.specs.Forced.{Choice, Table, choices, expr_of, expr_with, first_of, named, preserves, replaced}
-use Rattle.cord_plan.specs.inner.Choices as code
-use Rattle.cord_plan.specs.inner.Choices.{expression_of, simple_operands}
-use Rattle.cord_plan.specs.inner.Steps.{IsBegun, IsStep, IsToldLonger, is_catc, is_last, is_longer, is_named, made_expression}
+use Rattle.cord_plan.specs.inner.Choices.{expression_of}
+use Rattle.cord_plan.specs.inner.Steps.{IsBegun, IsStep, IsToldLonger, is_last, is_longer, is_named, made_expression}
 use Rattle.cord_plan.specs.inner.Steps.{measured, measured_from, operation_expression, some_source}
 use Rattle.cord_plan.specs.Operands.{assigns, assigns_at, read_by, target_of}
 use Rattle.cord_plan.specs.Planned.{Made, Joined, Literal, OfFile, OfEager, OfLazy, OfFunction, Balanced, OfExtensible, Printed, Operation}
 use Rattle.cord_plan.specs.Planned.{Build, gives, is_dead, is_first, operation, operations, or_nothing}
 use Rattle.cord_plan.proofs.Chosen.{AreChosen, Taken, are_chosen, both_true, last_or}
 use Rattle.cord_plan.proofs.Lacking.{preserves_lacking}
-use Rattle.cord_plan.proofs.Marked.{entry_chosen, gives_expression, measured_false}
+use Rattle.cord_plan.proofs.Marked.{gives_expression, measured_false}
 use Rattle.cord_plan.proofs.Named.{each_at}
 use Rattle.cord_plan.proofs.Nearest.{first_in}
 use Rattle.cord_plan.proofs.Pairs.{taken_at, taken_fits}
@@ -223,16 +222,6 @@ catc_longer b line target operand byte (c ∷ []) h =
     }
 catc_longer b line target operand byte (c ∷ d ∷ cs) h = let bad : ⊥ = cc in absurd bad
 
-one_longer : (b : ℕ) (l : Statement) (c : Choice) → (is_catc l && is_last b c) ≡ true → is_longer b l (c ∷ []) ≡ true
-one_longer b (Catc line target operand byte) c h = h
-one_longer b l c h = let bad : ⊥ = cc in absurd bad
-
-two_longer : (b : ℕ) (l : Statement) (x y : List ℕ) (c d : Choice) → simple_operands l ≡ Some (x ∷ y ∷ []) →
-    (is_last b c && is_named d) ≡ true → is_longer b l (c ∷ d ∷ []) ≡ true
-two_longer b (Cat line target left right) x y c d simple h = h
-two_longer b (Catn line target many) x y c d simple h = h
-two_longer b l x y c d simple h = let bad : ⊥ = cc in absurd bad
-
 -- ---- the operations of a script
 entry_there : (o : Option (Option Expr × List Choice)) (r : Expr) → first_of o ≡ Some r →
     (en : Option Expr × List Choice) × (o ≡ Some en) × (en.0 ≡ Some r)
@@ -393,20 +382,3 @@ module _ (s : List Statement) (later : List ℕ → ℕ → Bool) where
   module _ (b : ℕ) (l : Statement) (old : List Operation) where
     pub never_told : IsToldLonger s later b l old false
     never_told = λ t has is. let bad : ⊥ = cc in absurd bad
-
-    tells_choices : (xs : List (List ℕ)) (cs : List Choice) (told : Bool) → simple_operands l ≡ Some xs →
-        code.AreChoices s later b l (map operation_expression old) cs → (told ≡ true → is_longer b l cs ≡ true) →
-        IsToldLonger s later b l old told
-    tells_choices xs cs told simple chosen longer = λ t has is.
-        ap (λ (en : Option Expr × List Choice). is_longer b l en.1) (entry_chosen s later b l xs cs old simple chosen t has) ∙ longer is
-
-    pub tells_one : (x : List ℕ) (c : Choice) (told : Bool) → simple_operands l ≡ Some (x ∷ []) →
-        code.AreChoices s later b l (map operation_expression old) (c ∷ []) → told ≡ (is_catc l && is_last b c) →
-        IsToldLonger s later b l old told
-    tells_one x c told simple chosen same = tells_choices (x ∷ []) (c ∷ []) told simple chosen (λ is. one_longer b l c (sym same ∙ is))
-
-    pub tells_two : (x y : List ℕ) (c d : Choice) (told : Bool) → simple_operands l ≡ Some (x ∷ y ∷ []) →
-        code.AreChoices s later b l (map operation_expression old) (c ∷ d ∷ []) → told ≡ (is_last b c && is_named d) →
-        IsToldLonger s later b l old told
-    tells_two x y c d told simple chosen same = tells_choices (x ∷ y ∷ []) (c ∷ d ∷ []) told simple chosen
-        (λ is. two_longer b l x y c d simple (sym same ∙ is))

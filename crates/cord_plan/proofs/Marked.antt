@@ -13,11 +13,10 @@ use Rattle.cord_syntax.specs.declared.statements.Statement.TheVariants.{Let, Fil
 use Rattle.cord_syntax.specs.declared.statements.Statement.TheVariants.{Balance, EcToCord, Sprintf, Put}
 use Rattle.cord_plan.specs.Exprs.{Expr}
 use Rattle.cord_plan.specs.Operands.{read_by, target_of}
-use Rattle.cord_plan.specs.Forced.{Table, Choice, named, replaced, own, choices, operands_chosen, grown, exprs, expr_with, expr_of}
-use Rattle.cord_plan.specs.inner.Choices as code
-use Rattle.cord_plan.specs.inner.Choices.{Has, simple_operands}
+use Rattle.cord_plan.specs.Forced.{Table, Choice, named, replaced, own, choices, operands_chosen, grown, exprs}
+use Rattle.cord_plan.specs.inner.Choices.{simple_operands}
 use Rattle.cord_plan.specs.inner.Steps.{made_expression, operation_expression, measured, source_of, is_source, some_source, measured_from}
-use Rattle.cord_plan.specs.inner.Steps.{IsNext, IsStep, IsBegun}
+use Rattle.cord_plan.specs.inner.Steps.{IsStep, IsBegun}
 use Rattle.cord_plan.specs.Planned.{Made, Joined, Operation, Build, gives, or_nothing, operation, operations, is_dead}
 use Rattle.cord_plan.specs.Planned.{some_from, is_first, planned}
 use Rattle.cord_plan.specs.Views.{operation_view}
@@ -218,25 +217,6 @@ module _ (s : List Statement) (later : List ℕ → ℕ → Bool) (b : ℕ) (l :
     where
       entry_is : (t : Table) → operands_chosen s later t b l (own l) ≡ (None, [])
       entry_is t = chosen_simple s later t b l ∙ ap (λ (o : Option (List (List ℕ))). entry_of s later t b l o) none
-
-  -- the entry of a simple line
-  pub entry_chosen : (xs : List (List ℕ)) (cs : List Choice) (old : List Operation) → simple_operands l ≡ Some xs →
-      code.AreChoices s later b l (map operation_expression old) cs → (t : Table) → Has (map operation_expression old) t →
-      operands_chosen s later t b l (own l) ≡ (expr_with l (map (λ c. expr_of c) cs), cs)
-  entry_chosen xs cs old simple chosen t has =
-      chosen_simple s later t b l
-      ∙ (ap (λ (o : Option (List (List ℕ))). entry_of s later t b l o) simple
-      ∙ ap (λ (ds : List Choice). (expr_with l (map (λ c. expr_of c) ds), ds)) (sym (chosen t has)))
-
-  -- the expression of a simple line and the lines that it takes, by what was chosen for its operands
-  pub is_next : (xs : List (List ℕ)) (cs : List Choice) (old : List Operation) (sources : List (Option ℕ)) (e : Option Expr) →
-      simple_operands l ≡ Some xs → code.AreChoices s later b l (map operation_expression old) cs → sources ≡ map source_of cs →
-      e ≡ expr_with l (map (λ c. expr_of c) cs) → IsNext s later b l old sources e
-  is_next xs cs old sources e simple chosen taken made = record {
-    expression = λ t has. made ∙ sym (ap (λ (en : Option Expr × List Choice). en.0) (entry_chosen xs cs old simple chosen t has));
-    taken = λ t has.
-        taken ∙ sym (ap (λ (en : Option Expr × List Choice). map source_of en.1) (entry_chosen xs cs old simple chosen t has));
-  }
 
   -- the expression of the line's operation
   entry_expression : (t : Table) (dead v : Bool) →
