@@ -91,15 +91,21 @@ uint64_t zomtsje_walk(void *text) {
     return total;
 }
 
+static uint64_t place_of(zc_cord *text, uint64_t start, unsigned char byte) {
+    uint64_t place = 0;
+    must(zc_chr(text, start, byte, &place));
+    return place;
+}
+
 uint64_t zomtsje_lines(void *text) {
     uint64_t total = 0;
-    for (uint64_t end = zc_chr(text, 0, '\n'); end != ZC_NOT_FOUND; end = zc_chr(text, end + 1, '\n'))
+    for (uint64_t end = place_of(text, 0, '\n'); end != ZC_NOT_FOUND; end = place_of(text, end + 1, '\n'))
         total += end;
     return total;
 }
 
 uint64_t zomtsje_absent(void *text) {
-    return zc_chr(text, 0, ABSENT) == ZC_NOT_FOUND;
+    return place_of(text, 0, ABSENT) == ZC_NOT_FOUND;
 }
 
 uint64_t zomtsje_chunks(void *text) {
