@@ -1,15 +1,17 @@
 -- Laws of forests: one more piece, and one less.
 use Rattle.std.proofs.Common.{◌≡◌, ℕ, ◌+◌, ◌-◌, ◌<◌, ◌≤◌, List, [], ◌∷◌, ◌++◌, refl, arith, ◌∙◌, sym, ap, append_assoc, append-nil}
-use Rattle.std.specs.Prelude.{max, Some, slice_get, length, suc}
+use Rattle.std.specs.Prelude.{max, Some, slice_get, length, suc, Bool, true, false, if◌then◌else◌}
 use Rattle.cord_io.specs.declared.TheConstants.{MAX_LEN, MAX_DEPTH}
 use Rattle.cord_balance.specs.declared.TheConstants.{MAX_INDEX}
-use Rattle.cord_node.specs.Tree.{Cell, cells, len_of}
+use Rattle.cord_node.specs.Tree.{Cell, cells, len_of, depth_of, count_of, are_merged, joined_depth, joined_count}
 use Rattle.cord_node.specs.Kept.{Part, parts}
+use Rattle.cord_node.specs.declared.Node.{Node}
 use Rattle.cord_node.proofs.KeptLemmas.{Kept_same}
+use Rattle.cord_node.proofs.TreeLemmas.{count_within_len}
 use Rattle.cord_balance.specs.Fib.{fib_of}
 use Rattle.cord_balance.specs.declared.forest.Piece.{Piece}
 use Rattle.cord_balance.specs.inner.Forest.{IsPiece, AllBelow, AllFrom, IsForest, forest_cells, forest_parts, forest_len}
-use Rattle.cord_balance.proofs.FibLemmas.{fib_mono, fib_index}
+use Rattle.cord_balance.proofs.FibLemmas.{fib_mono, fib_index, fib_of_2}
 use Rattle.std.proofs.lemmas.Bool.{cases_lt}
 use Rattle.std.proofs.Common.{⊎_elim}
 
@@ -78,7 +80,8 @@ IsForest-push (q ∷ ps) p f i a = (f.0, AllBelow-snoc q.slot ps p f.1 (omega (a
 -- pieces of slots that no text reaches
 pub no_pieces : (ps : List Piece) → IsForest ps → AllFrom MAX_INDEX ps → forest_len ps ≤ MAX_LEN → ps ≡ []
 no_pieces [] f a h = refl
-no_pieces (p ∷ ps) f a h = let k : p.slot < MAX_INDEX = fib_index p.slot (omega (arith, f.0.slot.above)) in absurd (omega (arith, a.0))
+no_pieces (p ∷ ps) f a h = let few : count_of p.node.value ≤ len_of p.node.value = count_within_len p.node.value f.0.sound in
+    let k : p.slot < MAX_INDEX = fib_index p.slot (omega (arith, f.0.slot.above)) in absurd (omega (arith, a.0))
 
 -- where the last slot is at least k
 pub AllFrom-by_last : (k : ℕ) (ps : List Piece) (p : Piece) → Some p ≡ slice_get ps (length ps - 1) → IsForest ps → k ≤ p.slot →
@@ -110,5 +113,18 @@ join_shallow d dl dr n a b h = let k : fib_of (max dl dr + 1) ≤ n = fib_max dl
 -- less deep, and so shallow
 pub fib_less : (d n : ℕ) → fib_of (d + 1) ≤ n → fib_of d ≤ n
 fib_less d n h = let i : fib_of d ≤ fib_of (d + 1) = fib_mono d (d + 1) (omega arith) in omega arith
+
+-- a leaf that was made of two has depth 0, and else both have all parts
+joined_cases : (b : Bool) (d c deep many k : ℕ) → d ≡ (if b then 0 else deep) → c ≡ (if b then 1 else many) → k ≤ 1 →
+    fib_of (d + k) ≤ many → fib_of (d + k) ≤ c
+joined_cases true d c deep many k e f h g = let m : fib_of (d + k) ≤ fib_of 2 = fib_mono (d + k) 2 (omega arith) in omega (arith, fib_of_2)
+joined_cases false d c deep many k e f h g = omega arith
+
+-- what is shallow enough for the parts of two is shallow enough for their join
+pub joined_shallow : (left right node : Node) (k : ℕ) → k ≤ 1 → depth_of node ≡ joined_depth left right →
+    count_of node ≡ joined_count left right → fib_of (depth_of node + k) ≤ count_of left + count_of right →
+    fib_of (depth_of node + k) ≤ count_of node
+joined_shallow left right node k h d c g = joined_cases (are_merged left right) (depth_of node) (count_of node)
+    (max (depth_of left) (depth_of right) + 1) (count_of left + count_of right) k d c h g
 
 pub ruleset joins = (join_fits, join_shallow, fib_less, append-nil, Kept_same)

@@ -2,7 +2,7 @@
 use Rattle.std.proofs.Common.{◌≡◌, ℕ, ◌+◌, ◌<◌, ◌≤◌, List, [], ◌∷◌, ◌++◌, arith, ◌∙◌, sym, ap, subst, append_assoc, append-nil}
 use Rattle.std.specs.Prelude.{max, Option, Some, None}
 use Rattle.cord_io.specs.declared.TheConstants.{MAX_LEN}
-use Rattle.cord_node.specs.Tree.{Cell, cells, len_of, depth_of}
+use Rattle.cord_node.specs.Tree.{Cell, cells, len_of, depth_of, count_of}
 use Rattle.cord_node.specs.Kept.{Part, parts, Kept}
 use Rattle.cord_node.proofs.KeptLemmas.{Kept-self, Kept_same, Kept-both, Kept-trans}
 use Rattle.cord_balance.specs.Fib.{fib_of}
@@ -70,7 +70,7 @@ gathering_step old rest p joined node below g b u =
 
 -- what is joined on the left is long enough
 pub gathering_shallow : (old rest : List Piece) (p : Piece) (joined : Option Shared) (below : ℕ) →
-    IsGathering old (rest ++ p ∷ []) joined below → (x : Shared) → joined ≡ Some x → fib_of (depth_of x.value + 1) ≤ len_of p.node.value
+    IsGathering old (rest ++ p ∷ []) joined below → (x : Shared) → joined ≡ Some x → fib_of (depth_of x.value + 1) ≤ count_of p.node.value
 gathering_shallow old rest p joined below g x e =
     let i : IsPiece p = IsForest-last rest p g.forest in
     let P : Option Shared → Type 0 = λ o. GoesRightOf o (rest ++ p ∷ []) in

@@ -1,6 +1,6 @@
 -- What holds at each turn of the loops over a forest.
 use Rattle.std.specs.Prelude.{◌≡◌, ℕ, ◌+◌, ◌≤◌, List, ◌++◌, Option, Some, None, IfNone, IfSome, max, ⊤}
-use Rattle.cord_node.specs.Tree.{cells, len_of, depth_of, IsSound}
+use Rattle.cord_node.specs.Tree.{cells, len_of, depth_of, count_of, joined_depth, joined_count, IsSound}
 use Rattle.cord_node.specs.Kept.{parts, Kept}
 use Rattle.cord_balance.specs.Fib.{fib_of, IsSlotOf}
 use Rattle.cord_balance.specs.Pieces.{Shared, all_cells, all_parts, total_len, AllSound}
@@ -28,7 +28,7 @@ pub record IsPutLeft (left : Shared) (right : Option Shared) (node : Shared) : T
   pub text : cells node.value ≡ cells left.value ++ piece_cells right
   pub len : len_of node.value ≡ len_of left.value + piece_len right
   pub kept : Kept (parts left.value ++ piece_parts right) (parts node.value)
-  pub shallow : fib_of (depth_of node.value) ≤ len_of node.value
+  pub shallow : fib_of (depth_of node.value) ≤ count_of node.value
   pub alone : IfNone right (depth_of node.value ≡ depth_of left.value)
   pub depth : IfSome right (λ r. depth_of node.value ≤ max (depth_of left.value) (depth_of r.value) + 1)
 
@@ -36,8 +36,8 @@ pub record IsPutLeft (left : Shared) (right : Option Shared) (node : Shared) : T
 pub record IsMerging (old rest : List Piece) (node joined : Shared) (slot : ℕ) : Type 0 where
   pub forest : IsForest rest
   pub sound : IsSound joined.value
-  pub slot_is : IsSlotOf (len_of joined.value) slot
-  pub shallow : fib_of (depth_of joined.value + 1) ≤ len_of joined.value
+  pub slot_is : IsSlotOf (count_of joined.value) slot
+  pub shallow : fib_of (depth_of joined.value + 1) ≤ count_of joined.value
   pub behind : AllFrom (depth_of joined.value) rest
   pub text : forest_cells old ++ cells node.value ≡ forest_cells rest ++ cells joined.value
   pub len : forest_len old + len_of node.value ≡ forest_len rest + len_of joined.value
@@ -49,6 +49,8 @@ pub record IsJoinOf (left right node : Shared) : Type 0 where
   pub text : cells node.value ≡ cells left.value ++ cells right.value
   pub len : len_of node.value ≡ len_of left.value + len_of right.value
   pub depth : depth_of node.value ≤ max (depth_of left.value) (depth_of right.value) + 1
+  pub depth_is : depth_of node.value ≡ joined_depth left.value right.value
+  pub count : count_of node.value ≡ joined_count left.value right.value
   pub kept : Kept (parts left.value ++ parts right.value) (parts node.value)
 
 -- some of the nodes are in the forest, and these are left

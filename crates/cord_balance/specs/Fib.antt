@@ -10,7 +10,7 @@ fib_pair (suc n) = ((fib_pair n).1, (fib_pair n).0 + (fib_pair n).1)
 unfoldable pub fib_of : ℕ → ℕ
 fib_of n = (fib_pair n).0
 
--- the slot for texts of this length
+-- the slot for texts of so many bytes or parts
 pub record IsSlotOf (len n : ℕ) : Type 0 where
   pub at_least_two : 2 ≤ n
   pub above : fib_of n ≤ len

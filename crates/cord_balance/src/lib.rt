@@ -1,4 +1,4 @@
-//! Balanced ropes: parts are put into slots for lengths between Fibonacci numbers.
+//! Balanced ropes: parts are put into slots for numbers of parts between Fibonacci numbers.
 #![tactic(auto)]
 
 ghost use Rattle.std.specs.Prelude.{◌≡◌, ℕ, ◌+◌, ◌<◌, ◌≤◌, IfOk, length};
@@ -40,7 +40,7 @@ pub fn fib(n: u32) -> u64
     low
 }
 
-/// The slot for texts of this length, 1 to `MAX_LEN`: the index, at least 2, of the last Fibonacci
+/// The slot for a text of so many bytes or parts, 1 to `MAX_LEN`: the index, at least 2, of the last Fibonacci
 /// number that is at most `len`.
 #[tactic(auto, using(crate::proofs::FibLemmas::fibs))]
 pub fn slot_of(len: u64) -> u32
@@ -60,8 +60,8 @@ pub fn slot_of(len: u64) -> u32
     slot
 }
 
-/// The texts of these ropes in order, as one rope no deeper than its slot: at least one rope, with
-/// lengths that sum to at most `MAX_LEN`. Its leaves are theirs, but where `join` makes one of two.
+/// The texts of these ropes in order, as one rope no deeper than the slot of its number of parts: at least one rope,
+/// with lengths that sum to at most `MAX_LEN`. Its leaves are theirs, but where `join` makes one of two.
 /// Each greatest balanced part of a rope is taken as it is, without opening it. A shared subtree that isn't balanced is
 /// opened once in a call, however often it occurs. Refused where memory was refused.
 pub fn balance_parts(alloc: Global, ropes: &[Rc<Node>]) -> Result<Rc<Node>, AllocError>
@@ -74,6 +74,8 @@ pub fn balance_parts(alloc: Global, ropes: &[Rc<Node>]) -> Result<Rc<Node>, Allo
     ensures len { IfOk result (λ node. len_of node.value ≡ total_len ropes.now) }
 
     ensures slot { IfOk result (λ node. (n : ℕ) → IsSlotOf (len_of node.value) n → depth_of node.value ≤ n) }
+    ensures part_slot { IfOk result (λ node. (n : ℕ) → IsSlotOf (length (parts node.value)) n
+        → depth_of node.value ≤ n) }
     ensures shallow { IfOk result (λ node. depth_of node.value < MAX_INDEX) }
     ensures kept { IfOk result (λ node. Kept (all_parts ropes.now) (parts node.value)) }
 {

@@ -3,7 +3,7 @@ ghost use Rattle.std.specs.Prelude.{◌≡◌, ℕ, ◌+◌, ◌-◌, ◌≤◌,
 ghost use Rattle.cord_node.specs.Kept.{Kept};
 ghost use Rattle.cord_node.specs.Touched.{touched};
 ghost use Rattle.cord_core.specs.Cord.{text, text_len, parts_of, IsCord};
-ghost use Rattle.cord_core.specs.Depths.{IsInSlot};
+ghost use Rattle.cord_core.specs.Depths.{IsInSlot, IsInPartSlot};
 ghost use Rattle.cord_core.specs.Equations.{IsSubstring, IsSameText};
 
 use crate::Cord;
@@ -36,13 +36,15 @@ impl Cord {
         Ok(Cord { root: Some(part) })
     }
 
-    /// The same text in a tree no deeper than its slot, `slot_of` its length. Refused for want of memory alone.
+    /// The same text in a tree no deeper than `slot_of` its number of parts, and so of its length. Refused for want of
+    /// memory alone.
     pub fn balance(&self, alloc: Global) -> Result<Cord, CordError>
         ensures text { IfOk result (λ c. text c ≡ text self.now) }
         ensures over { IfOk result (IsSameText self.now) }
         ensures len { IfOk result (λ c. text_len c ≡ text_len self.now) }
         ensures sound { IfOk result IsCord }
         ensures slot { IfOk result IsInSlot }
+        ensures part_slot { IfOk result IsInPartSlot }
         ensures kept { IfOk result (λ c. Kept (parts_of self.now) (parts_of c)) }
         ensures refused { IsOkUnless result CordError.NoMemory }
     {

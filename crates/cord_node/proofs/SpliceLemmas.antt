@@ -232,7 +232,7 @@ pub sides_are : (node left right : Node) → IsSound node → AreSides node left
 sides_are (Leaf bytes start len mark) left right s h = absurd h
 sides_are (Run byte len) left right s h = absurd h
 sides_are (Func id start len) left right s h = absurd h
-sides_are (Cat' p a q b len depth mark) left right s h = rw (h.0, h.1) (record {
+sides_are (Cat' mark depth p a q b len count) left right s h = rw (h.0, h.1) (record {
   left_sound = s.0;
   right_sound = s.1;
   text = refl;

@@ -33,7 +33,7 @@ pub bytes-cells : (t : Table) (n : Node) → Fits t n → bytes_over t n ≡ map
 bytes-cells t (Leaf bytes start len mark) f = map-known t (take len (drop start (rc_slice_items bytes)))
 bytes-cells t (Run byte len) f = map-replicate t len byte
 bytes-cells t (Func id start len) f = map-held_by t id.0 start len f
-bytes-cells t (Cat' p left q right len depth mark) f =
+bytes-cells t (Cat' mark depth p left q right len count) f =
     sym (rw (map-append (byte_at t) (cells left) (cells right), ← bytes-cells t left f.0, ← bytes-cells t right f.1) refl)
 
 -- two lists of held cells
@@ -76,7 +76,7 @@ pub AreHeldIn-cells : (ls : Lengths) (n : Node) → FitsIn ls n → AreHeldIn ls
 AreHeldIn-cells ls (Leaf bytes start len mark) f = AreHeldIn-known ls (take len (drop start (rc_slice_items bytes)))
 AreHeldIn-cells ls (Run byte len) f = AreHeldIn-replicate ls len byte
 AreHeldIn-cells ls (Func id start len) f = AreHeldIn-held_by ls id.0 start len f
-AreHeldIn-cells ls (Cat' p left q right len depth mark) f = AreHeldIn-append ls (cells left) (cells right) (AreHeldIn-cells ls left f.0)
+AreHeldIn-cells ls (Cat' mark depth p left q right len count) f = AreHeldIn-append ls (cells left) (cells right) (AreHeldIn-cells ls left f.0)
     (AreHeldIn-cells ls right f.1)
 
 -- a range of at least one byte that is held lies inside its entry
@@ -89,7 +89,7 @@ pub FitsIn-cells : (ls : Lengths) (n : Node) → IsSound n → AreHeldIn ls (cel
 FitsIn-cells ls (Leaf bytes start len mark) s h = tt
 FitsIn-cells ls (Run byte len) s h = tt
 FitsIn-cells ls (Func id start len) s h = fits_from_held ls id.0 start len s.0 h
-FitsIn-cells ls (Cat' p left q right len depth mark) s h = (
+FitsIn-cells ls (Cat' mark depth p left q right len count) s h = (
   FitsIn-cells ls left s.0 (AreHeldIn-left ls (cells left) (cells right) h),
   FitsIn-cells ls right s.1 (AreHeldIn-right ls (cells left) (cells right) h),
 )
@@ -121,7 +121,7 @@ pub FitsIn-longer : (ls ms : Lengths) (n : Node) → ((id : ℕ) → length_at l
 FitsIn-longer ls ms (Leaf bytes start len mark) h f = tt
 FitsIn-longer ls ms (Run byte len) h f = tt
 FitsIn-longer ls ms (Func id start len) h f = omega (arith, h id.0)
-FitsIn-longer ls ms (Cat' p left q right len depth mark) h f = (FitsIn-longer ls ms left h f.0, FitsIn-longer ls ms right h f.1)
+FitsIn-longer ls ms (Cat' mark depth p left q right len count) h f = (FitsIn-longer ls ms left h f.0, FitsIn-longer ls ms right h f.1)
 
 -- where the lengths told are those of the table, what fits them fits the table
 pub Fits-told : (ls : Lengths) (t : Table) (n : Node) → HasLengths ls t → FitsIn ls n → Fits t n
@@ -133,5 +133,5 @@ pub bytes_over-same : (t u : Table) (n : Node) → ((id : ℕ) → 0 < length (t
 bytes_over-same t u (Leaf bytes start len mark) h s f = refl
 bytes_over-same t u (Run byte len) h s f = refl
 bytes_over-same t u (Func id start len) h s f = let k : 0 < length (t id.0) = omega arith in let e : u id.0 ≡ t id.0 = h id.0 k in rw e refl
-bytes_over-same t u (Cat' p left q right len depth mark) h s f =
+bytes_over-same t u (Cat' mark depth p left q right len count) h s f =
     rw (bytes_over-same t u left h s.0 f.0, bytes_over-same t u right h s.1 f.1) refl

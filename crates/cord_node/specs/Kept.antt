@@ -11,7 +11,7 @@ abbrev pub parts : Node → List Part
 parts (Leaf bytes start len mark) = leaf_part (rc_slice_items bytes) start len ∷ []
 parts (Run byte len) = run_part byte len ∷ []
 parts (Func id start len) = func_part id.0 start len ∷ []
-parts (Cat' p left q right len depth mark) = parts left ++ parts right
+parts (Cat' mark depth p left q right len count) = parts left ++ parts right
 
 -- a leaf of at most SMALL_LEN bytes
 abbrev pub IsSmall : Part → Type 0

@@ -19,46 +19,54 @@ abbrev pub cells : Node → List Cell
 cells (Leaf bytes start len mark) = map known (take len (drop start (rc_slice_items bytes)))
 cells (Run byte len) = replicate len (known byte)
 cells (Func id start len) = map (held_by id.0) (range_with_len start len)
-cells (Cat' p left q right len depth mark) = cells left ++ cells right
+cells (Cat' mark depth p left q right len count) = cells left ++ cells right
 
 -- the length of the text, counted part by part
 abbrev pub true_len : Node → ℕ
 true_len (Leaf bytes start len mark) = len
 true_len (Run byte len) = len
 true_len (Func id start len) = len
-true_len (Cat' p left q right len depth mark) = true_len left + true_len right
+true_len (Cat' mark depth p left q right len count) = true_len left + true_len right
 
 -- the depth: 0 for a part, else one more than the greater depth of the two sides
 abbrev pub true_depth : Node → ℕ
 true_depth (Leaf bytes start len mark) = 0
 true_depth (Run byte len) = 0
 true_depth (Func id start len) = 0
-true_depth (Cat' p left q right len depth mark) = max (true_depth left) (true_depth right) + 1
+true_depth (Cat' mark depth p left q right len count) = max (true_depth left) (true_depth right) + 1
 
 -- the length that a node stores
 abbrev pub len_of : Node → ℕ
 len_of (Leaf bytes start len mark) = len
 len_of (Run byte len) = len
 len_of (Func id start len) = len
-len_of (Cat' p left q right len depth mark) = len
+len_of (Cat' mark depth p left q right len count) = len
 
 -- the depth that a node stores, and 0 for a part
 abbrev pub depth_of : Node → ℕ
 depth_of (Leaf bytes start len mark) = 0
 depth_of (Run byte len) = 0
 depth_of (Func id start len) = 0
-depth_of (Cat' p left q right len depth mark) = depth
+depth_of (Cat' mark depth p left q right len count) = depth
+
+-- the number of parts that a node stores, and 1 for a part
+abbrev pub count_of : Node → ℕ
+count_of (Leaf bytes start len mark) = 1
+count_of (Run byte len) = 1
+count_of (Func id start len) = 1
+count_of (Cat' mark depth p left q right len count) = count
 
 -- the ranges of leaves lie inside their bytes, nothing is empty, the limits hold, and what a
--- concatenation stores fits what its two sides store, so that it is the true length and depth; each
--- mark stands for the parts of its node
+-- concatenation stores fits what its two sides store, so that it is the true length, depth and number
+-- of parts; each mark stands for the parts of its node
 abbrev pub IsSound : Node → Type 0
 IsSound (Leaf bytes start len mark) = (0 < len) × (start + len ≤ length (rc_slice_items bytes)) × (len ≤ MAX_LEN) ×
     (mark ≡ leaf_part (rc_slice_items bytes) start len ∷ [])
 IsSound (Run byte len) = (0 < len) × (len ≤ MAX_LEN)
 IsSound (Func id start len) = (0 < len) × (start + len ≤ MAX_LEN)
-IsSound (Cat' p left q right len depth mark) = IsSound left × IsSound right × (len ≡ len_of left + len_of right) ×
-    (depth ≡ max (depth_of left) (depth_of right) + 1) × (len ≤ MAX_LEN) × (depth ≤ MAX_DEPTH) × (mark ≡ parts left ++ parts right)
+IsSound (Cat' mark depth p left q right len count) = IsSound left × IsSound right × (len ≡ len_of left + len_of right) ×
+    (depth ≡ max (depth_of left) (depth_of right) + 1) × (len ≤ MAX_LEN) × (depth ≤ MAX_DEPTH) × (mark ≡ parts left ++ parts right) ×
+    (count ≡ count_of left + count_of right)
 
 -- it is a `Leaf`
 abbrev pub is_leaf : Node → Bool
@@ -70,7 +78,7 @@ abbrev pub HasSides : Node → Node → Node → Type 0
 HasSides left right (Leaf bytes start len mark) = ⊥
 HasSides left right (Run byte len) = ⊥
 HasSides left right (Func id start len) = ⊥
-HasSides left right (Cat' p first q second len depth mark) = (first ≡ left) × (second ≡ right)
+HasSides left right (Cat' mark depth p first q second len count) = (first ≡ left) × (second ≡ right)
 
 -- two leaves that are so short together that their join is one leaf
 abbrev pub are_merged : Node → Node → Bool
@@ -79,3 +87,7 @@ are_merged left right = is_leaf left && is_leaf right && nat_le (len_of left + l
 -- the depth that the join of two nodes has
 abbrev pub joined_depth : Node → Node → ℕ
 joined_depth left right = if are_merged left right then 0 else max (depth_of left) (depth_of right) + 1
+
+-- the number of parts that the join of two nodes has
+abbrev pub joined_count : Node → Node → ℕ
+joined_count left right = if are_merged left right then 1 else count_of left + count_of right

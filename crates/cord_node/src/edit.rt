@@ -1,6 +1,6 @@
 // Edits of a node in its place.
 ghost use Rattle.std.specs.Prelude.{◌≡◌, ◌≢◌, ℕ, ◌+◌, ◌-◌, ◌<◌, ◌≤◌, ◌++◌, max, true, IfOk, IsErr, take, drop};
-ghost use Rattle.cord_node.specs.Tree.{cells, len_of, depth_of, IsSound};
+ghost use Rattle.cord_node.specs.Tree.{cells, len_of, depth_of, count_of, IsSound};
 ghost use Rattle.cord_node.specs.Kept.{parts, AreFrom};
 ghost use Rattle.cord_node.specs.Touched.{AtMostOneMore};
 ghost use Rattle.cord_node.specs.Cords.{node_in, text, text_len, depth, parts_of, IsCord};
@@ -122,20 +122,22 @@ fn way_of(node: &Node, from: u64, until: u64, middle: &Option<Rc<Node>>) -> Way
     }
 }
 
-// What a concatenation of these two sides stores: its length, its depth and its mark.
-fn stored(left: &Rc<Node>, right: &Rc<Node>) -> (u64, u32, Mark)
+// What a concatenation of these two sides stores: its length, its depth, how many parts it has, and its mark.
+fn stored(left: &Rc<Node>, right: &Rc<Node>) -> (u64, u32, u64, Mark)
     requires left_sound { IsSound left.now.value }
     requires right_sound { IsSound right.now.value }
     requires within_limit { len_of left.now.value + len_of right.now.value ≤ MAX_LEN }
     requires shallow { max (depth_of left.now.value) (depth_of right.now.value) + 1 ≤ MAX_DEPTH }
     ensures len { result.0 ≡ len_of left.now.value + len_of right.now.value }
     ensures depth { result.1 ≡ max (depth_of left.now.value) (depth_of right.now.value) + 1 }
-    ensures mark { result.2 ≡ parts left.now.value ++ parts right.now.value }
+    ensures count { result.2 ≡ count_of left.now.value + count_of right.now.value }
+    ensures mark { result.3 ≡ parts left.now.value ++ parts right.now.value }
 {
     let len = left.len() + right.len();
     let depth = left.depth().max(right.depth()) + 1;
+    let part_count = left.part_count() + right.part_count();
     let mark = Mark::new(left, right);
-    (len, depth, mark)
+    (len, depth, part_count, mark)
 }
 
 // The two sides of a concatenation, which are shared.
@@ -239,14 +241,15 @@ fn splice_in_place(
 {
     match node {
         Node::Cat {
+            mark,
+            depth,
             left,
             right,
             len,
-            depth,
-            mark,
+            part_count,
         } => {
             splice_sides(alloc, left, right, way, from, until, middle)?;
-            (*len, *depth, *mark) = stored(left, right);
+            (*len, *depth, *part_count, *mark) = stored(left, right);
             Ok(())
         }
         _ => unreachable!(),

@@ -11,7 +11,8 @@ use std::rc::{Rc, RcSlice};
 pub const SMALL_LEN: usize = 64;
 
 /// A text of at least one byte: a part, or two texts joined. By the marks of its leaves and
-/// concatenations `same` tells one node from two that are equal.
+/// concatenations `same` tells one node from two that are equal. The fields of `Cat` stand in the order in which they
+/// take 40 bytes: the small ones first, beside the tag.
 #[derive(Drop)]
 pub enum Node {
     /// The `len` bytes from `start` on of shared bytes.
@@ -32,20 +33,22 @@ pub enum Node {
         start: u64,
         len: u64,
     },
-    /// The text of `left` and then that of `right`, with its length and its depth.
+    /// The text of `left` and then that of `right`, with its length, its depth and the number of its parts.
     Cat {
+        mark: Mark,
+        depth: u32,
         left: Rc<Node>,
         right: Rc<Node>,
         len: u64,
-        depth: u32,
-        mark: Mark,
+        part_count: u64,
     },
 }
 
 impl Node {
     ghost use Rattle.std.specs.Prelude.{MatchOption, IfSome, false, true, map};
     ghost use Rattle.cord_node.specs.Kept.{parts};
-    ghost use Rattle.cord_node.specs.Tree.{cells, known, len_of, depth_of, true_len, true_depth, is_leaf, IsSound};
+    ghost use Rattle.cord_node.specs.Tree.{cells, known, len_of, depth_of, count_of, true_len, true_depth};
+    ghost use Rattle.cord_node.specs.Tree.{is_leaf, IsSound};
 
     /// The length of the text, in bytes.
     pub fn len(&self) -> u64
@@ -72,6 +75,18 @@ impl Node {
             _ => 0,
         };
         depth
+    }
+
+    /// How many parts the text has, each counted at every place where it stands: 1 for a part.
+    pub fn part_count(&self) -> u64
+        ensures stored { result ≡ count_of self.now }
+        ensures truth { IsSound self.now → result ≡ length (parts self.now) }
+    {
+        let count = match self {
+            Node::Cat { part_count, .. } => *part_count,
+            _ => 1,
+        };
+        count
     }
 
     /// Whether the two are one `Leaf` or one `Cat`; of the other forms, whether they are equal. Then

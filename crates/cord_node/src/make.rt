@@ -1,8 +1,8 @@
 // Nodes made of parts and of other nodes.
 ghost use Rattle.std.specs.Prelude.{◌≡◌, ◌+◌, ◌<◌, ◌≤◌, [], ◌∷◌, ◌++◌, true, false, max, length, map, IfOk};
 ghost use Rattle.std.specs.Rc.{rc_slice_items};
-ghost use Rattle.cord_node.specs.Tree.{cells, known, len_of, depth_of, is_leaf, are_merged, joined_depth, IsSound};
-ghost use Rattle.cord_node.specs.Tree.{HasSides};
+ghost use Rattle.cord_node.specs.Tree.{cells, known, len_of, depth_of, count_of, is_leaf, are_merged, IsSound};
+ghost use Rattle.cord_node.specs.Tree.{joined_depth, joined_count, HasSides};
 ghost use Rattle.cord_node.specs.Tables.{IsJoinOver};
 ghost use Rattle.cord_node.specs.Kept.{parts, leaf_part, Kept};
 
@@ -91,20 +91,23 @@ fn cat(alloc: Global, left: &Rc<Node>, right: &Rc<Node>) -> Result<Rc<Node>, All
     ensures len { IfOk result (λ node. len_of node.value ≡ len_of left.now.value + len_of right.now.value) }
     ensures depth { IfOk result (λ node. depth_of node.value ≡ max (depth_of left.now.value) (depth_of right.now.value)
         + 1) }
+    ensures count { IfOk result (λ node. count_of node.value ≡ count_of left.now.value + count_of right.now.value) }
 {
     let len = left.len() + right.len();
     let depth = left.depth().max(right.depth()) + 1;
+    let part_count = left.part_count() + right.part_count();
     let mark = Mark::new(left, right);
     let left = left.clone()?;
     let right = right.clone()?;
     let node = Rc::new(
         alloc,
         Node::Cat {
+            mark,
+            depth,
             left,
             right,
             len,
-            depth,
-            mark,
+            part_count,
         },
     )?;
     Ok(node)
@@ -148,6 +151,7 @@ pub fn join(alloc: Global, left: &Rc<Node>, right: &Rc<Node>) -> Result<Rc<Node>
     ensures depth { IfOk result (λ node. depth_of node.value ≡ joined_depth left.now.value right.now.value) }
     ensures depth_bound { IfOk result (λ node. depth_of node.value
         ≤ max (depth_of left.now.value) (depth_of right.now.value) + 1) }
+    ensures count { IfOk result (λ node. count_of node.value ≡ joined_count left.now.value right.now.value) }
     ensures kept { IfOk result (λ node. Kept (parts left.now.value ++ parts right.now.value) (parts node.value)) }
 {
     match (left.leaf_bytes(), right.leaf_bytes()) {

@@ -6,9 +6,11 @@ use Rattle.std.proofs.lemmas.List.{drop_more, drop_all}
 use Rattle.cord_balance.specs.declared.TheConstants.{MAX_INDEX}
 use Rattle.cord_balance.proofs.States.{IsFilling}
 use Rattle.cord_balance.proofs.Filling.{filling_start, filling_step, filling_none, filling_text, filling_kept, filling_len}
-use Rattle.std.proofs.Common.{ℕ, ◌<◌}
-use Rattle.std.specs.Prelude.{Some}
-use Rattle.cord_node.specs.Tree.{len_of, depth_of}
+use Rattle.std.proofs.Common.{ℕ, ◌<◌, ◌≤◌}
+use Rattle.std.specs.Prelude.{Some, length}
+use Rattle.cord_node.specs.Tree.{len_of, depth_of, count_of}
+use Rattle.cord_node.specs.Kept.{parts}
+use Rattle.cord_node.proofs.TreeLemmas.{count_within_len, count_of-parts}
 use Rattle.cord_balance.specs.Fib.{IsSlotOf}
 use Rattle.cord_balance.specs.inner.Forest.{IsGathered, IsKnown}
 use Rattle.cord_balance.proofs.FibLemmas.{fib_below}
@@ -67,6 +69,14 @@ returns-clause-len c =
 pub returns-clause-slot : goal.returns-clause-slot
 returns-clause-slot c = λ (n : ℕ) (i : IsSlotOf (len_of c.in-Some.node.value) n).
     let g : IsGathered MAX_INDEX (Some c.in-Some.node) = rw c.in-Some.is at c.in_ok-node.ensures.gathered in
+    let few : count_of c.in-Some.node.value ≤ len_of c.in-Some.node.value = count_within_len c.in-Some.node.value g.0 in
+    let h : depth_of c.in-Some.node.value < n + 1 = fib_below (depth_of c.in-Some.node.value) (n + 1) (omega (arith, g.1, i.below)) in
+    omega arith
+
+pub returns-clause-part_slot : goal.returns-clause-part_slot
+returns-clause-part_slot c = λ (n : ℕ) (i : IsSlotOf (length (parts c.in-Some.node.value)) n).
+    let g : IsGathered MAX_INDEX (Some c.in-Some.node) = rw c.in-Some.is at c.in_ok-node.ensures.gathered in
+    let all : count_of c.in-Some.node.value ≡ length (parts c.in-Some.node.value) = count_of-parts c.in-Some.node.value g.0 in
     let h : depth_of c.in-Some.node.value < n + 1 = fib_below (depth_of c.in-Some.node.value) (n + 1) (omega (arith, g.1, i.below)) in
     omega arith
 

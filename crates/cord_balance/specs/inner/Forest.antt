@@ -1,6 +1,6 @@
--- Pieces in slots, from the longest to the shortest.
+-- Pieces in slots, from that with the most parts to that with the fewest.
 use Rattle.std.specs.Prelude.{◌≡◌, ℕ, ◌+◌, ◌<◌, ◌≤◌, List, [], ◌∷◌, ◌++◌, Option, Some, None, ⊤}
-use Rattle.cord_node.specs.Tree.{Cell, cells, len_of, depth_of, IsSound}
+use Rattle.cord_node.specs.Tree.{Cell, cells, len_of, depth_of, count_of, IsSound}
 use Rattle.cord_node.specs.Kept.{Part, parts, Kept}
 use Rattle.cord_node.specs.declared.Node.{Node}
 use Rattle.cord_balance.specs.Fib.{fib_of, IsSlotOf}
@@ -11,8 +11,8 @@ use Rattle.cord_balance.specs.declared.forest.known.Known.{Known}
 -- a piece in its slot, less deep than the slot's number
 pub record IsPiece (p : Piece) : Type 0 where
   pub sound : IsSound p.node.value
-  pub slot : IsSlotOf (len_of p.node.value) p.slot
-  pub shallow : fib_of (depth_of p.node.value + 1) ≤ len_of p.node.value
+  pub slot : IsSlotOf (count_of p.node.value) p.slot
+  pub shallow : fib_of (depth_of p.node.value + 1) ≤ count_of p.node.value
 
 -- each slot is below k
 abbrev pub AllBelow : ℕ → List Piece → Type 0
@@ -62,7 +62,7 @@ piece_len (Some n) = len_of n.value
 -- small pieces joined: sound, and less deep than the slot that comes
 abbrev pub IsGathered : ℕ → Option Shared → Type 0
 IsGathered below None = ⊤
-IsGathered below (Some n) = IsSound n.value × (fib_of (depth_of n.value) ≤ len_of n.value) × (depth_of n.value < below)
+IsGathered below (Some n) = IsSound n.value × (fib_of (depth_of n.value) ≤ count_of n.value) × (depth_of n.value < below)
 
 -- it has the text and the parts of the node, and is as long
 pub record IsForm (node form : Node) : Type 0 where

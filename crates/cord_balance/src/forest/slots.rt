@@ -1,7 +1,7 @@
 // Pieces are taken off the end of a forest and joined.
 ghost use Rattle.std.specs.Prelude.{◌≡◌, ◌+◌, ◌<◌, ◌≤◌, [], ◌∷◌, ◌++◌, IfOk, OnOk, IfSome, IfNone, length, max};
 ghost use Rattle.std.specs.Option.{ForSome};
-ghost use Rattle.cord_node.specs.Tree.{cells, len_of, depth_of, IsSound};
+ghost use Rattle.cord_node.specs.Tree.{cells, len_of, depth_of, count_of, IsSound};
 ghost use Rattle.cord_node.specs.Kept.{parts, Kept};
 ghost use Rattle.cord_balance.specs.Fib.{fib_of, IsSlotOf};
 ghost use Rattle.cord_balance.specs.inner.Forest.{IsPiece, AllFrom, IsForest, forest_cells, forest_parts, forest_len};
@@ -37,15 +37,15 @@ fn pop_below(forest: &mut Vec<Piece>, below: u32) -> Option<Piece>
 #[tactic(auto, using(crate::proofs::ForestLemmas::joins))]
 fn put_left(alloc: Global, left: Rc<Node>, right: Option<Rc<Node>>) -> Result<Rc<Node>, AllocError>
     requires left_sound { IsSound left.value }
-    requires shallow { fib_of (depth_of left.value + 1) ≤ len_of left.value }
+    requires shallow { fib_of (depth_of left.value + 1) ≤ count_of left.value }
     requires right_sound { ForSome right (λ r. IsSound r.value) }
-    requires right_shallow { ForSome right (λ r. fib_of (depth_of r.value + 1) ≤ len_of left.value) }
+    requires right_shallow { ForSome right (λ r. fib_of (depth_of r.value + 1) ≤ count_of left.value) }
     requires within_limit { len_of left.value + piece_len right ≤ MAX_LEN }
     ensures sound { IfOk result (λ node. IsSound node.value) }
     ensures text { IfOk result (λ node. cells node.value ≡ cells left.value ++ piece_cells right) }
     ensures len { IfOk result (λ node. len_of node.value ≡ len_of left.value + piece_len right) }
     ensures kept { IfOk result (λ node. Kept (parts left.value ++ piece_parts right) (parts node.value)) }
-    ensures shallow { IfOk result (λ node. fib_of (depth_of node.value) ≤ len_of node.value) }
+    ensures shallow { IfOk result (λ node. fib_of (depth_of node.value) ≤ count_of node.value) }
     ensures alone { IfNone right (IfOk result (λ node. depth_of node.value ≡ depth_of left.value)) }
     ensures depth { IfSome right
         (λ r. IfOk result (λ node. depth_of node.value ≤ max (depth_of left.value) (depth_of r.value) + 1)) }
@@ -100,7 +100,7 @@ pub fn gather_all(alloc: Global, forest: &mut Vec<Piece>) -> Result<Rc<Node>, Al
 pub fn merge(alloc: Global, forest: &mut Vec<Piece>, node: Rc<Node>) -> Result<(), AllocError>
     requires forest { IsForest forest.old.items }
     requires sound { IsSound node.value }
-    requires shallow { fib_of (depth_of node.value + 1) ≤ len_of node.value }
+    requires shallow { fib_of (depth_of node.value + 1) ≤ count_of node.value }
     requires behind { AllFrom (depth_of node.value) forest.old.items }
     requires within_limit { forest_len forest.old.items + len_of node.value ≤ MAX_LEN }
     ensures rest { OnOk result (IsForest forest.new.items) }
@@ -110,10 +110,10 @@ pub fn merge(alloc: Global, forest: &mut Vec<Piece>, node: Rc<Node>) -> Result<(
         (forest_parts forest.new.items)) }
 {
     let mut joined = node;
-    let mut slot = slot_of(joined.len());
+    let mut slot = slot_of(joined.part_count());
     while let Some(piece) = pop_below(forest, slot + 1) {
         joined = join(alloc, &piece.node, &joined)?;
-        slot = slot_of(joined.len());
+        slot = slot_of(joined.part_count());
     }
     forest.push(Piece { node: joined, slot })?;
     Ok(())
@@ -122,16 +122,16 @@ pub fn merge(alloc: Global, forest: &mut Vec<Piece>, node: Rc<Node>) -> Result<(
 // A node with what stands to its left.
 fn put_right(alloc: Global, left: Option<Rc<Node>>, right: Rc<Node>) -> Result<Rc<Node>, AllocError>
     requires left_sound { ForSome left (λ l. IsSound l.value) }
-    requires left_shallow { ForSome left (λ l. fib_of (depth_of l.value) ≤ len_of l.value) }
-    requires left_fits { ForSome left (λ l. fib_of (depth_of l.value + 1) ≤ len_of right.value) }
+    requires left_shallow { ForSome left (λ l. fib_of (depth_of l.value) ≤ count_of l.value) }
+    requires left_fits { ForSome left (λ l. fib_of (depth_of l.value + 1) ≤ count_of right.value) }
     requires sound { IsSound right.value }
-    requires balanced { fib_of (depth_of right.value + 2) ≤ len_of right.value }
+    requires balanced { fib_of (depth_of right.value + 2) ≤ count_of right.value }
     requires within_limit { piece_len left + len_of right.value ≤ MAX_LEN }
     ensures sound { IfOk result (λ node. IsSound node.value) }
     ensures text { IfOk result (λ node. cells node.value ≡ piece_cells left ++ cells right.value) }
     ensures len { IfOk result (λ node. len_of node.value ≡ piece_len left + len_of right.value) }
     ensures kept { IfOk result (λ node. Kept (piece_parts left ++ parts right.value) (parts node.value)) }
-    ensures shallow { IfOk result (λ node. fib_of (depth_of node.value + 1) ≤ len_of node.value) }
+    ensures shallow { IfOk result (λ node. fib_of (depth_of node.value + 1) ≤ count_of node.value) }
     ensures alone { IfNone left (IfOk result (λ node. depth_of node.value ≡ depth_of right.value)) }
     ensures depth { IfSome left
         (λ l. IfOk result (λ node. depth_of node.value ≤ max (depth_of l.value) (depth_of right.value) + 1)) }
@@ -147,7 +147,7 @@ fn put_right(alloc: Global, left: Option<Rc<Node>>, right: Rc<Node>) -> Result<R
 pub fn insert(alloc: Global, forest: &mut Vec<Piece>, node: Rc<Node>) -> Result<(), AllocError>
     requires forest { IsForest forest.old.items }
     requires sound { IsSound node.value }
-    requires balanced { fib_of (depth_of node.value + 2) ≤ len_of node.value }
+    requires balanced { fib_of (depth_of node.value + 2) ≤ count_of node.value }
     requires within_limit { forest_len forest.old.items + len_of node.value ≤ MAX_LEN }
     ensures rest { OnOk result (IsForest forest.new.items) }
     ensures text { OnOk result (forest_cells forest.new.items ≡ forest_cells forest.old.items ++ cells node.value) }
@@ -155,7 +155,7 @@ pub fn insert(alloc: Global, forest: &mut Vec<Piece>, node: Rc<Node>) -> Result<
     ensures kept { OnOk result (Kept (forest_parts forest.old.items ++ parts node.value)
         (forest_parts forest.new.items)) }
 {
-    let slot = slot_of(node.len());
+    let slot = slot_of(node.part_count());
     let small = gather(alloc, forest, slot)?;
     let joined = put_right(alloc, small, node)?;
     merge(alloc, forest, joined)

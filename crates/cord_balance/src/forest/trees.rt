@@ -1,6 +1,6 @@
 // Trees are put into a forest, each greatest balanced part as one piece.
 ghost use Rattle.std.specs.Prelude.{◌≡◌, ◌+◌, ◌<◌, ◌≤◌, ◌↔◌, ◌++◌, OnOk, IsTrue};
-ghost use Rattle.cord_node.specs.Tree.{cells, len_of, depth_of, IsSound};
+ghost use Rattle.cord_node.specs.Tree.{cells, len_of, depth_of, count_of, IsSound};
 ghost use Rattle.cord_node.specs.Kept.{parts, Kept};
 ghost use Rattle.cord_balance.specs.Fib.{fib_of};
 ghost use Rattle.cord_balance.specs.Pieces.{all_cells, all_parts, total_len, AllSound};
@@ -20,10 +20,10 @@ use std::rc::Rc;
 #[tactic(auto, using(crate::proofs::FibLemmas::fibs))]
 fn is_balanced(node: &Node) -> bool
     requires { IsSound node.now }
-    ensures { IsTrue result ↔ (fib_of (depth_of node.now + 2) ≤ len_of node.now) }
+    ensures { IsTrue result ↔ (fib_of (depth_of node.now + 2) ≤ count_of node.now) }
 {
     let index = node.depth() + 2;
-    index <= MAX_INDEX && fib(index) <= node.len()
+    index <= MAX_INDEX && fib(index) <= node.part_count()
 }
 
 /// Puts a tree after the pieces, each greatest balanced part of it as one piece.

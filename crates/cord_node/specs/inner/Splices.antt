@@ -11,7 +11,7 @@ use Rattle.cord_node.specs.Cords.{text, text_len, depth, parts_of, IsCord}
 
 -- it is a `Cat`
 abbrev pub is_cat : Node → Bool
-is_cat (Cat' p left q right len depth mark) = true
+is_cat (Cat' mark depth p left q right len count) = true
 is_cat _ = false
 
 -- these are the sides of the node
@@ -19,14 +19,14 @@ abbrev pub AreSides : Node → Node → Node → Type 0
 AreSides (Leaf bytes start len mark) a b = ⊥
 AreSides (Run byte len) a b = ⊥
 AreSides (Func id start len) a b = ⊥
-AreSides (Cat' p left q right len depth mark) a b = (a ≡ left) × (b ≡ right)
+AreSides (Cat' mark depth p left q right len count) a b = (a ≡ left) × (b ≡ right)
 
 -- it is a `Cat`, and this holds of its sides
 abbrev pub SidesAre : (Node → Node → Type 0) → Node → Type 0
 SidesAre holds (Leaf bytes start len mark) = ⊥
 SidesAre holds (Run byte len) = ⊥
 SidesAre holds (Func id start len) = ⊥
-SidesAre holds (Cat' p left q right len depth mark) = holds left right
+SidesAre holds (Cat' mark depth p left q right len count) = holds left right
 
 -- the range lies inside the node, which stays and is no less deep than what comes in the range's place
 pub record Takes (from until : ℕ) (middle : Option Node) (side : Node) : Type 0 where

@@ -1,8 +1,8 @@
 use Rattle.std.proofs.Common.{◌<◌, ◌≤◌, arith, sym}
 use Rattle.cord_io.specs.declared.TheConstants.{MAX_LEN}
 use Rattle.cord_balance.specs.declared.TheConstants.{MAX_INDEX}
-use Rattle.cord_node.specs.Tree.{len_of}
-use Rattle.cord_node.proofs.TreeLemmas.{len_limit, len_positive}
+use Rattle.cord_node.specs.Tree.{count_of}
+use Rattle.cord_node.proofs.TreeLemmas.{count_limit, count_positive}
 use Rattle.cord_balance.specs.Fib.{IsSlotOf}
 use Rattle.cord_balance.proofs.States.{IsMerging, IsJoinOf}
 use Rattle.cord_balance.proofs.FibLemmas.{fib_index}
@@ -11,18 +11,21 @@ use Rattle.cord_balance.proofs.Merging.{merging_start, merging_step, merging_end
 use Rattle.cord_balance.proofs.forest.slots.merge.Goals as goal
 
 pub slot_of-slot-requires-clause-not_empty : goal.slot_of-slot-requires-clause-not_empty
-slot_of-slot-requires-clause-not_empty c = rw (c.len.ensures.stored, c.deref.ensures) (len_positive c.args.node.value c.requires.sound)
+slot_of-slot-requires-clause-not_empty c = rw (c.part_count.ensures.stored, c.deref.ensures) (count_positive c.args.node.value c.requires.sound)
+
+pub slot_of-slot-requires-clause-within_limit : goal.slot_of-slot-requires-clause-within_limit
+slot_of-slot-requires-clause-within_limit c = rw (c.part_count.ensures.stored, c.deref.ensures) (count_limit c.args.node.value c.requires.sound)
 
 pub loop-piece-init : goal.loop-piece-init
 loop-piece-init c =
-    let i : IsSlotOf (len_of c.args.node.value) c.slot_of-slot.result =
-    rw (← c.deref.ensures, ← c.len.ensures.stored) c.slot_of-slot.ensures in
+    let i : IsSlotOf (count_of c.args.node.value) c.slot_of-slot.result =
+    rw (← c.deref.ensures, ← c.part_count.ensures.stored) c.slot_of-slot.ensures in
     merging_start c.args.forest.now.items c.args.node c.slot_of-slot.result c.requires.forest c.requires.sound i c.requires.shallow
     c.requires.behind
 
 pub overflow_add-slot : goal.overflow_add-slot
 overflow_add-slot c =
-    let l : len_of c.loop-piece.joined.value ≤ MAX_LEN = len_limit c.loop-piece.joined.value c.loop-piece.invariant.sound in
+    let l : count_of c.loop-piece.joined.value ≤ MAX_LEN = count_limit c.loop-piece.joined.value c.loop-piece.invariant.sound in
     let k : c.loop-piece.slot < MAX_INDEX = fib_index c.loop-piece.slot (omega (arith, c.loop-piece.invariant.slot_is.above)) in
     omega arith
 
@@ -37,19 +40,26 @@ join-requires-clause-shallow c = merging_depth c.args.forest.now.items c.pop_bel
 
 pub slot_of-slot-requires-in-Some-clause-not_empty :
     goal.slot_of-slot-requires-in-Some-clause-not_empty
-slot_of-slot-requires-in-Some-clause-not_empty c = rw (c.len-in-Some.ensures.stored, c.deref-in-Some.ensures)
-    (len_positive c.in_ok-joined.joined.value c.in_ok-joined.ensures.sound)
+slot_of-slot-requires-in-Some-clause-not_empty c = rw (c.part_count-in-Some.ensures.stored, c.deref-in-Some.ensures)
+    (count_positive c.in_ok-joined.joined.value c.in_ok-joined.ensures.sound)
+
+pub slot_of-slot-requires-in-Some-clause-within_limit :
+    goal.slot_of-slot-requires-in-Some-clause-within_limit
+slot_of-slot-requires-in-Some-clause-within_limit c = rw (c.part_count-in-Some.ensures.stored, c.deref-in-Some.ensures)
+    (count_limit c.in_ok-joined.joined.value c.in_ok-joined.ensures.sound)
 
 pub loop-piece-preserved : goal.loop-piece-preserved
 loop-piece-preserved c =
-    let i : IsSlotOf (len_of c.in_ok-joined.joined.value) c.slot_of-slot-in-Some.result =
-    rw (← c.deref-in-Some.ensures, ← c.len-in-Some.ensures.stored) c.slot_of-slot-in-Some.ensures in
+    let i : IsSlotOf (count_of c.in_ok-joined.joined.value) c.slot_of-slot-in-Some.result =
+    rw (← c.deref-in-Some.ensures, ← c.part_count-in-Some.ensures.stored) c.slot_of-slot-in-Some.ensures in
     let u : IsJoinOf c.in-Some.piece.node c.loop-piece.joined c.in_ok-joined.joined =
     record {
       sound = c.in_ok-joined.ensures.sound;
       text = c.in_ok-joined.ensures.text;
       len = c.in_ok-joined.ensures.len;
       depth = c.in_ok-joined.ensures.depth_bound;
+      depth_is = c.in_ok-joined.ensures.depth;
+      count = c.in_ok-joined.ensures.count;
       kept = c.in_ok-joined.ensures.kept;
     } in
     merging_step c.args.forest.now.items c.pop_below.new.forest.items c.in-Some.piece c.args.node c.loop-piece.joined c.in_ok-joined.joined

@@ -36,7 +36,7 @@ returns-in-Some-clause-kept t c =
 pub gather_all-requires-clause-some : goal.gather_all-requires-clause-some
 gather_all-requires-clause-some t c =
     let some : 0 < len_of c.in-Cat.right.value =
-    right_some c.args.node.now.value _ c.in-Cat.left.value _ c.in-Cat.right.value _ _ _ (sym c.as_ref.ensures ∙ c.in-Cat.is)
+    right_some c.args.node.now.value _ c.in-Cat.left.value _ c.in-Cat.right.value _ _ _ _ (sym c.as_ref.ensures ∙ c.in-Cat.is)
     c.requires.sound in
     omega (arith, some, c.in_ok-insert_once-3.ensures.len)
 
@@ -59,7 +59,7 @@ form_is t c =
       kept = c.in_ok-insert_once-3.ensures.kept;
     } in
     let both : IsPut own all n =
-    cat_put own mid all n _ c.in-Cat.left.value _ c.in-Cat.right.value _ _ _ (sym c.as_ref.ensures ∙ c.in-Cat.is)
+    cat_put own mid all n _ c.in-Cat.left.value _ c.in-Cat.right.value _ _ _ _ (sym c.as_ref.ensures ∙ c.in-Cat.is)
     c.requires.sound one two in
     form_of_put own all n form c.new-own.ensures.items both c.in_ok-form.ensures.sound c.in_ok-form.ensures.text
     c.in_ok-form.ensures.len c.in_ok-form.ensures.kept
