@@ -27,16 +27,16 @@ pub part_of : (lengths : Lengths) (n : Node) (s i : ℕ) → IsSound n → IsPar
 part_of lengths (Leaf bytes from len mark) s i h = record { part = refl; sound = h; fits = λ f. f }
 part_of lengths (Run byte len) s i h = record { part = refl; sound = h; fits = λ f. f }
 part_of lengths (Func id from len) s i h = record { part = refl; sound = h; fits = λ f. f }
-part_of lengths (Cat' p left q right len depth mark) s i h =
+part_of lengths (Cat' mark depth p left q right len count) s i h =
     ⊎_elim
     (λ (k : i < len_of left).
     let m : IsPartOf lengths left (part_at left s i).0 = part_of lengths left s i h.0 in
-    let e = part_at-left p q left right len depth mark s i k in
+    let e = part_at-left p q left right len depth count mark s i k in
     record { part = rw e m.part; sound = rw e m.sound; fits = rw e (λ f. m.fits f.0) })
     (λ (k : len_of left ≤ i).
     let m : IsPartOf lengths right (part_at right (s + len_of left) (i - len_of left)).0 =
     part_of lengths right (s + len_of left) (i - len_of left) h.1 in
-    let e = part_at-right p q left right len depth mark s i k in
+    let e = part_at-right p q left right len depth count mark s i k in
     record { part = rw e m.part; sound = rw e m.sound; fits = rw e (λ f. m.fits f.1) })
     (cases_lt i (len_of left))
 
@@ -63,15 +63,15 @@ pub part_byte : (t : Table) (n : Node) (s i at b : ℕ) → at ≡ s + i → IsS
 part_byte t (Leaf bytes from len mark) s i at b z h k f e = let a : at - s ≡ i = omega arith in rw a at e
 part_byte t (Run byte len) s i at b z h k f e = let a : at - s ≡ i = omega arith in rw a at e
 part_byte t (Func id from len) s i at b z h k f e = let a : at - s ≡ i = omega arith in rw a at e
-part_byte t (Cat' p left q right len depth mark) s i at b z h k f e =
+part_byte t (Cat' mark depth p left q right len count) s i at b z h k f e =
     let len-left : length (bytes_over t left) ≡ len_of left = length_bytes t left h.0 f.0 in
     ⊎_elim
     (λ (c : i < len_of left).
-    let e' : HasByte t (part_at left s i).0 (at - (part_at left s i).1) b = rw (part_at-left p q left right len depth mark s i c) at e in
+    let e' : HasByte t (part_at left s i).0 (at - (part_at left s i).1) b = rw (part_at-left p q left right len depth count mark s i c) at e in
     slice_left (bytes_over t left) (bytes_over t right) i (omega arith) ∙ part_byte t left s i at b z h.0 c f.0 e')
     (λ (c : len_of left ≤ i).
     let e' : HasByte t (part_at right (s + len_of left) (i - len_of left)).0 (at - (part_at right (s + len_of left) (i - len_of left)).1)
-    b = rw (part_at-right p q left right len depth mark s i c) at e in
+    b = rw (part_at-right p q left right len depth count mark s i c) at e in
     slice_right (bytes_over t left) (bytes_over t right) i (omega arith)
     ∙ (rw len-left (part_byte t right (s + len_of left) (i - len_of left) at b (omega arith) h.1 (omega (arith, h.2)) f.1 e')))
     (cases_lt i (len_of left))

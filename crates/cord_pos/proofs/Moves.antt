@@ -43,15 +43,15 @@ under_root root s i [] rest n t h e = let f : SamePlace root s n t = same_place 
 under_root (Leaf bytes from len mark) s i (x ∷ front) rest n t h e = absurd (not_empty front rest (Some n, t) (cc))
 under_root (Run byte len) s i (x ∷ front) rest n t h e = absurd (not_empty front rest (Some n, t) (cc))
 under_root (Func id from len) s i (x ∷ front) rest n t h e = absurd (not_empty front rest (Some n, t) (cc))
-under_root (Cat' p left q right len depth mark) s i (x ∷ front) rest n t h e =
+under_root (Cat' mark depth p left q right len count) s i (x ∷ front) rest n t h e =
     ⊎_elim
     (λ (k : i < len_of left).
-    let b : below (Cat' p left q right len depth mark) s i ≡ way left s i = below-left p q left right len depth mark s i k in
+    let b : below (Cat' mark depth p left q right len count) s i ≡ way left s i = below-left p q left right len depth count mark s i k in
     let u : IsUnder left s (length front) n t = under_root left s i front rest n t h.0 (cc) in
     record { sound = u.sound; from = u.from; to = omega (arith, h.2); depth = omega (arith, h.3) })
     (λ (k : len_of left ≤ i).
-    let b : below (Cat' p left q right len depth mark) s i ≡ way right (s + len_of left) (i - len_of left) =
-    below-right p q left right len depth mark s i k in
+    let b : below (Cat' mark depth p left q right len count) s i ≡ way right (s + len_of left) (i - len_of left) =
+    below-right p q left right len depth count mark s i k in
     let u : IsUnder right (s + len_of left) (length front) n t =
     under_root right (s + len_of left) (i - len_of left) front rest n t h.1 (cc) in
     record { sound = u.sound; from = omega arith; to = omega (arith, h.2); depth = omega (arith, h.3) })
@@ -76,16 +76,16 @@ parted : (root : Node) (s i j at : ℕ) → at ≡ s + j → j < len_of root →
 parted (Leaf bytes from len mark) s i j at z b h out = refl
 parted (Run byte len) s i j at z b h out = refl
 parted (Func id from len) s i j at z b h out = refl
-parted (Cat' p left q right len depth mark) s i j at z b h out =
+parted (Cat' mark depth p left q right len count) s i j at z b h out =
     ⊎_elim
     (λ (k : i < len_of left).
-    let out' : NoneHolds at (way left s i) = rw (below-left p q left right len depth mark s i k) at out in
+    let out' : NoneHolds at (way left s i) = rw (below-left p q left right len depth count mark s i k) at out in
     let o : s + len_of left ≤ at = lies_outside left s at out'.0 (omega arith) in
-    shared-parted p q left right len depth mark i j k (omega arith))
+    shared-parted p q left right len depth count mark i j k (omega arith))
     (λ (k : len_of left ≤ i).
-    let out' : NoneHolds at (way right (s + len_of left) (i - len_of left)) = rw (below-right p q left right len depth mark s i k) at out in
+    let out' : NoneHolds at (way right (s + len_of left) (i - len_of left)) = rw (below-right p q left right len depth count mark s i k) at out in
     ⊎_elim
-    (λ (m : j < len_of left). shared-parted_back p q left right len depth mark i j k m)
+    (λ (m : j < len_of left). shared-parted_back p q left right len depth count mark i j k m)
     (λ (m : len_of left ≤ j).
     let o : s + len_of left + len_of right ≤ at = lies_outside right (s + len_of left) at out'.0 (omega arith) in
     absurd (omega (arith, h.2)))
@@ -116,26 +116,26 @@ moved root s i j at [] rest n t z b h e g out =
 moved (Leaf bytes from len mark) s i j at (x ∷ front) rest n t z b h e g out = absurd (not_empty front rest (Some n, t) (cc))
 moved (Run byte len) s i j at (x ∷ front) rest n t z b h e g out = absurd (not_empty front rest (Some n, t) (cc))
 moved (Func id from len) s i j at (x ∷ front) rest n t z b h e g out = absurd (not_empty front rest (Some n, t) (cc))
-moved (Cat' p left q right len depth mark) s i j at (x ∷ front) rest n t z b h e g out =
+moved (Cat' mark depth p left q right len count) s i j at (x ∷ front) rest n t z b h e g out =
     let l : LiesIn n t at = lies_in n t at g in
     ⊎_elim
     (λ (k : i < len_of left).
-    let f : below (Cat' p left q right len depth mark) s i ≡ way left s i = below-left p q left right len depth mark s i k in
+    let f : below (Cat' mark depth p left q right len count) s i ≡ way left s i = below-left p q left right len depth count mark s i k in
     let w : way left s i ≡ front ++ (Some n, t) ∷ rest = cc in
     let u : IsUnder left s (length front) n t = under_root left s i front rest n t h.0 w in
     let a : j < len_of left = omega arith in
     let m : IsMove left s i j front n t at = moved left s i j at front rest n t z a h.0 w g out in
     let mw : front ++ way n t (at - t) ≡ way left s j = m.way in
-    let fj : below (Cat' p left q right len depth mark) s j ≡ way left s j = below-left p q left right len depth mark s j a in
+    let fj : below (Cat' mark depth p left q right len count) s j ≡ way left s j = below-left p q left right len depth count mark s j a in
     record {
       way = cc;
-      shared = omega (arith, m.shared, shared-left p q left right len depth mark i j k a);
-      level = omega (arith, m.level, level-left p q left right len depth mark j a);
-      part = m.part ∙ sym (part_at-left p q left right len depth mark s j a);
+      shared = omega (arith, m.shared, shared-left p q left right len depth count mark i j k a);
+      level = omega (arith, m.level, level-left p q left right len depth count mark j a);
+      part = m.part ∙ sym (part_at-left p q left right len depth count mark s j a);
     })
     (λ (k : len_of left ≤ i).
-    let f : below (Cat' p left q right len depth mark) s i ≡ way right (s + len_of left) (i - len_of left) =
-    below-right p q left right len depth mark s i k in
+    let f : below (Cat' mark depth p left q right len count) s i ≡ way right (s + len_of left) (i - len_of left) =
+    below-right p q left right len depth count mark s i k in
     let w : way right (s + len_of left) (i - len_of left) ≡ front ++ (Some n, t) ∷ rest = cc in
     let u : IsUnder right (s + len_of left) (length front) n t =
     under_root right (s + len_of left) (i - len_of left) front rest n t h.1 w in
@@ -144,12 +144,12 @@ moved (Cat' p left q right len depth mark) s i j at (x ∷ front) rest n t z b h
     moved right (s + len_of left) (i - len_of left) (j - len_of left) at front rest n t (omega arith)
     (omega (arith, h.2)) h.1 w g out in
     let mw : front ++ way n t (at - t) ≡ way right (s + len_of left) (j - len_of left) = m.way in
-    let fj : below (Cat' p left q right len depth mark) s j ≡ way right (s + len_of left) (j - len_of left) =
-    below-right p q left right len depth mark s j a in
+    let fj : below (Cat' mark depth p left q right len count) s j ≡ way right (s + len_of left) (j - len_of left) =
+    below-right p q left right len depth count mark s j a in
     record {
       way = cc;
-      shared = omega (arith, m.shared, shared-right p q left right len depth mark i j k a);
-      level = omega (arith, m.level, level-right p q left right len depth mark j a);
-      part = m.part ∙ sym (part_at-right p q left right len depth mark s j a);
+      shared = omega (arith, m.shared, shared-right p q left right len depth count mark i j k a);
+      level = omega (arith, m.level, level-right p q left right len depth count mark j a);
+      part = m.part ∙ sym (part_at-right p q left right len depth count mark s j a);
     })
     (cases_lt i (len_of left))

@@ -35,7 +35,7 @@ pub is_side : (n : Node) (i : ℕ) (m : Node) (o : ℕ) → IsSound n → i < le
 is_side (Leaf bytes s len mark) i m o h k e = absurd (cc)
 is_side (Run byte len) i m o h k e = absurd (cc)
 is_side (Func id s len) i m o h k e = absurd (cc)
-is_side (Cat' p left q right len depth mark) i m o h k e =
+is_side (Cat' mark depth p left q right len count) i m o h k e =
     ⊎_elim
     (λ (a : i < len_of left).
     let f : ◌≡◌ {A = Option (Node × ℕ)} (Some (left, 0)) (Some (m, o)) = rw (lt-ltb i (len_of left) a) at e in
@@ -47,9 +47,9 @@ is_side (Cat' p left q right len depth mark) i m o h k e =
       inside = omega arith;
       to = omega (arith, h.2);
       depth = omega (arith, h.3);
-      below = λ start. let y : start + 0 ≡ start = omega arith in rw (y, z) (below-left p q left right len depth mark start i a);
-      level = rw z (level-left p q left right len depth mark i a);
-      part = λ start. let y : start + 0 ≡ start = omega arith in rw (y, z) (part_at-left p q left right len depth mark start i a);
+      below = λ start. let y : start + 0 ≡ start = omega arith in rw (y, z) (below-left p q left right len depth count mark start i a);
+      level = rw z (level-left p q left right len depth count mark i a);
+      part = λ start. let y : start + 0 ≡ start = omega arith in rw (y, z) (part_at-left p q left right len depth count mark start i a);
     }))
     (λ (a : len_of left ≤ i).
     let f : ◌≡◌ {A = Option (Node × ℕ)} (Some (right, len_of left)) (Some (m, o)) = rw (not_less i (len_of left) a) at e in
@@ -60,9 +60,9 @@ is_side (Cat' p left q right len depth mark) i m o h k e =
       inside = omega (arith, h.2);
       to = omega (arith, h.2);
       depth = omega (arith, h.3);
-      below = λ start. below-right p q left right len depth mark start i a;
-      level = level-right p q left right len depth mark i a;
-      part = λ start. part_at-right p q left right len depth mark start i a;
+      below = λ start. below-right p q left right len depth count mark start i a;
+      level = level-right p q left right len depth count mark i a;
+      part = λ start. part_at-right p q left right len depth count mark start i a;
     }))
     (cases_lt i (len_of left))
 
@@ -77,7 +77,7 @@ pub ends_at_part : (n : Node) (start i : ℕ) → side_at n i ≡ None → EndsA
 ends_at_part (Leaf bytes s len mark) start i h = record { below = refl; level = refl; part = refl }
 ends_at_part (Run byte len) start i h = record { below = refl; level = refl; part = refl }
 ends_at_part (Func id s len) start i h = record { below = refl; level = refl; part = refl }
-ends_at_part (Cat' p left q right len depth mark) start i h =
+ends_at_part (Cat' mark depth p left q right len count) start i h =
     ⊎_elim
     (λ (a : i < len_of left). let f : ◌≡◌ {A = Option (Node × ℕ)} (Some (left, 0)) None = rw (lt-ltb i (len_of left) a) at h in absurd (cc))
     (λ (a : len_of left ≤ i). let f : ◌≡◌ {A = Option (Node × ℕ)} (Some (right, len_of left)) None = rw (not_less i (len_of left) a) at h in

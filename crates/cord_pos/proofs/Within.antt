@@ -50,32 +50,32 @@ within_on n place m at l to v w = record {
 }
 
 -- a concatenation is as long as its two sides
-pub cat_len : (m : Node) (p : Rc (Unit {0}) Global) (l : Node) (q : Rc (Unit {0}) Global) (r : Node) (len depth : ℕ) (mark : List Part) →
-    m ≡ Cat' p l q r len depth mark → IsSound m → len_of m ≡ len_of l + len_of r
-cat_len m p l q r len depth mark e s = let v : IsSound (Cat' p l q r len depth mark) = rw e at s in ap len_of e ∙ v.2
+pub cat_len : (m : Node) (p : Rc (Unit {0}) Global) (l : Node) (q : Rc (Unit {0}) Global) (r : Node) (len depth count : ℕ) (mark : List Part) →
+    m ≡ Cat' mark depth p l q r len count → IsSound m → len_of m ≡ len_of l + len_of r
+cat_len m p l q r len depth count mark e s = let v : IsSound (Cat' mark depth p l q r len count) = rw e at s in ap len_of e ∙ v.2
 
 -- each side is shorter
-pub left_shorter : (m : Node) (p : Rc (Unit {0}) Global) (l : Node) (q : Rc (Unit {0}) Global) (r : Node) (len depth : ℕ)
-    (mark : List Part) → m ≡ Cat' p l q r len depth mark → IsSound m → len_of l < len_of m
-left_shorter m p l q r len depth mark e s =
-    let v : IsSound (Cat' p l q r len depth mark) = rw e at s in
+pub left_shorter : (m : Node) (p : Rc (Unit {0}) Global) (l : Node) (q : Rc (Unit {0}) Global) (r : Node) (len depth count : ℕ)
+    (mark : List Part) → m ≡ Cat' mark depth p l q r len count → IsSound m → len_of l < len_of m
+left_shorter m p l q r len depth count mark e s =
+    let v : IsSound (Cat' mark depth p l q r len count) = rw e at s in
     let some : 0 < len_of r = len_positive r v.1 in
-    let both : len_of m ≡ len_of l + len_of r = cat_len m p l q r len depth mark e s in
+    let both : len_of m ≡ len_of l + len_of r = cat_len m p l q r len depth count mark e s in
     omega (arith, some, both)
 
-pub right_shorter : (m : Node) (p : Rc (Unit {0}) Global) (l : Node) (q : Rc (Unit {0}) Global) (r : Node) (len depth : ℕ)
-    (mark : List Part) → m ≡ Cat' p l q r len depth mark → IsSound m → len_of r < len_of m
-right_shorter m p l q r len depth mark e s =
-    let v : IsSound (Cat' p l q r len depth mark) = rw e at s in
+pub right_shorter : (m : Node) (p : Rc (Unit {0}) Global) (l : Node) (q : Rc (Unit {0}) Global) (r : Node) (len depth count : ℕ)
+    (mark : List Part) → m ≡ Cat' mark depth p l q r len count → IsSound m → len_of r < len_of m
+right_shorter m p l q r len depth count mark e s =
+    let v : IsSound (Cat' mark depth p l q r len count) = rw e at s in
     let some : 0 < len_of l = len_positive l v.0 in
-    let both : len_of m ≡ len_of l + len_of r = cat_len m p l q r len depth mark e s in
+    let both : len_of m ≡ len_of l + len_of r = cat_len m p l q r len depth count mark e s in
     omega (arith, some, both)
 
 -- and so is the left side of what is within
 pub within_left : (n : Node) (place : ℕ) (m : Node) (at : ℕ) (p : Rc (Unit {0}) Global) (l : Node) (q : Rc (Unit {0}) Global) (r : Node)
-    (len depth : ℕ) (mark : List Part) → m ≡ Cat' p l q r len depth mark → IsWithin n place m at → IsWithin n place l at
-within_left n place m at p l q r len depth mark e w =
-    let v : IsWithin n place (Cat' p l q r len depth mark) at = rw e at w in
+    (len depth count : ℕ) (mark : List Part) → m ≡ Cat' mark depth p l q r len count → IsWithin n place m at → IsWithin n place l at
+within_left n place m at p l q r len depth count mark e w =
+    let v : IsWithin n place (Cat' mark depth p l q r len count) at = rw e at w in
     let long : len ≡ len_of l + len_of r = v.sound.2 in
     record {
       offset = v.offset;
@@ -90,10 +90,10 @@ within_left n place m at p l q r len depth mark e w =
 
 -- and the right side
 pub within_right : (n : Node) (place : ℕ) (m : Node) (at next : ℕ) (p : Rc (Unit {0}) Global) (l : Node) (q : Rc (Unit {0}) Global)
-    (r : Node) (len depth : ℕ) (mark : List Part) → m ≡ Cat' p l q r len depth mark → at ≡ len_of l + next → IsWithin n place m at →
+    (r : Node) (len depth count : ℕ) (mark : List Part) → m ≡ Cat' mark depth p l q r len count → at ≡ len_of l + next → IsWithin n place m at →
     IsWithin n place r next
-within_right n place m at next p l q r len depth mark e seam w =
-    let v : IsWithin n place (Cat' p l q r len depth mark) at = rw e at w in
+within_right n place m at next p l q r len depth count mark e seam w =
+    let v : IsWithin n place (Cat' mark depth p l q r len count) at = rw e at w in
     let long : len ≡ len_of l + len_of r = v.sound.2 in
     record {
       offset = v.offset + len_of l;
@@ -182,16 +182,16 @@ pub part_within : (n : Node) (s i at : ℕ) → at ≡ s + i → IsSound n → i
 part_within (Leaf bytes from len mark) s i at z h k = let a : at - s ≡ i = omega arith in rw a (within_self (Leaf bytes from len mark) i h)
 part_within (Run byte len) s i at z h k = let a : at - s ≡ i = omega arith in rw a (within_self (Run byte len) i h)
 part_within (Func id from len) s i at z h k = let a : at - s ≡ i = omega arith in rw a (within_self (Func id from len) i h)
-part_within (Cat' p left q right len depth mark) s i at z h k =
-    let n : Node = Cat' p left q right len depth mark in
+part_within (Cat' mark depth p left q right len count) s i at z h k =
+    let n : Node = Cat' mark depth p left q right len count in
     ⊎_elim
     (λ (a : i < len_of left).
-    let w : IsWithin n i left i = within_left n i n i p left q right len depth mark refl (within_self n i h) in
-    rw (part_at-left p q left right len depth mark s i a) (within_on n i left i _ _ w (part_within left s i at z h.0 a)))
+    let w : IsWithin n i left i = within_left n i n i p left q right len depth count mark refl (within_self n i h) in
+    rw (part_at-left p q left right len depth count mark s i a) (within_on n i left i _ _ w (part_within left s i at z h.0 a)))
     (λ (a : len_of left ≤ i).
     let w : IsWithin n i right (i - len_of left) =
-    within_right n i n i (i - len_of left) p left q right len depth mark refl (omega arith) (within_self n i h) in
-    rw (part_at-right p q left right len depth mark s i a) (within_on n i right (i - len_of left) _ _ w
+    within_right n i n i (i - len_of left) p left q right len depth count mark refl (omega arith) (within_self n i h) in
+    rw (part_at-right p q left right len depth count mark s i a) (within_on n i right (i - len_of left) _ _ w
     (part_within right (s + len_of left) (i - len_of left) at (omega arith) h.1 (omega (arith, h.2)))))
     (cases_lt i (len_of left))
 

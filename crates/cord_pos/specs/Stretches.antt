@@ -78,4 +78,4 @@ abbrev pub is_part : Node → Bool
 is_part (Leaf bytes start len mark) = true
 is_part (Run byte len) = true
 is_part (Func id start len) = true
-is_part (Cat' p left q right len depth mark) = false
+is_part (Cat' mark depth p left q right len count) = false

@@ -30,14 +30,14 @@ abbrev pub side_at : Node → ℕ → Option (Node × ℕ)
 side_at (Leaf bytes s len mark) i = None
 side_at (Run byte len) i = None
 side_at (Func id s len) i = None
-side_at (Cat' p left q right len depth mark) i = if nat_lt i (len_of left) then Some (left, 0) else Some (right, len_of left)
+side_at (Cat' mark depth p left q right len count) i = if nat_lt i (len_of left) then Some (left, 0) else Some (right, len_of left)
 
 -- the places below a node that begins at `start`, down to the part that holds the index `i` of the node
 abbrev pub below : Node → ℕ → ℕ → List Place
 below (Leaf bytes s len mark) start i = []
 below (Run byte len) start i = []
 below (Func id s len) start i = []
-below (Cat' p left q right len depth mark) start i = if nat_lt i (len_of left) then (Some left, start)
+below (Cat' mark depth p left q right len count) start i = if nat_lt i (len_of left) then (Some left, start)
     ∷ below left start i else (Some right, start + len_of left) ∷ below right (start + len_of left) (i - len_of left)
 
 -- the same, with the node's own place first
@@ -49,7 +49,7 @@ abbrev pub part_at : Node → ℕ → ℕ → Node × ℕ
 part_at (Leaf bytes s len mark) start i = (Leaf bytes s len mark, start)
 part_at (Run byte len) start i = (Run byte len, start)
 part_at (Func id s len) start i = (Func id s len, start)
-part_at (Cat' p left q right len depth mark) start i = if nat_lt i (len_of left) then part_at left start i else part_at right
+part_at (Cat' mark depth p left q right len count) start i = if nat_lt i (len_of left) then part_at left start i else part_at right
     (start + len_of left) (i - len_of left)
 
 -- the node at a place holds this index of the root's text
