@@ -161,8 +161,8 @@ run_more a b c byte done count n k s t = appends_both a b c (replicate done byte
     (rw (take-replicate count n byte k) at t) ∙ ap (λ (l : List ℕ). a ++ l) (replicate-append-replicate done count byte)
 
 -- the two sides of a node that is a concatenation
-pub cat_sides : (p : Rc (Unit {0}) Global) (l : Node) (q : Rc (Unit {0}) Global) (r : Node) (len depth : ℕ) (mark : List Part) (n : Node) →
-    n ≡ Cat' p l q r len depth mark → IsSound n → AreSides l r n
-cat_sides p l q r len depth mark n e s =
-    let sound : IsSound (Cat' p l q r len depth mark) = rw e at s in
+pub cat_sides : (p : Rc (Unit {0}) Global) (l : Node) (q : Rc (Unit {0}) Global) (r : Node) (len depth count : ℕ) (mark : List Part) (n : Node) →
+    n ≡ Cat' mark depth p l q r len count → IsSound n → AreSides l r n
+cat_sides p l q r len depth count mark n e s =
+    let sound : IsSound (Cat' mark depth p l q r len count) = rw e at s in
     rw e (record { len = sound.2; bytes = λ t. refl })

@@ -19,7 +19,7 @@ use Rattle.cord_iter.proofs.forward.+walk_node.Goals as goal
 cut_is : (g : Over) (t : ℕ) (c : In-Cat g t) (folder : Folder) → g.S.Source.keeps c.args.src.now folder →
     IsCut (g.S.Source.table c.args.src.now folder) c.in-Cat.left.value c.in-Cat.right.value c.args.node.now
 cut_is g t c folder kept = cut_of (g.S.Source.lengths c.args.src.now) (g.S.Source.table c.args.src.now folder) _ c.in-Cat.left.value _
-    c.in-Cat.right.value _ _ _ c.args.node.now c.in-Cat.is c.requires.sound c.requires.fits
+    c.in-Cat.right.value _ _ _ _ c.args.node.now c.in-Cat.is c.requires.sound c.requires.fits
     (g.met.S.Source.lengths_of_table c.args.src.now folder kept)
 
 -- the seam is where the left side ends

@@ -10,7 +10,7 @@ returns-in_err-put_node-in-Cat-clause-prefix g t c =
     let node = c.args.node.now in
     let left = c.in-Cat.left.value in
     let right = c.in-Cat.right.value in
-    let sides : AreSides left right node = cat_sides _ left _ right _ _ _ node c.in-Cat.is c.requires.sound in
+    let sides : AreSides left right node = cat_sides _ left _ right _ _ _ _ node c.in-Cat.is c.requires.sound in
     let first : Takes (IsPrefixOver (keeps c.put_node.new.src) table left) (g.W.Sink.taken c.args.sink.now)
     (g.W.Sink.taken c.put_node.new.sink) = rw c.as_ref.ensures at c.in_err-put_node-in-Cat.ensures.prefix in
     on_err c.from_residual-in_err-put_node-in-Cat.result (takes_such first (λ x. cat_left table left right node x sides))
@@ -22,7 +22,7 @@ returns-in_err-put_node-in-Cat-2-clause-prefix g t c =
     let node = c.args.node.now in
     let left = c.in-Cat.left.value in
     let right = c.in-Cat.right.value in
-    let sides : AreSides left right node = cat_sides _ left _ right _ _ _ node c.in-Cat.is c.requires.sound in
+    let sides : AreSides left right node = cat_sides _ left _ right _ _ _ _ node c.in-Cat.is c.requires.sound in
     let first : Takes (IsTextOver (keeps c.put_node.new.src) table left) (g.W.Sink.taken c.args.sink.now)
     (g.W.Sink.taken c.put_node.new.sink) = rw c.as_ref.ensures at c.in_ok-put_node-in-Cat.ensures.text in
     let second : Takes (IsPrefixOver (keeps c.put_node-in-Cat.new.src) table right) (g.W.Sink.taken c.put_node.new.sink)
@@ -38,7 +38,7 @@ returns-in_ok-put_node-in-Cat-2-clause-text g t c =
     let node = c.args.node.now in
     let left = c.in-Cat.left.value in
     let right = c.in-Cat.right.value in
-    let sides : AreSides left right node = cat_sides _ left _ right _ _ _ node c.in-Cat.is c.requires.sound in
+    let sides : AreSides left right node = cat_sides _ left _ right _ _ _ _ node c.in-Cat.is c.requires.sound in
     let first : Takes (IsTextOver (keeps c.put_node.new.src) table left) (g.W.Sink.taken c.args.sink.now)
     (g.W.Sink.taken c.put_node.new.sink) = rw c.as_ref.ensures at c.in_ok-put_node-in-Cat.ensures.text in
     let second : Takes (IsTextOver (keeps c.put_node-in-Cat.new.src) table right) (g.W.Sink.taken c.put_node.new.sink)
