@@ -12,7 +12,7 @@ loop-node-preserved-then-place-seam c =
     let seam : c.len-seam.result ≡ len_of left = c.len-seam.ensures.stored ∙ ap len_of c.deref.ensures in
     let inside : c.loop-node.place < len_of left = omega (arith, seam, c.if-place-seam.true) in
     let within : IsWithin top place left c.loop-node.place =
-    within_left top place c.loop-node.node.now c.loop-node.place _ left _ c.in-Cat.right.value _ _ _ c.in-Cat.is
+    within_left top place c.loop-node.node.now c.loop-node.place _ left _ c.in-Cat.right.value _ _ _ _ c.in-Cat.is
     c.loop-node.invariant.within in
     record {
       inside = rw c.as_ref-node.ensures inside;
@@ -30,9 +30,9 @@ loop-node-preserved c =
     let seam : c.len-seam.result ≡ len_of left = c.len-seam.ensures.stored ∙ ap len_of c.deref.ensures in
     let behind : at ≡ len_of left + (at - c.len-seam.result) = omega (arith, seam, c.if-place-seam.false) in
     let within : IsWithin top place right (at - c.len-seam.result) =
-    within_right top place node at (at - c.len-seam.result) _ left _ right _ _ _ c.in-Cat.is behind c.loop-node.invariant.within in
+    within_right top place node at (at - c.len-seam.result) _ left _ right _ _ _ _ c.in-Cat.is behind c.loop-node.invariant.within in
     let sound : len_of node ≡ len_of left + len_of right =
-    cat_len node _ left _ right _ _ _ c.in-Cat.is c.loop-node.invariant.within.sound in
+    cat_len node _ left _ right _ _ _ _ c.in-Cat.is c.loop-node.invariant.within.sound in
     let inside : at - c.len-seam.result < len_of right = omega (arith, seam, c.if-place-seam.false, c.loop-node.invariant.inside, sound) in
     record {
       inside = rw c.as_ref-node-else-place-seam.ensures inside;

@@ -11,7 +11,7 @@ loop-node-preserved-then-end-seam c =
     let seam : c.len-seam.result ≡ len_of left = c.len-seam.ensures.stored ∙ ap len_of c.deref.ensures in
     let inside : c.loop-node.end ≤ len_of left = omega (arith, seam, c.if-end-seam.true) in
     let within : IsWithin top c.args.end left c.loop-node.end =
-    within_left top c.args.end c.loop-node.node.now c.loop-node.end _ left _ c.in-Cat.right.value _ _ _ c.in-Cat.is
+    within_left top c.args.end c.loop-node.node.now c.loop-node.end _ left _ c.in-Cat.right.value _ _ _ _ c.in-Cat.is
     c.loop-node.invariant.within in
     record {
       some = c.loop-node.invariant.some;
@@ -30,9 +30,9 @@ loop-node-preserved c =
     let seam : c.len-seam.result ≡ len_of left = c.len-seam.ensures.stored ∙ ap len_of c.deref.ensures in
     let behind : end ≡ len_of left + next = omega (arith, seam, c.if-end-seam.false) in
     let within : IsWithin top c.args.end right next =
-    within_right top c.args.end node end next _ left _ right _ _ _ c.in-Cat.is behind c.loop-node.invariant.within in
+    within_right top c.args.end node end next _ left _ right _ _ _ _ c.in-Cat.is behind c.loop-node.invariant.within in
     let both : len_of node ≡ len_of left + len_of right =
-    cat_len node _ left _ right _ _ _ c.in-Cat.is c.loop-node.invariant.within.sound in
+    cat_len node _ left _ right _ _ _ _ c.in-Cat.is c.loop-node.invariant.within.sound in
     let inside : next ≤ len_of right = omega (arith, seam, c.if-end-seam.false, c.loop-node.invariant.inside, both) in
     record {
       some = omega (arith, c.if-end-seam.false);
