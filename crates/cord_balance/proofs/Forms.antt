@@ -32,11 +32,11 @@ form_put old new n form f put = record {
 
 -- a concatenation is put where its two sides are
 pub cat_put : (old mid new : List Piece) (n : Node) (p : Rc (Unit {0}) Global) (l : Node) (q : Rc (Unit {0}) Global) (r : Node)
-    (len depth count : ℕ) (mark : List Part) → n ≡ Cat' mark depth p l q r len count → IsSound n → IsPut old mid l → IsPut mid new r → IsPut old new n
+    (len depth count : ℕ) (mark : List Part) → n ≡ Cat' mark depth len p l q r count → IsSound n → IsPut old mid l → IsPut mid new r → IsPut old new n
 cat_put old mid new n p l q r len depth count mark e s one two =
-    let v : IsSound (Cat' mark depth p l q r len count) = subst IsSound e s in
+    let v : IsSound (Cat' mark depth len p l q r count) = subst IsSound e s in
     let long : len ≡ len_of l + len_of r = v.2 in
-    let put : IsPut old new (Cat' mark depth p l q r len count) = record {
+    let put : IsPut old new (Cat' mark depth len p l q r count) = record {
       text = two.text ∙ ap (λ (cs : List Cell). cs ++ cells r) one.text ∙ append_assoc (forest_cells old) (cells l) (cells r);
       len = omega (arith, one.len, two.len, long);
       kept = kept_two (forest_parts old) (parts l) (parts r) (forest_parts mid) (forest_parts new) one.kept two.kept;
@@ -57,9 +57,9 @@ form_of_put old all n form none put s t k kept =
 
 -- the right side of a concatenation isn't empty
 pub right_some : (n : Node) (p : Rc (Unit {0}) Global) (l : Node) (q : Rc (Unit {0}) Global) (r : Node) (len depth count : ℕ)
-    (mark : List Part) → n ≡ Cat' mark depth p l q r len count → IsSound n → 0 < len_of r
+    (mark : List Part) → n ≡ Cat' mark depth len p l q r count → IsSound n → 0 < len_of r
 right_some n p l q r len depth count mark e s =
-    let v : IsSound (Cat' mark depth p l q r len count) = subst IsSound e s in
+    let v : IsSound (Cat' mark depth len p l q r count) = subst IsSound e s in
     len_positive r v.1
 
 -- nothing is left of a forest of which all was taken

@@ -7,23 +7,23 @@ use Rattle.cord_node.specs.declared.Node.TheVariants.{Leaf, Run, Func, Cat'}
 -- one `Leaf` whose bytes are these, the whole of them; empty where there are none
 abbrev pub IsLeafOf : List ℕ → Option Node → Type 0
 IsLeafOf b None = b ≡ []
-IsLeafOf b (Some (Leaf bytes start len mark)) = (rc_slice_items bytes ≡ b) × (start ≡ 0) × (len ≡ length b)
+IsLeafOf b (Some (Leaf len bytes start mark)) = (rc_slice_items bytes ≡ b) × (start ≡ 0) × (len ≡ length b)
 IsLeafOf b (Some (Run byte len)) = ⊥
-IsLeafOf b (Some (Func id start len)) = ⊥
-IsLeafOf b (Some (Cat' mark depth p left q right len count)) = ⊥
+IsLeafOf b (Some (Func id len start)) = ⊥
+IsLeafOf b (Some (Cat' mark depth len p left q right count)) = ⊥
 
 -- one `Run` of n times the byte; empty where n is 0
 abbrev pub IsRunOf : ℕ → ℕ → Option Node → Type 0
 IsRunOf b n None = n ≡ 0
-IsRunOf b n (Some (Leaf bytes start len mark)) = ⊥
+IsRunOf b n (Some (Leaf len bytes start mark)) = ⊥
 IsRunOf b n (Some (Run byte len)) = (byte ≡ b) × (len ≡ n)
-IsRunOf b n (Some (Func id start len)) = ⊥
-IsRunOf b n (Some (Cat' mark depth p left q right len count)) = ⊥
+IsRunOf b n (Some (Func id len start)) = ⊥
+IsRunOf b n (Some (Cat' mark depth len p left q right count)) = ⊥
 
 -- one `Func` of n bytes of the entry from s on; empty where n is 0
 abbrev pub IsFuncOf : ℕ → ℕ → ℕ → Option Node → Type 0
 IsFuncOf i s n None = n ≡ 0
-IsFuncOf i s n (Some (Leaf bytes start len mark)) = ⊥
+IsFuncOf i s n (Some (Leaf len bytes start mark)) = ⊥
 IsFuncOf i s n (Some (Run byte len)) = ⊥
-IsFuncOf i s n (Some (Func id start len)) = (id.0 ≡ i) × (start ≡ s) × (len ≡ n)
-IsFuncOf i s n (Some (Cat' mark depth p left q right len count)) = ⊥
+IsFuncOf i s n (Some (Func id len start)) = (id.0 ≡ i) × (start ≡ s) × (len ≡ n)
+IsFuncOf i s n (Some (Cat' mark depth len p left q right count)) = ⊥

@@ -229,10 +229,10 @@ both_changed_at from until seam end middle left right changed rest at last order
 
 -- a sound concatenation has its sides
 pub sides_are : (node left right : Node) → IsSound node → AreSides node left right → HasSides node left right
-sides_are (Leaf bytes start len mark) left right s h = absurd h
+sides_are (Leaf len bytes start mark) left right s h = absurd h
 sides_are (Run byte len) left right s h = absurd h
-sides_are (Func id start len) left right s h = absurd h
-sides_are (Cat' mark depth p a q b len count) left right s h = rw (h.0, h.1) (record {
+sides_are (Func id len start) left right s h = absurd h
+sides_are (Cat' mark depth len p a q b count) left right s h = rw (h.0, h.1) (record {
   left_sound = s.0;
   right_sound = s.1;
   text = refl;

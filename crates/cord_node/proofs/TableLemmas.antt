@@ -30,10 +30,10 @@ map-held_by t id a (suc n) h =
 
 -- the text over a table
 pub bytes-cells : (t : Table) (n : Node) → Fits t n → bytes_over t n ≡ map (byte_at t) (cells n)
-bytes-cells t (Leaf bytes start len mark) f = map-known t (take len (drop start (rc_slice_items bytes)))
+bytes-cells t (Leaf len bytes start mark) f = map-known t (take len (drop start (rc_slice_items bytes)))
 bytes-cells t (Run byte len) f = map-replicate t len byte
-bytes-cells t (Func id start len) f = map-held_by t id.0 start len f
-bytes-cells t (Cat' mark depth p left q right len count) f =
+bytes-cells t (Func id len start) f = map-held_by t id.0 start len f
+bytes-cells t (Cat' mark depth len p left q right count) f =
     sym (rw (map-append (byte_at t) (cells left) (cells right), ← bytes-cells t left f.0, ← bytes-cells t right f.1) refl)
 
 -- two lists of held cells
@@ -73,10 +73,10 @@ held_to_end ls id a (suc n) h = let k : a + 1 + suc n ≤ length_at ls id = held
 
 -- the cells of a node that fits are held
 pub AreHeldIn-cells : (ls : Lengths) (n : Node) → FitsIn ls n → AreHeldIn ls (cells n)
-AreHeldIn-cells ls (Leaf bytes start len mark) f = AreHeldIn-known ls (take len (drop start (rc_slice_items bytes)))
+AreHeldIn-cells ls (Leaf len bytes start mark) f = AreHeldIn-known ls (take len (drop start (rc_slice_items bytes)))
 AreHeldIn-cells ls (Run byte len) f = AreHeldIn-replicate ls len byte
-AreHeldIn-cells ls (Func id start len) f = AreHeldIn-held_by ls id.0 start len f
-AreHeldIn-cells ls (Cat' mark depth p left q right len count) f = AreHeldIn-append ls (cells left) (cells right) (AreHeldIn-cells ls left f.0)
+AreHeldIn-cells ls (Func id len start) f = AreHeldIn-held_by ls id.0 start len f
+AreHeldIn-cells ls (Cat' mark depth len p left q right count) f = AreHeldIn-append ls (cells left) (cells right) (AreHeldIn-cells ls left f.0)
     (AreHeldIn-cells ls right f.1)
 
 -- a range of at least one byte that is held lies inside its entry
@@ -86,10 +86,10 @@ fits_from_held ls id a (suc n) h k = held_to_end ls id a n k
 
 -- a sound node whose cells are held fits
 pub FitsIn-cells : (ls : Lengths) (n : Node) → IsSound n → AreHeldIn ls (cells n) → FitsIn ls n
-FitsIn-cells ls (Leaf bytes start len mark) s h = tt
+FitsIn-cells ls (Leaf len bytes start mark) s h = tt
 FitsIn-cells ls (Run byte len) s h = tt
-FitsIn-cells ls (Func id start len) s h = fits_from_held ls id.0 start len s.0 h
-FitsIn-cells ls (Cat' mark depth p left q right len count) s h = (
+FitsIn-cells ls (Func id len start) s h = fits_from_held ls id.0 start len s.0 h
+FitsIn-cells ls (Cat' mark depth len p left q right count) s h = (
   FitsIn-cells ls left s.0 (AreHeldIn-left ls (cells left) (cells right) h),
   FitsIn-cells ls right s.1 (AreHeldIn-right ls (cells left) (cells right) h),
 )
@@ -118,10 +118,10 @@ join_over l r n s e =
 
 -- where an entry is no shorter, what fitted fits
 pub FitsIn-longer : (ls ms : Lengths) (n : Node) → ((id : ℕ) → length_at ls id ≤ length_at ms id) → FitsIn ls n → FitsIn ms n
-FitsIn-longer ls ms (Leaf bytes start len mark) h f = tt
+FitsIn-longer ls ms (Leaf len bytes start mark) h f = tt
 FitsIn-longer ls ms (Run byte len) h f = tt
-FitsIn-longer ls ms (Func id start len) h f = omega (arith, h id.0)
-FitsIn-longer ls ms (Cat' mark depth p left q right len count) h f = (FitsIn-longer ls ms left h f.0, FitsIn-longer ls ms right h f.1)
+FitsIn-longer ls ms (Func id len start) h f = omega (arith, h id.0)
+FitsIn-longer ls ms (Cat' mark depth len p left q right count) h f = (FitsIn-longer ls ms left h f.0, FitsIn-longer ls ms right h f.1)
 
 -- where the lengths told are those of the table, what fits them fits the table
 pub Fits-told : (ls : Lengths) (t : Table) (n : Node) → HasLengths ls t → FitsIn ls n → Fits t n
@@ -130,8 +130,8 @@ Fits-told ls t n h f = FitsIn-longer ls (lengths_of t) n (λ id. let e : length 
 -- over two tables that have the same text at each entry that isn't empty in the first one
 pub bytes_over-same : (t u : Table) (n : Node) → ((id : ℕ) → 0 < length (t id) → u id ≡ t id) → IsSound n → Fits t n →
     bytes_over u n ≡ bytes_over t n
-bytes_over-same t u (Leaf bytes start len mark) h s f = refl
+bytes_over-same t u (Leaf len bytes start mark) h s f = refl
 bytes_over-same t u (Run byte len) h s f = refl
-bytes_over-same t u (Func id start len) h s f = let k : 0 < length (t id.0) = omega arith in let e : u id.0 ≡ t id.0 = h id.0 k in rw e refl
-bytes_over-same t u (Cat' mark depth p left q right len count) h s f =
+bytes_over-same t u (Func id len start) h s f = let k : 0 < length (t id.0) = omega arith in let e : u id.0 ≡ t id.0 = h id.0 k in rw e refl
+bytes_over-same t u (Cat' mark depth len p left q right count) h s f =
     rw (bytes_over-same t u left h s.0 f.0, bytes_over-same t u right h s.1 f.1) refl

@@ -18,10 +18,10 @@ parts_len-append (p ∷ ps) qs = omega (arith, parts_len-append ps qs)
 
 -- it is what a node stores
 pub parts_len-len_of : (n : Node) → IsSound n → parts_len (parts n) ≡ len_of n
-parts_len-len_of (Leaf bytes start len mark) s = omega arith
+parts_len-len_of (Leaf len bytes start mark) s = omega arith
 parts_len-len_of (Run byte len) s = omega arith
-parts_len-len_of (Func id start len) s = omega arith
-parts_len-len_of (Cat' mark depth p left q right len count) s =
+parts_len-len_of (Func id len start) s = omega arith
+parts_len-len_of (Cat' mark depth len p left q right count) s =
     omega (arith, parts_len-append (parts left) (parts right), parts_len-len_of left s.0, parts_len-len_of right s.1, s.2)
 
 -- of two lists, one after the other
@@ -62,10 +62,10 @@ touched_at_most from until (p ∷ ps) = omega (arith, touched_at_most (from - pa
 
 -- all of a node by its whole text
 pub touched_by_whole : (until : ℕ) (n : Node) → IsSound n → len_of n ≤ until → length (parts n) ≤ touched 0 until (parts n)
-touched_by_whole until (Leaf bytes start len mark) s h = omega (arith, s.0)
+touched_by_whole until (Leaf len bytes start mark) s h = omega (arith, s.0)
 touched_by_whole until (Run byte len) s h = omega (arith, s.0)
-touched_by_whole until (Func id start len) s h = omega (arith, s.0)
-touched_by_whole until (Cat' mark depth p left q right len count) s h =
+touched_by_whole until (Func id len start) s h = omega (arith, s.0)
+touched_by_whole until (Cat' mark depth len p left q right count) s h =
     let z : 0 - len_of left ≡ 0 = omega arith in
     let e : touched 0 until (parts left ++ parts right) ≡ touched 0 until (parts left) + touched 0 (until - len_of left) (parts right) =
     rw z at (touched_sides 0 until left right s.0) in

@@ -8,10 +8,10 @@ use Rattle.cord_node.specs.declared.TheConstants.{SMALL_LEN}
 
 -- the parts of a node, from left to right
 abbrev pub parts : Node → List Part
-parts (Leaf bytes start len mark) = leaf_part (rc_slice_items bytes) start len ∷ []
+parts (Leaf len bytes start mark) = leaf_part (rc_slice_items bytes) start len ∷ []
 parts (Run byte len) = run_part byte len ∷ []
-parts (Func id start len) = func_part id.0 start len ∷ []
-parts (Cat' mark depth p left q right len count) = parts left ++ parts right
+parts (Func id len start) = func_part id.0 start len ∷ []
+parts (Cat' mark depth len p left q right count) = parts left ++ parts right
 
 -- a leaf of at most SMALL_LEN bytes
 abbrev pub IsSmall : Part → Type 0

@@ -8,17 +8,17 @@ use Rattle.cord_node.specs.Tree.{Cell, known, held_by}
 
 -- the text of a node over a table
 abbrev pub bytes_over : Table → Node → List ℕ
-bytes_over t (Leaf bytes start len mark) = take len (drop start (rc_slice_items bytes))
+bytes_over t (Leaf len bytes start mark) = take len (drop start (rc_slice_items bytes))
 bytes_over t (Run byte len) = replicate len byte
-bytes_over t (Func id start len) = take len (drop start (t id.0))
-bytes_over t (Cat' mark depth p left q right len count) = bytes_over t left ++ bytes_over t right
+bytes_over t (Func id len start) = take len (drop start (t id.0))
+bytes_over t (Cat' mark depth len p left q right count) = bytes_over t left ++ bytes_over t right
 
 -- each function part lies inside an entry of this length
 abbrev pub FitsIn : Lengths → Node → Type 0
-FitsIn lengths (Leaf bytes start len mark) = ⊤
+FitsIn lengths (Leaf len bytes start mark) = ⊤
 FitsIn lengths (Run byte len) = ⊤
-FitsIn lengths (Func id start len) = start + len ≤ length_at lengths id.0
-FitsIn lengths (Cat' mark depth p left q right len count) = FitsIn lengths left × FitsIn lengths right
+FitsIn lengths (Func id len start) = start + len ≤ length_at lengths id.0
+FitsIn lengths (Cat' mark depth len p left q right count) = FitsIn lengths left × FitsIn lengths right
 
 -- the lengths of the entries of a table
 abbrev pub lengths_of : Table → Lengths

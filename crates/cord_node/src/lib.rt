@@ -11,15 +11,15 @@ use std::rc::{Rc, RcSlice};
 pub const SMALL_LEN: usize = 64;
 
 /// A text of at least one byte: a part, or two texts joined. By the marks of its leaves and
-/// concatenations `same` tells one node from two that are equal. The fields of `Cat` stand in the order in which they
-/// take 40 bytes: the small ones first, beside the tag.
+/// concatenations `same` tells one node from two that are equal. Fields stand in the order in which `len` has one place
+/// in all forms, so that it is read without looking at the form, and in which a node has 40 bytes.
 #[derive(Drop)]
 pub enum Node {
     /// The `len` bytes from `start` on of shared bytes.
     Leaf {
+        len: u64,
         bytes: RcSlice<u8>,
         start: u64,
-        len: u64,
         mark: Mark,
     },
     /// One byte, `len` times.
@@ -30,16 +30,16 @@ pub enum Node {
     /// The `len` bytes from `start` on of a source.
     Func {
         id: SourceId,
-        start: u64,
         len: u64,
+        start: u64,
     },
     /// The text of `left` and then that of `right`, with its length, its depth and the number of its parts.
     Cat {
         mark: Mark,
         depth: u32,
+        len: u64,
         left: Rc<Node>,
         right: Rc<Node>,
-        len: u64,
         part_count: u64,
     },
 }

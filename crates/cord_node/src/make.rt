@@ -22,7 +22,7 @@ pub fn leaf_range(
     requires not_empty { 0 < len }
     requires inside { start + len ≤ length (rc_slice_items bytes) }
     requires within_limit { len ≤ MAX_LEN }
-    ensures form { IfOk result (λ node. node.value ≡ Node.Leaf bytes start len
+    ensures form { IfOk result (λ node. node.value ≡ Node.Leaf len bytes start
         (leaf_part (rc_slice_items bytes) start len ∷ [])) }
 {
     let mark = Mark::new(&bytes, &(start, len));
@@ -42,7 +42,7 @@ pub fn leaf_range(
 pub fn leaf(alloc: Global, bytes: RcSlice<u8>) -> Result<Rc<Node>, AllocError>
     requires not_empty { 0 < length (rc_slice_items bytes) }
     requires within_limit { length (rc_slice_items bytes) ≤ MAX_LEN }
-    ensures form { IfOk result (λ node. node.value ≡ Node.Leaf bytes 0 (length (rc_slice_items bytes))
+    ensures form { IfOk result (λ node. node.value ≡ Node.Leaf (length (rc_slice_items bytes)) bytes 0
         (leaf_part (rc_slice_items bytes) 0 (length (rc_slice_items bytes)) ∷ [])) }
     ensures sound { IfOk result (λ node. IsSound node.value) }
     ensures depth { IfOk result (λ node. depth_of node.value ≡ 0) }
@@ -69,7 +69,7 @@ pub fn run(alloc: Global, byte: u8, len: u64) -> Result<Rc<Node>, AllocError>
 pub fn func(alloc: Global, id: SourceId, start: u64, len: u64) -> Result<Rc<Node>, AllocError>
     requires not_empty { 0 < len }
     requires within_limit { start + len ≤ MAX_LEN }
-    ensures form { IfOk result (λ node. node.value ≡ Node.Func id start len) }
+    ensures form { IfOk result (λ node. node.value ≡ Node.Func id len start) }
     ensures sound { IfOk result (λ node. IsSound node.value) }
     ensures depth { IfOk result (λ node. depth_of node.value ≡ 0) }
 {

@@ -11,22 +11,22 @@ use Rattle.cord_node.specs.Cords.{text, text_len, depth, parts_of, IsCord}
 
 -- it is a `Cat`
 abbrev pub is_cat : Node → Bool
-is_cat (Cat' mark depth p left q right len count) = true
+is_cat (Cat' mark depth len p left q right count) = true
 is_cat _ = false
 
 -- these are the sides of the node
 abbrev pub AreSides : Node → Node → Node → Type 0
-AreSides (Leaf bytes start len mark) a b = ⊥
+AreSides (Leaf len bytes start mark) a b = ⊥
 AreSides (Run byte len) a b = ⊥
-AreSides (Func id start len) a b = ⊥
-AreSides (Cat' mark depth p left q right len count) a b = (a ≡ left) × (b ≡ right)
+AreSides (Func id len start) a b = ⊥
+AreSides (Cat' mark depth len p left q right count) a b = (a ≡ left) × (b ≡ right)
 
 -- it is a `Cat`, and this holds of its sides
 abbrev pub SidesAre : (Node → Node → Type 0) → Node → Type 0
-SidesAre holds (Leaf bytes start len mark) = ⊥
+SidesAre holds (Leaf len bytes start mark) = ⊥
 SidesAre holds (Run byte len) = ⊥
-SidesAre holds (Func id start len) = ⊥
-SidesAre holds (Cat' mark depth p left q right len count) = holds left right
+SidesAre holds (Func id len start) = ⊥
+SidesAre holds (Cat' mark depth len p left q right count) = holds left right
 
 -- the range lies inside the node, which stays and is no less deep than what comes in the range's place
 pub record Takes (from until : ℕ) (middle : Option Node) (side : Node) : Type 0 where
