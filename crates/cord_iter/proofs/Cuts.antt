@@ -21,10 +21,10 @@ pub record IsCut (t : Table) (l r n : Node) : Type 0 where
   pub len : length (bytes_over t l) ≡ len_of l
 
 pub cut_of : (ls : Lengths) (t : Table) (p : Rc (Unit {0}) Global) (l : Node) (q : Rc (Unit {0}) Global) (r : Node) (len depth count : ℕ)
-    (mark : List Part) (n : Node) → n ≡ Cat' mark depth p l q r len count → IsSound n → FitsIn ls n → HasLengths ls t → IsCut t l r n
+    (mark : List Part) (n : Node) → n ≡ Cat' mark depth len p l q r count → IsSound n → FitsIn ls n → HasLengths ls t → IsCut t l r n
 cut_of ls t p l q r len depth count mark n e s f told =
-    let sound : IsSound (Cat' mark depth p l q r len count) = rw e at s in
-    let fits : FitsIn ls (Cat' mark depth p l q r len count) = rw e at f in
+    let sound : IsSound (Cat' mark depth len p l q r count) = rw e at s in
+    let fits : FitsIn ls (Cat' mark depth len p l q r count) = rw e at f in
     record { bytes = rw e refl; len = length-bytes_over t l sound.0 (Fits-told ls t l told fits.0) }
 
 -- from a place in the left one on

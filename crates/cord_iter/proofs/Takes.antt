@@ -59,8 +59,8 @@ func_range : (xs x y : List ℕ) (s a b : ℕ) → x ≡ take a (drop s xs) → 
 func_range xs x y s a b h k = rw (h, k) (sym (range_join xs s a b))
 
 pub func_text : {before keeps : Folder → Type 0} (table : Folder → Table) (id : SourceId) (s a b : ℕ) (x y : List ℕ) →
-    ((folder : Folder) → keeps folder → before folder) → IsTextOver before table (Func id s a) x →
-    IsTextOver keeps table (Func id (s + a) b) y → IsTextOver keeps table (Func id s (a + b)) (x ++ y)
+    ((folder : Folder) → keeps folder → before folder) → IsTextOver before table (Func id a s) x →
+    IsTextOver keeps table (Func id b (s + a)) y → IsTextOver keeps table (Func id (a + b) s) (x ++ y)
 func_text table id s a b x y earlier h k = record {
   len = length-append x y ∙ (let i : length x ≡ a = h.len in let j : length y ≡ b = k.len in omega arith);
   text = λ folder kept. func_range (table folder id.0) x y s a b (h.text folder (earlier folder kept)) (k.text folder kept);
@@ -77,8 +77,8 @@ range_front xs x y s a b n e h k =
     (rw h (front_join (take (a + b) (drop s xs)) (take a (drop s xs)) (take b (drop (s + a) xs)) y (range_join xs s a b) k))
 
 pub func_prefix : {before keeps : Folder → Type 0} (table : Folder → Table) (id : SourceId) (s a b n : ℕ) (x y : List ℕ) → a + b ≤ n →
-    ((folder : Folder) → keeps folder → before folder) → IsTextOver before table (Func id s a) x →
-    IsPrefixOver keeps table (Func id (s + a) b) y → IsPrefixOver keeps table (Func id s n) (x ++ y)
+    ((folder : Folder) → keeps folder → before folder) → IsTextOver before table (Func id a s) x →
+    IsPrefixOver keeps table (Func id b (s + a)) y → IsPrefixOver keeps table (Func id n s) (x ++ y)
 func_prefix table id s a b n x y e earlier h k = record {
   len = rw (length-append x y) (let i : length x ≡ a = h.len in let j : length y ≤ b = k.len in omega arith);
   front = λ folder kept. range_front (table folder id.0) x y s a b n e (h.text folder (earlier folder kept)) (k.front folder kept);
@@ -162,7 +162,7 @@ run_more a b c byte done count n k s t = appends_both a b c (replicate done byte
 
 -- the two sides of a node that is a concatenation
 pub cat_sides : (p : Rc (Unit {0}) Global) (l : Node) (q : Rc (Unit {0}) Global) (r : Node) (len depth count : ℕ) (mark : List Part) (n : Node) →
-    n ≡ Cat' mark depth p l q r len count → IsSound n → AreSides l r n
+    n ≡ Cat' mark depth len p l q r count → IsSound n → AreSides l r n
 cat_sides p l q r len depth count mark n e s =
-    let sound : IsSound (Cat' mark depth p l q r len count) = rw e at s in
+    let sound : IsSound (Cat' mark depth len p l q r count) = rw e at s in
     rw e (record { len = sound.2; bytes = λ t. refl })

@@ -110,9 +110,9 @@ fn put_func<S: Source, W: Sink>(
 ) -> Result<(), CordError>
     requires fits { start + len ≤ length_at (S.lengths src.old) id.0 }
     requires limit { start + len ≤ MAX_LEN }
-    ensures text { OnOk result (Takes (IsTextOver (S.keeps src.new) (S.table src.old) (Node.Func id start len))
+    ensures text { OnOk result (Takes (IsTextOver (S.keeps src.new) (S.table src.old) (Node.Func id len start))
         (W.taken sink.old) (W.taken sink.new)) }
-    ensures prefix { OnErr result (Takes (IsPrefixOver (S.keeps src.new) (S.table src.old) (Node.Func id start len))
+    ensures prefix { OnErr result (Takes (IsPrefixOver (S.keeps src.new) (S.table src.old) (Node.Func id len start))
         (W.taken sink.old) (W.taken sink.new)) }
     ensures faults { CountsFaults (failures_of ⟦<S as Source>⟧ ⟦<W as Sink>⟧ src.old sink.old)
         (failures_of ⟦<S as Source>⟧ ⟦<W as Sink>⟧ src.new sink.new) result }
@@ -142,9 +142,9 @@ fn put_range<const N: usize, S: Source, W: Sink>(
     requires few { N ≤ BLOCK_LEN }
     requires fits { start + len ≤ length_at (S.lengths src.old) id.0 }
     requires limit { start + len ≤ MAX_LEN }
-    ensures text { OnOk result (Takes (IsTextOver (S.keeps src.new) (S.table src.old) (Node.Func id start len))
+    ensures text { OnOk result (Takes (IsTextOver (S.keeps src.new) (S.table src.old) (Node.Func id len start))
         (W.taken sink.old) (W.taken sink.new)) }
-    ensures prefix { OnErr result (Takes (IsPrefixOver (S.keeps src.new) (S.table src.old) (Node.Func id start len))
+    ensures prefix { OnErr result (Takes (IsPrefixOver (S.keeps src.new) (S.table src.old) (Node.Func id len start))
         (W.taken sink.old) (W.taken sink.new)) }
     ensures faults { CountsFaults (failures_of ⟦<S as Source>⟧ ⟦<W as Sink>⟧ src.old sink.old)
         (failures_of ⟦<S as Source>⟧ ⟦<W as Sink>⟧ src.new sink.new) result }
@@ -172,10 +172,10 @@ fn put_piece<S: Source, W: Sink>(
     requires some { 0 < length piece.old }
     requires fits { start + length piece.old ≤ length_at (S.lengths src.old) id.0 }
     ensures text { OnOk result
-        (Takes (IsTextOver (S.keeps src.new) (S.table src.old) (Node.Func id start (length piece.old)))
+        (Takes (IsTextOver (S.keeps src.new) (S.table src.old) (Node.Func id (length piece.old) start))
         (W.taken sink.old) (W.taken sink.new)) }
     ensures prefix { OnErr result
-        (Takes (IsPrefixOver (S.keeps src.new) (S.table src.old) (Node.Func id start (length piece.old)))
+        (Takes (IsPrefixOver (S.keeps src.new) (S.table src.old) (Node.Func id (length piece.old) start))
         (W.taken sink.old) (W.taken sink.new)) }
     ensures faults { CountsFaults (failures_of ⟦<S as Source>⟧ ⟦<W as Sink>⟧ src.old sink.old)
         (failures_of ⟦<S as Source>⟧ ⟦<W as Sink>⟧ src.new sink.new) result }

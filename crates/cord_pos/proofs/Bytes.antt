@@ -24,10 +24,10 @@ pub record IsPartOf (lengths : Lengths) (n m : Node) : Type 0 where
 
 -- the part on a way is so
 pub part_of : (lengths : Lengths) (n : Node) (s i : ℕ) → IsSound n → IsPartOf lengths n (part_at n s i).0
-part_of lengths (Leaf bytes from len mark) s i h = record { part = refl; sound = h; fits = λ f. f }
+part_of lengths (Leaf len bytes from mark) s i h = record { part = refl; sound = h; fits = λ f. f }
 part_of lengths (Run byte len) s i h = record { part = refl; sound = h; fits = λ f. f }
-part_of lengths (Func id from len) s i h = record { part = refl; sound = h; fits = λ f. f }
-part_of lengths (Cat' mark depth p left q right len count) s i h =
+part_of lengths (Func id len from) s i h = record { part = refl; sound = h; fits = λ f. f }
+part_of lengths (Cat' mark depth len p left q right count) s i h =
     ⊎_elim
     (λ (k : i < len_of left).
     let m : IsPartOf lengths left (part_at left s i).0 = part_of lengths left s i h.0 in
@@ -60,10 +60,10 @@ slice_right (x ∷ xs) ys (suc i) h = let e : suc i - suc (length xs) ≡ i - le
 -- over a table that the node fits, the byte of the part is that of the node
 pub part_byte : (t : Table) (n : Node) (s i at b : ℕ) → at ≡ s + i → IsSound n → i < len_of n → Fits t n →
     HasByte t (part_at n s i).0 (at - (part_at n s i).1) b → HasByte t n i b
-part_byte t (Leaf bytes from len mark) s i at b z h k f e = let a : at - s ≡ i = omega arith in rw a at e
+part_byte t (Leaf len bytes from mark) s i at b z h k f e = let a : at - s ≡ i = omega arith in rw a at e
 part_byte t (Run byte len) s i at b z h k f e = let a : at - s ≡ i = omega arith in rw a at e
-part_byte t (Func id from len) s i at b z h k f e = let a : at - s ≡ i = omega arith in rw a at e
-part_byte t (Cat' mark depth p left q right len count) s i at b z h k f e =
+part_byte t (Func id len from) s i at b z h k f e = let a : at - s ≡ i = omega arith in rw a at e
+part_byte t (Cat' mark depth len p left q right count) s i at b z h k f e =
     let len-left : length (bytes_over t left) ≡ len_of left = length_bytes t left h.0 f.0 in
     ⊎_elim
     (λ (c : i < len_of left).

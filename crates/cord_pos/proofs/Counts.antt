@@ -13,10 +13,10 @@ use Rattle.cord_pos.proofs.Sides.{shared-parted_back}
 
 -- no part lies below the depth
 pub level_depth : (n : Node) (i : ℕ) → IsSound n → level n i ≤ depth_of n
-level_depth (Leaf bytes from len mark) i h = omega arith
+level_depth (Leaf len bytes from mark) i h = omega arith
 level_depth (Run byte len) i h = omega arith
-level_depth (Func id from len) i h = omega arith
-level_depth (Cat' mark depth p left q right len count) i h =
+level_depth (Func id len from) i h = omega arith
+level_depth (Cat' mark depth len p left q right count) i h =
     ⊎_elim
     (λ (k : i < len_of left). omega (arith, h.3, level-left p q left right len depth count mark i k, level_depth left i h.0))
     (λ (k : len_of left ≤ i). omega (arith, h.3, level-right p q left right len depth count mark i k, level_depth right (i - len_of left) h.1))
@@ -24,36 +24,36 @@ level_depth (Cat' mark depth p left q right len count) i h =
 
 -- no sound node is deeper than a cord may be
 pub depth_limit : (n : Node) → IsSound n → depth_of n ≤ MAX_DEPTH
-depth_limit (Leaf bytes from len mark) h = omega arith
+depth_limit (Leaf len bytes from mark) h = omega arith
 depth_limit (Run byte len) h = omega arith
-depth_limit (Func id from len) h = omega arith
-depth_limit (Cat' mark depth p left q right len count) h = h.5
+depth_limit (Func id len from) h = omega arith
+depth_limit (Cat' mark depth len p left q right count) h = h.5
 
 -- the way to the first part meets its occurrences first
 pub preorder_first : (n : Node) → IsSound n → preorder n 0 ≡ level n 0
-preorder_first (Leaf bytes from len mark) h = refl
+preorder_first (Leaf len bytes from mark) h = refl
 preorder_first (Run byte len) h = refl
-preorder_first (Func id from len) h = refl
-preorder_first (Cat' mark depth p left q right len count) h =
+preorder_first (Func id len from) h = refl
+preorder_first (Cat' mark depth len p left q right count) h =
     let k : 0 < len_of left = len_positive left h.0 in
     omega (arith, level-left p q left right len depth count mark 0 k, preorder-left p q left right len depth count mark 0 k, preorder_first left h.0)
 
 -- the last part is the last occurrence
 pub preorder_last : (n : Node) (i : ℕ) → IsSound n → i + 1 ≡ len_of n → preorder n i + 1 ≡ size n
-preorder_last (Leaf bytes from len mark) i h e = refl
+preorder_last (Leaf len bytes from mark) i h e = refl
 preorder_last (Run byte len) i h e = refl
-preorder_last (Func id from len) i h e = refl
-preorder_last (Cat' mark depth p left q right len count) i h e =
+preorder_last (Func id len from) i h e = refl
+preorder_last (Cat' mark depth len p left q right count) i h e =
     let a : 0 < len_of right = len_positive right h.1 in
     let k : len_of left ≤ i = omega (arith, h.2) in
     omega (arith, preorder-right p q left right len depth count mark i k, preorder_last right (i - len_of left) h.1 (omega (arith, h.2)))
 
 -- a part is one of the occurrences
 pub preorder_below : (n : Node) (i : ℕ) → preorder n i < size n
-preorder_below (Leaf bytes from len mark) i = omega arith
+preorder_below (Leaf len bytes from mark) i = omega arith
 preorder_below (Run byte len) i = omega arith
-preorder_below (Func id from len) i = omega arith
-preorder_below (Cat' mark depth p left q right len count) i =
+preorder_below (Func id len from) i = omega arith
+preorder_below (Cat' mark depth len p left q right count) i =
     ⊎_elim
     (λ (k : i < len_of left). omega (arith, preorder-left p q left right len depth count mark i k, preorder_below left i))
     (λ (k : len_of left ≤ i). omega (arith, preorder-right p q left right len depth count mark i k, preorder_below right (i - len_of left)))
@@ -61,18 +61,18 @@ preorder_below (Cat' mark depth p left q right len count) i =
 
 -- there are fewer occurrences than twice the bytes
 pub size_len : (n : Node) → IsSound n → size n + 1 ≤ 2 * len_of n
-size_len (Leaf bytes from len mark) h = omega (arith, h.0)
+size_len (Leaf len bytes from mark) h = omega (arith, h.0)
 size_len (Run byte len) h = omega (arith, h.0)
-size_len (Func id from len) h = omega (arith, h.0)
-size_len (Cat' mark depth p left q right len count) h = omega (arith, h.2, size_len left h.0, size_len right h.1)
+size_len (Func id len from) h = omega (arith, h.0)
+size_len (Cat' mark depth len p left q right count) h = omega (arith, h.2, size_len left h.0, size_len right h.1)
 
 -- to the next index: the preorder number grows by the steps below the deepest occurrence above both parts
 pub preorder_next : (n : Node) (i : ℕ) → IsSound n → i + 1 < len_of n → preorder n (i + 1) + shared_level n i (i + 1) ≡ preorder n i
     + level n (i + 1)
-preorder_next (Leaf bytes from len mark) i h e = refl
+preorder_next (Leaf len bytes from mark) i h e = refl
 preorder_next (Run byte len) i h e = refl
-preorder_next (Func id from len) i h e = refl
-preorder_next (Cat' mark depth p left q right len count) i h e =
+preorder_next (Func id len from) i h e = refl
+preorder_next (Cat' mark depth len p left q right count) i h e =
     ⊎_elim
     (λ (k : i + 1 < len_of left).
     let a : i < len_of left = omega arith in
@@ -88,9 +88,9 @@ preorder_next (Cat' mark depth p left q right len count) i h e =
     ⊎_elim
     (λ (a : i < len_of left).
     let z : i + 1 - len_of left ≡ 0 = omega arith in
-    let pr : preorder (Cat' mark depth p left q right len count) (i + 1) ≡ 1 + size left + preorder right 0 =
+    let pr : preorder (Cat' mark depth len p left q right count) (i + 1) ≡ 1 + size left + preorder right 0 =
     rw (← z) (preorder-right p q left right len depth count mark (i + 1) k) in
-    let lr : level (Cat' mark depth p left q right len count) (i + 1) ≡ 1 + level right 0 =
+    let lr : level (Cat' mark depth len p left q right count) (i + 1) ≡ 1 + level right 0 =
     rw (← z) (level-right p q left right len depth count mark (i + 1) k) in
     omega (
       arith,
@@ -119,10 +119,10 @@ preorder_next (Cat' mark depth p left q right len count) i h e =
 
 -- parts with one preorder number are one part, to which all steps are shared
 pub shared_same : (n : Node) (i j : ℕ) → preorder n i ≡ preorder n j → shared_level n i j ≡ level n j
-shared_same (Leaf bytes from len mark) i j e = refl
+shared_same (Leaf len bytes from mark) i j e = refl
 shared_same (Run byte len) i j e = refl
-shared_same (Func id from len) i j e = refl
-shared_same (Cat' mark depth p left q right len count) i j e =
+shared_same (Func id len from) i j e = refl
+shared_same (Cat' mark depth len p left q right count) i j e =
     ⊎_elim
     (λ (k : i < len_of left).
     ⊎_elim
@@ -162,10 +162,10 @@ shared_same (Cat' mark depth p left q right len count) i j e =
 
 -- no more steps are shared than lead to the second part
 pub shared_below : (n : Node) (i j : ℕ) → shared_level n i j ≤ level n j
-shared_below (Leaf bytes from len mark) i j = omega arith
+shared_below (Leaf len bytes from mark) i j = omega arith
 shared_below (Run byte len) i j = omega arith
-shared_below (Func id from len) i j = omega arith
-shared_below (Cat' mark depth p left q right len count) i j =
+shared_below (Func id len from) i j = omega arith
+shared_below (Cat' mark depth len p left q right count) i j =
     ⊎_elim
     (λ (k : i < len_of left).
     ⊎_elim

@@ -40,17 +40,17 @@ under_self root n s t h e f = rw (← e, ← f) (record { sound = h; from = omeg
 pub under_root : (root : Node) (s i : ℕ) (front rest : List Place) (n : Node) (t : ℕ) → IsSound root →
     way root s i ≡ front ++ (Some n, t) ∷ rest → IsUnder root s (length front) n t
 under_root root s i [] rest n t h e = let f : SamePlace root s n t = same_place root s n t (cc) in under_self root n s t h f.node f.start
-under_root (Leaf bytes from len mark) s i (x ∷ front) rest n t h e = absurd (not_empty front rest (Some n, t) (cc))
+under_root (Leaf len bytes from mark) s i (x ∷ front) rest n t h e = absurd (not_empty front rest (Some n, t) (cc))
 under_root (Run byte len) s i (x ∷ front) rest n t h e = absurd (not_empty front rest (Some n, t) (cc))
-under_root (Func id from len) s i (x ∷ front) rest n t h e = absurd (not_empty front rest (Some n, t) (cc))
-under_root (Cat' mark depth p left q right len count) s i (x ∷ front) rest n t h e =
+under_root (Func id len from) s i (x ∷ front) rest n t h e = absurd (not_empty front rest (Some n, t) (cc))
+under_root (Cat' mark depth len p left q right count) s i (x ∷ front) rest n t h e =
     ⊎_elim
     (λ (k : i < len_of left).
-    let b : below (Cat' mark depth p left q right len count) s i ≡ way left s i = below-left p q left right len depth count mark s i k in
+    let b : below (Cat' mark depth len p left q right count) s i ≡ way left s i = below-left p q left right len depth count mark s i k in
     let u : IsUnder left s (length front) n t = under_root left s i front rest n t h.0 (cc) in
     record { sound = u.sound; from = u.from; to = omega (arith, h.2); depth = omega (arith, h.3) })
     (λ (k : len_of left ≤ i).
-    let b : below (Cat' mark depth p left q right len count) s i ≡ way right (s + len_of left) (i - len_of left) =
+    let b : below (Cat' mark depth len p left q right count) s i ≡ way right (s + len_of left) (i - len_of left) =
     below-right p q left right len depth count mark s i k in
     let u : IsUnder right (s + len_of left) (length front) n t =
     under_root right (s + len_of left) (i - len_of left) front rest n t h.1 (cc) in
@@ -73,10 +73,10 @@ lies_outside n t at h k = grind (arith, nat_tests)
 -- where no place below the root holds the second index, the ways part at the root
 parted : (root : Node) (s i j at : ℕ) → at ≡ s + j → j < len_of root → IsSound root → NoneHolds at (below root s i) →
     shared_level root i j ≡ 0
-parted (Leaf bytes from len mark) s i j at z b h out = refl
+parted (Leaf len bytes from mark) s i j at z b h out = refl
 parted (Run byte len) s i j at z b h out = refl
-parted (Func id from len) s i j at z b h out = refl
-parted (Cat' mark depth p left q right len count) s i j at z b h out =
+parted (Func id len from) s i j at z b h out = refl
+parted (Cat' mark depth len p left q right count) s i j at z b h out =
     ⊎_elim
     (λ (k : i < len_of left).
     let out' : NoneHolds at (way left s i) = rw (below-left p q left right len depth count mark s i k) at out in
@@ -113,20 +113,20 @@ moved root s i j at [] rest n t z b h e g out =
     let r : rest ≡ below root s i = cc in
     let out' : NoneHolds at (below root s i) = rw r at out in
     moved_self root n s i j t at z (parted root s i j at z b h out') f.node f.start
-moved (Leaf bytes from len mark) s i j at (x ∷ front) rest n t z b h e g out = absurd (not_empty front rest (Some n, t) (cc))
+moved (Leaf len bytes from mark) s i j at (x ∷ front) rest n t z b h e g out = absurd (not_empty front rest (Some n, t) (cc))
 moved (Run byte len) s i j at (x ∷ front) rest n t z b h e g out = absurd (not_empty front rest (Some n, t) (cc))
-moved (Func id from len) s i j at (x ∷ front) rest n t z b h e g out = absurd (not_empty front rest (Some n, t) (cc))
-moved (Cat' mark depth p left q right len count) s i j at (x ∷ front) rest n t z b h e g out =
+moved (Func id len from) s i j at (x ∷ front) rest n t z b h e g out = absurd (not_empty front rest (Some n, t) (cc))
+moved (Cat' mark depth len p left q right count) s i j at (x ∷ front) rest n t z b h e g out =
     let l : LiesIn n t at = lies_in n t at g in
     ⊎_elim
     (λ (k : i < len_of left).
-    let f : below (Cat' mark depth p left q right len count) s i ≡ way left s i = below-left p q left right len depth count mark s i k in
+    let f : below (Cat' mark depth len p left q right count) s i ≡ way left s i = below-left p q left right len depth count mark s i k in
     let w : way left s i ≡ front ++ (Some n, t) ∷ rest = cc in
     let u : IsUnder left s (length front) n t = under_root left s i front rest n t h.0 w in
     let a : j < len_of left = omega arith in
     let m : IsMove left s i j front n t at = moved left s i j at front rest n t z a h.0 w g out in
     let mw : front ++ way n t (at - t) ≡ way left s j = m.way in
-    let fj : below (Cat' mark depth p left q right len count) s j ≡ way left s j = below-left p q left right len depth count mark s j a in
+    let fj : below (Cat' mark depth len p left q right count) s j ≡ way left s j = below-left p q left right len depth count mark s j a in
     record {
       way = cc;
       shared = omega (arith, m.shared, shared-left p q left right len depth count mark i j k a);
@@ -134,7 +134,7 @@ moved (Cat' mark depth p left q right len count) s i j at (x ∷ front) rest n t
       part = m.part ∙ sym (part_at-left p q left right len depth count mark s j a);
     })
     (λ (k : len_of left ≤ i).
-    let f : below (Cat' mark depth p left q right len count) s i ≡ way right (s + len_of left) (i - len_of left) =
+    let f : below (Cat' mark depth len p left q right count) s i ≡ way right (s + len_of left) (i - len_of left) =
     below-right p q left right len depth count mark s i k in
     let w : way right (s + len_of left) (i - len_of left) ≡ front ++ (Some n, t) ∷ rest = cc in
     let u : IsUnder right (s + len_of left) (length front) n t =
@@ -144,7 +144,7 @@ moved (Cat' mark depth p left q right len count) s i j at (x ∷ front) rest n t
     moved right (s + len_of left) (i - len_of left) (j - len_of left) at front rest n t (omega arith)
     (omega (arith, h.2)) h.1 w g out in
     let mw : front ++ way n t (at - t) ≡ way right (s + len_of left) (j - len_of left) = m.way in
-    let fj : below (Cat' mark depth p left q right len count) s j ≡ way right (s + len_of left) (j - len_of left) =
+    let fj : below (Cat' mark depth len p left q right count) s j ≡ way right (s + len_of left) (j - len_of left) =
     below-right p q left right len depth count mark s j a in
     record {
       way = cc;

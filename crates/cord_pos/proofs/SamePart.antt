@@ -19,19 +19,19 @@ pub record HasRange (n : Node) (s i : ℕ) : Type 0 where
 
 -- the part on the way to an index holds it
 pub has_range : (n : Node) (s i : ℕ) → IsSound n → i < len_of n → HasRange n s i
-has_range (Leaf bytes from len mark) s i h k = record { from = omega arith; to = omega arith; first = omega arith; last = omega arith }
+has_range (Leaf len bytes from mark) s i h k = record { from = omega arith; to = omega arith; first = omega arith; last = omega arith }
 has_range (Run byte len) s i h k = record { from = omega arith; to = omega arith; first = omega arith; last = omega arith }
-has_range (Func id from len) s i h k = record { from = omega arith; to = omega arith; first = omega arith; last = omega arith }
-has_range (Cat' mark depth p left q right len count) s i h k =
+has_range (Func id len from) s i h k = record { from = omega arith; to = omega arith; first = omega arith; last = omega arith }
+has_range (Cat' mark depth len p left q right count) s i h k =
     ⊎_elim
     (λ (a : i < len_of left).
     let r : HasRange left s i = has_range left s i h.0 a in
-    let e : part_at (Cat' mark depth p left q right len count) s i ≡ part_at left s i = part_at-left p q left right len depth count mark s i a in
+    let e : part_at (Cat' mark depth len p left q right count) s i ≡ part_at left s i = part_at-left p q left right len depth count mark s i a in
     record { from = rw e r.from; to = rw e (omega (arith, h.2, r.to)); first = rw e r.first; last = rw e r.last })
     (λ (a : len_of left ≤ i).
     let r : HasRange right (s + len_of left) (i - len_of left) =
     has_range right (s + len_of left) (i - len_of left) h.1 (omega (arith, h.2)) in
-    let e : part_at (Cat' mark depth p left q right len count) s i ≡ part_at right (s + len_of left) (i - len_of left) =
+    let e : part_at (Cat' mark depth len p left q right count) s i ≡ part_at right (s + len_of left) (i - len_of left) =
     part_at-right p q left right len depth count mark s i a in
     record {
       from = rw e (omega (arith, r.from));
@@ -50,21 +50,21 @@ pub record IsSamePart (n : Node) (s i j : ℕ) : Type 0 where
 -- an index inside the part of another has its way
 pub same_part : (n : Node) (s i j at : ℕ) → at ≡ s + j → IsSound n → i < len_of n → (part_at n s i).1 ≤ at →
     at < (part_at n s i).1 + len_of (part_at n s i).0 → IsSamePart n s i j
-same_part (Leaf bytes from len mark) s i j at z h k a b = record { way = refl; part = refl; preorder = refl }
+same_part (Leaf len bytes from mark) s i j at z h k a b = record { way = refl; part = refl; preorder = refl }
 same_part (Run byte len) s i j at z h k a b = record { way = refl; part = refl; preorder = refl }
-same_part (Func id from len) s i j at z h k a b = record { way = refl; part = refl; preorder = refl }
-same_part (Cat' mark depth p left q right len count) s i j at z h k a b =
+same_part (Func id len from) s i j at z h k a b = record { way = refl; part = refl; preorder = refl }
+same_part (Cat' mark depth len p left q right count) s i j at z h k a b =
     ⊎_elim
     (λ (c : i < len_of left).
     let r : HasRange left s i = has_range left s i h.0 c in
-    let e : part_at (Cat' mark depth p left q right len count) s i ≡ part_at left s i = part_at-left p q left right len depth count mark s i c in
+    let e : part_at (Cat' mark depth len p left q right count) s i ≡ part_at left s i = part_at-left p q left right len depth count mark s i c in
     let a' : (part_at left s i).1 ≤ at = rw (← e) a in
     let b' : at < (part_at left s i).1 + len_of (part_at left s i).0 = rw (← e) b in
     let d : j < len_of left = omega (arith, r.to, b') in
     let m : IsSamePart left s i j = same_part left s i j at z h.0 c a' b' in
     let mw : way left s j ≡ way left s i = m.way in
-    let wi : below (Cat' mark depth p left q right len count) s i ≡ way left s i = below-left p q left right len depth count mark s i c in
-    let wj : below (Cat' mark depth p left q right len count) s j ≡ way left s j = below-left p q left right len depth count mark s j d in
+    let wi : below (Cat' mark depth len p left q right count) s i ≡ way left s i = below-left p q left right len depth count mark s i c in
+    let wj : below (Cat' mark depth len p left q right count) s j ≡ way left s j = below-left p q left right len depth count mark s j d in
     record {
       way = cc;
       part = part_at-left p q left right len depth count mark s j d ∙ m.part ∙ sym e;
@@ -78,7 +78,7 @@ same_part (Cat' mark depth p left q right len count) s i j at z h k a b =
     (λ (c : len_of left ≤ i).
     let r : HasRange right (s + len_of left) (i - len_of left) =
     has_range right (s + len_of left) (i - len_of left) h.1 (omega (arith, h.2)) in
-    let e : part_at (Cat' mark depth p left q right len count) s i ≡ part_at right (s + len_of left) (i - len_of left) =
+    let e : part_at (Cat' mark depth len p left q right count) s i ≡ part_at right (s + len_of left) (i - len_of left) =
     part_at-right p q left right len depth count mark s i c in
     let a' : (part_at right (s + len_of left) (i - len_of left)).1 ≤ at = rw (← e) a in
     let b' : at < (part_at right (s + len_of left) (i - len_of left)).1 + len_of (part_at right (s + len_of left) (i - len_of left)).0 =
@@ -87,9 +87,9 @@ same_part (Cat' mark depth p left q right len count) s i j at z h k a b =
     let m : IsSamePart right (s + len_of left) (i - len_of left) (j - len_of left) =
     same_part right (s + len_of left) (i - len_of left) (j - len_of left) at (omega arith) h.1 (omega (arith, h.2)) a' b' in
     let mw : way right (s + len_of left) (j - len_of left) ≡ way right (s + len_of left) (i - len_of left) = m.way in
-    let wi : below (Cat' mark depth p left q right len count) s i ≡ way right (s + len_of left) (i - len_of left) =
+    let wi : below (Cat' mark depth len p left q right count) s i ≡ way right (s + len_of left) (i - len_of left) =
     below-right p q left right len depth count mark s i c in
-    let wj : below (Cat' mark depth p left q right len count) s j ≡ way right (s + len_of left) (j - len_of left) =
+    let wj : below (Cat' mark depth len p left q right count) s j ≡ way right (s + len_of left) (j - len_of left) =
     below-right p q left right len depth count mark s j d in
     record {
       way = cc;
@@ -105,10 +105,10 @@ same_part (Cat' mark depth p left q right len count) s i j at z h k a b =
 
 -- indices with one preorder number are in one part
 pub same_number : (n : Node) (s i j : ℕ) → preorder n i ≡ preorder n j → part_at n s j ≡ part_at n s i
-same_number (Leaf bytes from len mark) s i j e = refl
+same_number (Leaf len bytes from mark) s i j e = refl
 same_number (Run byte len) s i j e = refl
-same_number (Func id from len) s i j e = refl
-same_number (Cat' mark depth p left q right len count) s i j e =
+same_number (Func id len from) s i j e = refl
+same_number (Cat' mark depth len p left q right count) s i j e =
     ⊎_elim
     (λ (k : i < len_of left).
     let pi = preorder-left p q left right len depth count mark i k in

@@ -32,10 +32,10 @@ same_side m o l k e = let f : ◌≡◌ {A = Node × ℕ} (m, o) (l, k) = cc in
 
 -- a side that a step leads to is so
 pub is_side : (n : Node) (i : ℕ) (m : Node) (o : ℕ) → IsSound n → i < len_of n → side_at n i ≡ Some (m, o) → IsSide n i m o
-is_side (Leaf bytes s len mark) i m o h k e = absurd (cc)
+is_side (Leaf len bytes s mark) i m o h k e = absurd (cc)
 is_side (Run byte len) i m o h k e = absurd (cc)
-is_side (Func id s len) i m o h k e = absurd (cc)
-is_side (Cat' mark depth p left q right len count) i m o h k e =
+is_side (Func id len s) i m o h k e = absurd (cc)
+is_side (Cat' mark depth len p left q right count) i m o h k e =
     ⊎_elim
     (λ (a : i < len_of left).
     let f : ◌≡◌ {A = Option (Node × ℕ)} (Some (left, 0)) (Some (m, o)) = rw (lt-ltb i (len_of left) a) at e in
@@ -74,10 +74,10 @@ pub record EndsAt (n : Node) (start i : ℕ) : Type 0 where
 
 -- where no step leads on
 pub ends_at_part : (n : Node) (start i : ℕ) → side_at n i ≡ None → EndsAt n start i
-ends_at_part (Leaf bytes s len mark) start i h = record { below = refl; level = refl; part = refl }
+ends_at_part (Leaf len bytes s mark) start i h = record { below = refl; level = refl; part = refl }
 ends_at_part (Run byte len) start i h = record { below = refl; level = refl; part = refl }
-ends_at_part (Func id s len) start i h = record { below = refl; level = refl; part = refl }
-ends_at_part (Cat' mark depth p left q right len count) start i h =
+ends_at_part (Func id len s) start i h = record { below = refl; level = refl; part = refl }
+ends_at_part (Cat' mark depth len p left q right count) start i h =
     ⊎_elim
     (λ (a : i < len_of left). let f : ◌≡◌ {A = Option (Node × ℕ)} (Some (left, 0)) None = rw (lt-ltb i (len_of left) a) at h in absurd (cc))
     (λ (a : len_of left ≤ i). let f : ◌≡◌ {A = Option (Node × ℕ)} (Some (right, len_of left)) None = rw (not_less i (len_of left) a) at h in

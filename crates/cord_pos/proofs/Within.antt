@@ -51,31 +51,31 @@ within_on n place m at l to v w = record {
 
 -- a concatenation is as long as its two sides
 pub cat_len : (m : Node) (p : Rc (Unit {0}) Global) (l : Node) (q : Rc (Unit {0}) Global) (r : Node) (len depth count : ℕ) (mark : List Part) →
-    m ≡ Cat' mark depth p l q r len count → IsSound m → len_of m ≡ len_of l + len_of r
-cat_len m p l q r len depth count mark e s = let v : IsSound (Cat' mark depth p l q r len count) = rw e at s in ap len_of e ∙ v.2
+    m ≡ Cat' mark depth len p l q r count → IsSound m → len_of m ≡ len_of l + len_of r
+cat_len m p l q r len depth count mark e s = let v : IsSound (Cat' mark depth len p l q r count) = rw e at s in ap len_of e ∙ v.2
 
 -- each side is shorter
 pub left_shorter : (m : Node) (p : Rc (Unit {0}) Global) (l : Node) (q : Rc (Unit {0}) Global) (r : Node) (len depth count : ℕ)
-    (mark : List Part) → m ≡ Cat' mark depth p l q r len count → IsSound m → len_of l < len_of m
+    (mark : List Part) → m ≡ Cat' mark depth len p l q r count → IsSound m → len_of l < len_of m
 left_shorter m p l q r len depth count mark e s =
-    let v : IsSound (Cat' mark depth p l q r len count) = rw e at s in
+    let v : IsSound (Cat' mark depth len p l q r count) = rw e at s in
     let some : 0 < len_of r = len_positive r v.1 in
     let both : len_of m ≡ len_of l + len_of r = cat_len m p l q r len depth count mark e s in
     omega (arith, some, both)
 
 pub right_shorter : (m : Node) (p : Rc (Unit {0}) Global) (l : Node) (q : Rc (Unit {0}) Global) (r : Node) (len depth count : ℕ)
-    (mark : List Part) → m ≡ Cat' mark depth p l q r len count → IsSound m → len_of r < len_of m
+    (mark : List Part) → m ≡ Cat' mark depth len p l q r count → IsSound m → len_of r < len_of m
 right_shorter m p l q r len depth count mark e s =
-    let v : IsSound (Cat' mark depth p l q r len count) = rw e at s in
+    let v : IsSound (Cat' mark depth len p l q r count) = rw e at s in
     let some : 0 < len_of l = len_positive l v.0 in
     let both : len_of m ≡ len_of l + len_of r = cat_len m p l q r len depth count mark e s in
     omega (arith, some, both)
 
 -- and so is the left side of what is within
 pub within_left : (n : Node) (place : ℕ) (m : Node) (at : ℕ) (p : Rc (Unit {0}) Global) (l : Node) (q : Rc (Unit {0}) Global) (r : Node)
-    (len depth count : ℕ) (mark : List Part) → m ≡ Cat' mark depth p l q r len count → IsWithin n place m at → IsWithin n place l at
+    (len depth count : ℕ) (mark : List Part) → m ≡ Cat' mark depth len p l q r count → IsWithin n place m at → IsWithin n place l at
 within_left n place m at p l q r len depth count mark e w =
-    let v : IsWithin n place (Cat' mark depth p l q r len count) at = rw e at w in
+    let v : IsWithin n place (Cat' mark depth len p l q r count) at = rw e at w in
     let long : len ≡ len_of l + len_of r = v.sound.2 in
     record {
       offset = v.offset;
@@ -90,10 +90,10 @@ within_left n place m at p l q r len depth count mark e w =
 
 -- and the right side
 pub within_right : (n : Node) (place : ℕ) (m : Node) (at next : ℕ) (p : Rc (Unit {0}) Global) (l : Node) (q : Rc (Unit {0}) Global)
-    (r : Node) (len depth count : ℕ) (mark : List Part) → m ≡ Cat' mark depth p l q r len count → at ≡ len_of l + next → IsWithin n place m at →
+    (r : Node) (len depth count : ℕ) (mark : List Part) → m ≡ Cat' mark depth len p l q r count → at ≡ len_of l + next → IsWithin n place m at →
     IsWithin n place r next
 within_right n place m at next p l q r len depth count mark e seam w =
-    let v : IsWithin n place (Cat' mark depth p l q r len count) at = rw e at w in
+    let v : IsWithin n place (Cat' mark depth len p l q r count) at = rw e at w in
     let long : len ≡ len_of l + len_of r = v.sound.2 in
     record {
       offset = v.offset + len_of l;
@@ -162,7 +162,7 @@ run_stretch m s byte len at k e h some count bytes fits =
     }
 
 -- a range of an entry
-pub func_stretch : (m : Node) (s : Stretch) (id : SourceId) (start len from at k : ℕ) → m ≡ Func id start len → IsSound m →
+pub func_stretch : (m : Node) (s : Stretch) (id : SourceId) (start len from at k : ℕ) → m ≡ Func id len start → IsSound m →
     from ≡ start + at → at + k ≤ len → 0 < k → stretch_len s ≡ k → ((t : Table) → stretch_bytes t s ≡ take k (drop from (t id.0))) →
     ((lengths : Lengths) → (from + k ≤ length_at lengths id.0) × (from + k ≤ MAX_LEN) → StretchFitsIn lengths s) → IsStretchAt m at s
 func_stretch m s id start len from at k e sound f h some count bytes fits =
@@ -179,11 +179,11 @@ func_stretch m s id start len from at k e sound f h some count bytes fits =
 
 -- an index of a node is one of the part that holds it
 pub part_within : (n : Node) (s i at : ℕ) → at ≡ s + i → IsSound n → i < len_of n → IsWithin n i (part_at n s i).0 (at - (part_at n s i).1)
-part_within (Leaf bytes from len mark) s i at z h k = let a : at - s ≡ i = omega arith in rw a (within_self (Leaf bytes from len mark) i h)
+part_within (Leaf len bytes from mark) s i at z h k = let a : at - s ≡ i = omega arith in rw a (within_self (Leaf len bytes from mark) i h)
 part_within (Run byte len) s i at z h k = let a : at - s ≡ i = omega arith in rw a (within_self (Run byte len) i h)
-part_within (Func id from len) s i at z h k = let a : at - s ≡ i = omega arith in rw a (within_self (Func id from len) i h)
-part_within (Cat' mark depth p left q right len count) s i at z h k =
-    let n : Node = Cat' mark depth p left q right len count in
+part_within (Func id len from) s i at z h k = let a : at - s ≡ i = omega arith in rw a (within_self (Func id len from) i h)
+part_within (Cat' mark depth len p left q right count) s i at z h k =
+    let n : Node = Cat' mark depth len p left q right count in
     ⊎_elim
     (λ (a : i < len_of left).
     let w : IsWithin n i left i = within_left n i n i p left q right len depth count mark refl (within_self n i h) in

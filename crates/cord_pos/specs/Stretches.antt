@@ -75,7 +75,7 @@ IsRestBehind _ _ _ = ⊤
 
 -- the node is no concatenation
 abbrev pub is_part : Node → Bool
-is_part (Leaf bytes start len mark) = true
+is_part (Leaf len bytes start mark) = true
 is_part (Run byte len) = true
-is_part (Func id start len) = true
-is_part (Cat' mark depth p left q right len count) = false
+is_part (Func id len start) = true
+is_part (Cat' mark depth len p left q right count) = false

@@ -27,17 +27,17 @@ places os = map place_of os
 
 -- the side of a node that holds its index `i`, and where the side begins in the node's text: none of a part
 abbrev pub side_at : Node → ℕ → Option (Node × ℕ)
-side_at (Leaf bytes s len mark) i = None
+side_at (Leaf len bytes s mark) i = None
 side_at (Run byte len) i = None
-side_at (Func id s len) i = None
-side_at (Cat' mark depth p left q right len count) i = if nat_lt i (len_of left) then Some (left, 0) else Some (right, len_of left)
+side_at (Func id len s) i = None
+side_at (Cat' mark depth len p left q right count) i = if nat_lt i (len_of left) then Some (left, 0) else Some (right, len_of left)
 
 -- the places below a node that begins at `start`, down to the part that holds the index `i` of the node
 abbrev pub below : Node → ℕ → ℕ → List Place
-below (Leaf bytes s len mark) start i = []
+below (Leaf len bytes s mark) start i = []
 below (Run byte len) start i = []
-below (Func id s len) start i = []
-below (Cat' mark depth p left q right len count) start i = if nat_lt i (len_of left) then (Some left, start)
+below (Func id len s) start i = []
+below (Cat' mark depth len p left q right count) start i = if nat_lt i (len_of left) then (Some left, start)
     ∷ below left start i else (Some right, start + len_of left) ∷ below right (start + len_of left) (i - len_of left)
 
 -- the same, with the node's own place first
@@ -46,10 +46,10 @@ way n start i = (Some n, start) ∷ below n start i
 
 -- the part that holds the index `i` of a node that begins at `start`, and where the part begins
 abbrev pub part_at : Node → ℕ → ℕ → Node × ℕ
-part_at (Leaf bytes s len mark) start i = (Leaf bytes s len mark, start)
+part_at (Leaf len bytes s mark) start i = (Leaf len bytes s mark, start)
 part_at (Run byte len) start i = (Run byte len, start)
-part_at (Func id s len) start i = (Func id s len, start)
-part_at (Cat' mark depth p left q right len count) start i = if nat_lt i (len_of left) then part_at left start i else part_at right
+part_at (Func id len s) start i = (Func id len s, start)
+part_at (Cat' mark depth len p left q right count) start i = if nat_lt i (len_of left) then part_at left start i else part_at right
     (start + len_of left) (i - len_of left)
 
 -- the node at a place holds this index of the root's text

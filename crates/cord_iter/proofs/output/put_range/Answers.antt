@@ -14,7 +14,7 @@ returns-in_err-put_piece-clause-prefix g c =
     let room : count ≤ length c.loop-done.buffer = subst (λ n. count ≤ n) (sym c.loop-done.invariant.room) c.piece_len-count.ensures.most in
     let whole : length (take count c.loop-done.buffer) ≡ count = length-take-le count c.loop-done.buffer room in
     let inside : done + count ≤ c.args.len = omega (arith, c.piece_len-count.ensures.inside) in
-    let piece : Takes (IsPrefixOver (g.S.Source.keeps c.put_piece.new.src) table (Func c.args.id (c.args.start + done) count))
+    let piece : Takes (IsPrefixOver (g.S.Source.keeps c.put_piece.new.src) table (Func c.args.id count (c.args.start + done)))
     (g.W.Sink.taken c.loop-done.sink) (g.W.Sink.taken c.put_piece.new.sink) =
     rw (c.loop-done.invariant.table, whole) at c.in_err-put_piece.ensures.prefix in
     on_err c.from_residual.result (takes_both c.loop-done.invariant.taken piece
@@ -27,7 +27,7 @@ loop-done-preserved g c =
     let count = c.piece_len-count.result in
     let room : count ≤ length c.loop-done.buffer = subst (λ n. count ≤ n) (sym c.loop-done.invariant.room) c.piece_len-count.ensures.most in
     let whole : length (take count c.loop-done.buffer) ≡ count = length-take-le count c.loop-done.buffer room in
-    let piece : Takes (IsTextOver (g.S.Source.keeps c.put_piece.new.src) table (Func c.args.id (c.args.start + done) count))
+    let piece : Takes (IsTextOver (g.S.Source.keeps c.put_piece.new.src) table (Func c.args.id count (c.args.start + done)))
     (g.W.Sink.taken c.loop-done.sink) (g.W.Sink.taken c.put_piece.new.sink) =
     rw (c.loop-done.invariant.table, whole) at c.in_ok-put_piece.ensures.text in
     record {

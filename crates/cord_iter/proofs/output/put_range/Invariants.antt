@@ -10,7 +10,7 @@ abbrev pub invariant-loop-done : goal.invariant-loop-done
 invariant-loop-done g l = record {
   in_range : l.done ≤ l.len;
   room : length l.buffer ≡ g.row.N;
-  taken : Takes (IsTextOver (g.S.Source.keeps l.src) (g.S.Source.table l.initial.src) (Func l.id l.start l.done))
+  taken : Takes (IsTextOver (g.S.Source.keeps l.src) (g.S.Source.table l.initial.src) (Func l.id l.done l.start))
       (g.W.Sink.taken l.initial.sink) (g.W.Sink.taken l.sink);
   reads : g.S.Source.failures l.src ≡ g.S.Source.failures l.initial.src;
   puts : g.W.Sink.failures l.sink ≡ g.W.Sink.failures l.initial.sink;
