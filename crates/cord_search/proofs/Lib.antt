@@ -1,6 +1,7 @@
 pub mod Lanes
 pub mod Ranges
 pub mod Sharing
+pub mod Ways
 pub mod Finding
 pub mod Comparing
 pub mod Standing

@@ -1,5 +1,5 @@
 -- What two texts share is the same in both.
-use Rattle.std.proofs.Common.{◌≡◌, ℕ, ◌+◌, ◌<◌, ◌≤◌, List, length, ◌++◌, map, take, drop, Some, sym, subst, ◌∙◌, ap, arith}
+use Rattle.std.proofs.Common.{◌≡◌, ℕ, ◌+◌, ◌<◌, ◌≤◌, List, length, ◌++◌, map, take, drop, Some, sym, ◌∙◌, ap, arith}
 use Rattle.std.specs.Prelude.{Option}
 use Rattle.std.proofs.Math.Seq.{take-add}
 use Rattle.std.proofs.lemmas.List.{take-take, drop-drop}
@@ -11,20 +11,11 @@ use Rattle.cord_node.proofs.TableLemmas.{bytes-cells}
 use Rattle.cord_core.specs.Cord.{bytes_of, CordFitsIn, CordFits}
 use Rattle.cord_pos.specs.Stretches.{stretch_len, stretch_bytes, IsStretchOf, IsFrontOf}
 use Rattle.cord_pos.specs.inner.Stretches.{IsWithin}
-use Rattle.cord_search.specs.inner.Ahead.{IsSpotOf, AreAlike}
+use Rattle.cord_search.specs.inner.Ahead.{AreAlike}
 use Rattle.cord_search.specs.inner.Pieces.{AreSame, IsPieceOf}
 use Rattle.cord_search.specs.inner.Stretches.{BeginAlike, IsPartOf}
-use Rattle.cord_search.specs.declared.ahead.Spot.{Spot}
 use Rattle.cord_pos.specs.declared.stretch.Stretch.{Stretch}
 use Rattle.cord_search.proofs.Ranges.{cord_told, front_within}
-
--- what holds of a spot's node and place holds of the cord's
-pub on_cord : (c : Option Node) (place : ℕ) (s : Spot) (P : Option Node → ℕ → Type 0) → IsSpotOf c place s → P (Some s.node.now) s.place →
-    P c place
-on_cord c place s P is h =
-    let Q : Option Node → Type 0 = λ d. P d place in
-    let R : ℕ → Type 0 = λ i. P (Some s.node.now) i in
-    subst Q (sym is.0) (subst R is.1 h)
 
 -- the bytes from a place of a node are those of what is within
 within_bytes : (n : Node) (place : ℕ) (m : Node) (at k : ℕ) (t : Table) → (w : IsWithin n place m at) → Fits t n → at + k ≤ len_of m →
@@ -45,30 +36,6 @@ front : (t : Table) (c : Option Node) (place : ℕ) (s : Stretch) (k : ℕ) → 
     take k (drop place (bytes_of t c)) ≡ take k (stretch_bytes t s)
 front t c place s k f h le = sym (take-take k (stretch_len s) (drop place (bytes_of t c)) le)
     ∙ ap (λ (ys : List ℕ). take k ys) (sym (h.text t f))
-
--- what two nodes have in common that are within two others, those have too
-pub within_alike : (n : Node) (i : ℕ) (m : Node) (a : ℕ) (o : Node) (j : ℕ) (l : Node) (b k : ℕ) → IsWithin n i m a → IsWithin o j l b →
-    a + k ≤ len_of m → b + k ≤ len_of l → AreAlike (Some m) a (Some l) b k → AreAlike (Some n) i (Some o) j k
-within_alike n i m a o j l b k v w p q h = λ t f g.
-    within_bytes n i m a k t v f p ∙ h t (v.fits (lengths_of t) f) (w.fits (lengths_of t) g) ∙ sym (within_bytes o j l b k t w g q)
-
--- the first bytes are the same, and the next ones too
-pub alike_add : (c : Option Node) (i : ℕ) (d : Option Node) (j k n : ℕ) → AreAlike c i d j k → AreAlike c (i + k) d (j + k) n →
-    AreAlike c i d j (k + n)
-alike_add c i d j k n h g = λ t f e.
-    let u = drop i (bytes_of t c) in
-    let v = drop j (bytes_of t d) in
-    let next : take n (drop k u) ≡ take n (drop k v) =
-    ap (λ (ys : List ℕ). take n ys) (drop-drop k i (bytes_of t c)) ∙ g t f e
-    ∙ ap (λ (ys : List ℕ). take n ys) (sym (drop-drop k j (bytes_of t d))) in
-    take-add k n u ∙ ap (λ (zs : List ℕ). zs ++ take n (drop k u)) (h t f e) ∙ ap (λ (zs : List ℕ). take k v ++ zs) next
-    ∙ sym (take-add k n v)
-
--- two stretches of the same bytes
-pub same_begin : (s other : Stretch) (xs ys : List ℕ) → ((t : Table) → stretch_bytes t s ≡ xs) →
-    ((t : Table) → stretch_bytes t other ≡ ys) →
-    xs ≡ ys → BeginAlike s other
-same_begin s other xs ys e f h = λ t n le more. ap (λ (zs : List ℕ). take n zs) (e t ∙ h ∙ sym (f t))
 
 -- stretches that begin alike
 pub stretches_alike : (c : Option Node) (i : ℕ) (d : Option Node) (j : ℕ) (s other : Stretch) (k : ℕ) → IsStretchOf c i s →

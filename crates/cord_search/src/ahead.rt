@@ -1,22 +1,34 @@
 // What two texts have at two places: bytes that both share, or a stretch of each.
-ghost use Rattle.std.specs.Prelude.{◌≡◌, ◌+◌, ◌<◌, ◌≤◌, true, IfSome, Some};
+ghost use Rattle.std.specs.Prelude.{◌≡◌, ◌+◌, ◌-◌, ◌<◌, ◌≤◌, true, Option, None, IfSome, IfNone};
+ghost use Rattle.arrayvec.specs.ArrayVec.{array_vec_len};
 ghost use Rattle.cord_core.specs.Cord.{text_len};
-ghost use Rattle.cord_node.specs.Tree.{len_of};
+ghost use Rattle.cord_node.specs.declared.Node.{Node as Tree};
+ghost use Rattle.cord_node.specs.Tree.{len_of, depth_of};
+ghost use Rattle.cord_pos.specs.Stretches.{is_part, IsStretchAt};
 ghost use Rattle.cord_pos.specs.inner.Stretches.{IsWithin};
-ghost use Rattle.cord_search.specs.inner.Ahead.{IsSpot, IsSpotOf, AreOneSpot, AreAlike, IsAhead};
+ghost use Rattle.cord_search.specs.inner.Ahead.{IsOn, AreOne, IsStopAt, IsWay, IsAhead};
 
-use crate::stretches::{begin_alike, hold_same, stretch_at};
+use crate::stretches::begin_alike;
+use arrayvec::ArrayVec;
 use cord_core::{Cord, Node};
+use cord_io::MAX_DEPTH;
 use cord_pos::Stretch;
 
-// While leaves of two texts are compared, the way to the next ones begins at nodes of at most so many bytes.
-const NEAR_LEN: u64 = 131_072;
+// The most nodes on a way: a root, and a step for each level below it.
+const WAY_LEN: usize = MAX_DEPTH as usize + 1;
 
-/// A place of a node's text.
+/// A node of a cord, and where its text begins and ends in the cord's.
 #[derive(Clone, Copy)]
-pub(crate) struct Spot<'a> {
+pub(crate) struct Stop<'a> {
     pub(crate) node: &'a Node,
-    pub(crate) place: u64,
+    pub(crate) start: u64,
+    pub(crate) end: u64,
+}
+
+/// The nodes on the way from the root of a cord to a place of its text, as far down as it was gone.
+#[derive(Drop)]
+pub(crate) struct Way<'a> {
+    stops: ArrayVec<Option<Stop<'a>>, WAY_LEN>,
 }
 
 /// What two texts have at two places.
@@ -27,191 +39,191 @@ pub(crate) enum Ahead<'a> {
     Apart(Stretch<'a>, Stretch<'a>),
 }
 
-impl<'a> Spot<'a> {
-    /// Whether the two are one place of one node.
-    fn is_same(self, other: Spot) -> bool
-        requires sound { IsSpot self × IsSpot other }
-        ensures { result ≡ true → AreOneSpot self.entry other.entry }
+impl<'a> Stop<'a> {
+    /// Whether two nodes are one, and two places are one of it.
+    fn is_same(self, at: u64, other: Stop, beside: u64) -> bool
+        requires on { IsOn self at }
+        requires other_on { IsOn other beside }
+        ensures { result ≡ true → AreOne self.entry at other.entry beside }
     {
-        self.place == other.place
-            && self.node.len() == other.node.len()
+        at - self.start == beside - other.start
+            && self.end - self.start == other.end - other.start
             && self.node.same(other.node)
     }
 
-    /// The same place in the side of a concatenation that holds it.
-    fn side(self) -> Option<Spot<'a>>
-        requires { IsSpot self }
-        ensures spot { IfSome result (λ side. IsSpot side) }
+    /// The side of a concatenation that holds a place of the cord.
+    fn side(self, at: u64) -> Option<Stop<'a>>
+        requires { IsOn self at }
+        ensures on { IfSome result (λ side. IsOn side at) }
         ensures within { IfSome result (λ side.
-            IsWithin self.entry.node.now self.entry.place side.node.now side.place) }
+            IsWithin self.entry.node.now (at - self.entry.start) side.node.now (at - side.start)) }
         ensures shorter { IfSome result (λ side. len_of side.node.now < len_of self.entry.node.now) }
+        ensures lower { IfSome result (λ side. depth_of side.node.now < depth_of self.entry.node.now) }
+        ensures part { result ≡ None → is_part self.entry.node.now ≡ true }
     {
         let Node::Cat { left, right, .. } = self.node else {
             return None;
         };
-        let seam = left.len();
-        if self.place < seam {
-            return Some(Spot {
+        let seam = self.start + left.len();
+        if at < seam {
+            return Some(Stop {
                 node: left.as_ref(),
-                place: self.place,
+                end: seam,
+                ..self
             });
         }
-        Some(Spot {
+        Some(Stop {
             node: right.as_ref(),
-            place: self.place - seam,
+            start: seam,
+            ..self
         })
     }
 }
 
-// The greatest node that holds both places at one of its own, as two equal spots: going down, from the longer of two
-// nodes, meets it, since a node's sides are shorter than the node. Where there is none, a part and a node that is no
-// longer.
-fn meet<'a>(mut spot: Spot<'a>, mut other: Spot<'a>) -> (Spot<'a>, Spot<'a>)
-    requires sound { IsSpot spot × IsSpot other }
-    ensures spot { IsSpot result.0 }
-    ensures other { IsSpot result.1 }
-    ensures left { IsWithin spot.entry.node.now spot.entry.place result.0.node.now result.0.place }
-    ensures right { IsWithin other.entry.node.now other.entry.place result.1.node.now result.1.place }
+impl<'a> Way<'a> {
+    /// The way on which no step was taken.
+    pub(crate) fn new() -> Way<'a>
+        ensures { (c : Option Tree) → IsWay c result }
+    {
+        Way {
+            stops: ArrayVec::new(),
+        }
+    }
+
+    // Goes up to the last node that holds a place of the cord, or else begins at the root.
+    fn climb(&mut self, cord: &'a Cord, at: u64) -> Stop<'a>
+        requires way { IsWay cord.now self.old }
+        requires inside { at < text_len cord.now }
+        ensures way { IsWay cord.now self.new }
+        ensures stop { IsStopAt cord.now at result }
+        ensures room { array_vec_len self.new.stops + depth_of result.node.now ≤ WAY_LEN }
+    {
+        while let Some(last) = self.stops.last() {
+            if let Some(stop) = last {
+                if stop.start <= at && at < stop.end {
+                    return *stop;
+                }
+            }
+            self.stops.pop();
+        }
+        let Some(root) = cord.root() else {
+            unreachable!()
+        };
+        let stop = Stop {
+            node: root.as_ref(),
+            start: 0,
+            end: cord.len(),
+        };
+        self.stops.push(Some(stop));
+        stop
+    }
+
+    // Goes down from the last node to the side that holds a place of the cord: nowhere from a part.
+    fn step(&mut self, last: Stop<'a>, at: u64) -> Option<Stop<'a>>
+        requires on { IsOn last at }
+        requires room { array_vec_len self.old.stops + depth_of last.node.now ≤ WAY_LEN }
+        ensures way { (c : Option Tree) → IsStopAt c at last.entry → IsWay c self.old → IsWay c self.new }
+        ensures on { IfSome result (λ side. IsOn side at) }
+        ensures within { IfSome result (λ side.
+            IsWithin last.entry.node.now (at - last.entry.start) side.node.now (at - side.start)) }
+        ensures shorter { IfSome result (λ side. len_of side.node.now < len_of last.entry.node.now) }
+        ensures room { IfSome result (λ side. array_vec_len self.new.stops + depth_of side.node.now ≤ WAY_LEN) }
+        ensures stays { IfNone result (array_vec_len self.new.stops ≡ array_vec_len self.old.stops) }
+        ensures part { result ≡ None → is_part last.entry.node.now ≡ true }
+    {
+        let side = last.side(at)?;
+        self.stops.push(Some(side));
+        Some(side)
+    }
+
+    // What the part that holds a place of the cord has from there on: the way goes down to it.
+    fn stretch(&mut self, last: Stop<'a>, at: u64) -> Stretch<'a>
+        requires on { IsOn last at }
+        requires room { array_vec_len self.old.stops + depth_of last.node.now ≤ WAY_LEN }
+        ensures way { (c : Option Tree) → IsStopAt c at last.entry → IsWay c self.old → IsWay c self.new }
+        ensures stretch { IsStretchAt last.entry.node.now (at - last.entry.start) result }
+    {
+        let mut stop = last;
+        while let Some(side) = self.step(stop, at) {
+            stop = side;
+        }
+        let (from, to) = (at - stop.start, stop.end - stop.start);
+        let Some(stretch) = Stretch::of_part(stop.node, from, to) else {
+            unreachable!()
+        };
+        stretch
+    }
+}
+
+// The greatest node that holds both places at one of its own, as two stops that are the same: going down, from the
+// longer of two nodes, meets it, since a node's sides are shorter than the node. Where there is none, a part and a node
+// that is no longer.
+fn meet<'a>(
+    x: &'a Cord,
+    i: u64,
+    way: &mut Way<'a>,
+    y: &'a Cord,
+    j: u64,
+    other_way: &mut Way<'a>,
+) -> (Stop<'a>, Stop<'a>)
+    requires left_inside { i < text_len x.now }
+    requires right_inside { j < text_len y.now }
+    requires left_way { IsWay x.now way.old }
+    requires right_way { IsWay y.now other_way.old }
+    ensures left { IsStopAt x.now i result.0 }
+    ensures right { IsStopAt y.now j result.1 }
+    ensures left_way { IsWay x.now way.new }
+    ensures right_way { IsWay y.now other_way.new }
+    ensures left_room { array_vec_len way.new.stops + depth_of (result.0).node.now ≤ WAY_LEN }
+    ensures right_room { array_vec_len other_way.new.stops + depth_of (result.1).node.now ≤ WAY_LEN }
 {
-    while !spot.is_same(other) {
-        if other.node.len() <= spot.node.len() {
-            let Some(side) = spot.side() else { break };
-            spot = side;
+    let mut stop = way.climb(x, i);
+    let mut other = other_way.climb(y, j);
+    while !stop.is_same(i, other, j) {
+        if other.end - other.start <= stop.end - stop.start {
+            let Some(side) = way.step(stop, i) else { break };
+            stop = side;
         } else {
-            let Some(side) = other.side() else { break };
+            let Some(side) = other_way.step(other, j) else {
+                break
+            };
             other = side;
         }
     }
-    (spot, other)
-}
-
-// A place of a cord's text.
-fn spot_at(cord: &Cord, place: u64) -> Spot
-    requires { place < text_len cord.now }
-    ensures cord { IsSpotOf cord.now place result }
-    ensures spot { IsSpot result }
-{
-    let Some(root) = cord.root() else {
-        unreachable!()
-    };
-    Spot {
-        node: root.as_ref(),
-        place,
-    }
+    (stop, other)
 }
 
 /// What two cords' texts have at two places, at most `most` bytes: bytes that are known to be the same, since they
-/// are of one node, runs of one byte or one range of an entry, or else a stretch of each.
-pub(crate) fn look_ahead<'a>(x: &'a Cord, i: u64, y: &'a Cord, j: u64, most: u64) -> Ahead<'a>
+/// are of one node, runs of one byte or one range of an entry, or else a stretch of each. Each way leads to the place
+/// before, and then to this one: from part to part, in order, that takes constant time, taken over all of them. No
+/// node that both share is missed by that. It begins at the two places, or the ways had met in it before them.
+pub(crate) fn look_ahead<'a>(
+    x: &'a Cord,
+    i: u64,
+    way: &mut Way<'a>,
+    y: &'a Cord,
+    j: u64,
+    other_way: &mut Way<'a>,
+    most: u64,
+) -> Ahead<'a>
     requires some { 0 < most }
     requires left_inside { i < text_len x.now }
     requires right_inside { j < text_len y.now }
-    ensures { IsAhead x.now i y.now j most result }
+    requires left_way { IsWay x.now way.old }
+    requires right_way { IsWay y.now other_way.old }
+    ensures ahead { IsAhead x.now i y.now j most result }
+    ensures left_way { IsWay x.now way.new }
+    ensures right_way { IsWay y.now other_way.new }
 {
-    look_from(spot_at(x, i), spot_at(y, j), most)
-}
-
-// The same of two nodes' texts.
-fn look_from<'a>(top: Spot<'a>, beside: Spot<'a>, most: u64) -> Ahead<'a>
-    requires some { 0 < most }
-    requires sound { IsSpot top × IsSpot beside }
-    ensures { IsAhead (Some top.entry.node.now) top.entry.place (Some beside.entry.node.now) beside.entry.place
-        most result }
-{
-    let (spot, other) = meet(top, beside);
-    if spot.is_same(other) {
-        return Ahead::Same(most.min(spot.node.len() - spot.place));
+    let (stop, other) = meet(x, i, way, y, j, other_way);
+    if stop.is_same(i, other, j) {
+        return Ahead::Same(most.min(stop.end - i));
     }
-    let stretch = stretch_at(spot.node, spot.place);
-    let next = stretch_at(other.node, other.place);
+    let stretch = way.stretch(stop, i);
+    let next = other_way.stretch(other, j);
     let count = most.min(stretch.len()).min(next.len());
     if begin_alike(stretch, next) {
         return Ahead::Same(count);
     }
     Ahead::Apart(stretch.up_to(count), next.up_to(count))
-}
-
-/// How many bytes two texts have in common behind two stretches that were the same, of the first `most`, where those
-/// were leaves: up to a part that is none, to bytes that differ or to the end of a short node. The way to each leaf
-/// begins at that node and not at the root. Nothing that both share is missed by that: it begins behind those
-/// stretches, or the way from the roots had met it before them, and if it is longer than the node, both ways lead
-/// into it to one node that is as short.
-#[inline(never)]
-pub(crate) fn common_behind(leaves: bool, x: &Cord, i: u64, y: &Cord, j: u64, most: u64) -> u64
-    requires left_inside { 0 < most → i + most ≤ text_len x.now }
-    requires right_inside { 0 < most → j + most ≤ text_len y.now }
-    ensures most { result ≤ most }
-    ensures alike { AreAlike x.now i y.now j result }
-{
-    if !leaves || most == 0 {
-        return 0;
-    }
-    let spot = near(spot_at(x, i));
-    let other = near(spot_at(y, j));
-    let count = most
-        .min(spot.node.len() - spot.place)
-        .min(other.node.len() - other.place);
-    common_from(spot, other, count)
-}
-
-// The first node on the way to a place that has at most `NEAR_LEN` bytes, or else the part that holds the place.
-fn near<'a>(mut spot: Spot<'a>) -> Spot<'a>
-    requires sound { IsSpot spot }
-    ensures spot { IsSpot result }
-    ensures within { IsWithin spot.entry.node.now spot.entry.place result.node.now result.place }
-{
-    while NEAR_LEN < spot.node.len() {
-        let Some(side) = spot.side() else { break };
-        spot = side;
-    }
-    spot
-}
-
-// How many bytes two nodes' texts have in common from two places on, of the first `most`, in what both share and in
-// leaves.
-fn common_from(spot: Spot, other: Spot, most: u64) -> u64
-    requires sound { IsSpot spot × IsSpot other }
-    requires left_inside { spot.place + most ≤ len_of spot.node.now }
-    requires right_inside { other.place + most ≤ len_of other.node.now }
-    ensures most { result ≤ most }
-    ensures alike { AreAlike (Some spot.entry.node.now) spot.entry.place (Some other.entry.node.now) other.entry.place
-        result }
-{
-    let mut done = 0;
-    while done < most {
-        let next = Spot {
-            node: spot.node,
-            place: spot.place + done,
-        };
-        let beside = Spot {
-            node: other.node,
-            place: other.place + done,
-        };
-        let count = common_at(next, beside, most - done);
-        if count == 0 {
-            break;
-        }
-        done += count;
-    }
-    done
-}
-
-// How many bytes both share, or two leaves have in common from there on to the end of the shorter one: none where
-// they differ.
-fn common_at(top: Spot, beside: Spot, most: u64) -> u64
-    requires some { 0 < most }
-    requires sound { IsSpot top × IsSpot beside }
-    ensures most { result ≤ most }
-    ensures alike { AreAlike (Some top.entry.node.now) top.entry.place (Some beside.entry.node.now) beside.entry.place
-        result }
-{
-    match look_from(top, beside, most) {
-        Ahead::Same(count) => count,
-        Ahead::Apart(stretch, other) => {
-            if hold_same(stretch, other) {
-                return stretch.len();
-            }
-            0
-        }
-    }
 }

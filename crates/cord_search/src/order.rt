@@ -8,10 +8,9 @@ ghost use Rattle.cord_search.specs.inner.Pieces.{IsOrderOf, sign_of};
 ghost use Rattle.cord_search.specs.inner.Searches.{HasRead};
 
 use crate::PIECE_LEN;
-use crate::ahead::{Ahead, common_behind, look_ahead};
+use crate::ahead::{Ahead, Way, look_ahead};
 use crate::pieces::first_piece;
 use crate::slices::order_of;
-use crate::stretches::are_leaves;
 use cord_core::Cord;
 use cord_io::{CordError, ReadFault, Source};
 use std::cmp::Ordering;
@@ -61,11 +60,11 @@ pub fn ncmp<S: Source>(
 
 // The order of `left` bytes of `x` from `i` on and `right` bytes of `y` from `j` on: what both share at once, and else
 // slice against slice.
-pub(crate) fn compare<S: Source>(
-    x: &Cord,
+pub(crate) fn compare<'a, S: Source>(
+    x: &'a Cord,
     i: u64,
     left: u64,
-    y: &Cord,
+    y: &'a Cord,
     j: u64,
     right: u64,
     src: &mut S,
@@ -81,13 +80,21 @@ pub(crate) fn compare<S: Source>(
     ensures read { HasRead ⟦<S as Source>⟧ src.old src.new result }
 {
     let (mut buffer, mut other_buffer) = ([0; PIECE_LEN], [0; PIECE_LEN]);
+    let (mut way, mut other_way) = (Way::new(), Way::new());
     let both = left.min(right);
     let mut done = 0;
     while done < both {
-        match look_ahead(x, i + done, y, j + done, both - done) {
+        match look_ahead(
+            x,
+            i + done,
+            &mut way,
+            y,
+            j + done,
+            &mut other_way,
+            both - done,
+        ) {
             Ahead::Same(count) => done += count,
             Ahead::Apart(stretch, other) => {
-                let leaves = are_leaves(stretch, other);
                 let piece = first_piece(stretch, &mut buffer, src)?;
                 let other = first_piece(other, &mut other_buffer, src)?;
                 let count = piece.len().min(other.len());
@@ -95,7 +102,6 @@ pub(crate) fn compare<S: Source>(
                     Ordering::Equal => done += count as u64,
                     ordering => return Ok(ordering),
                 }
-                done += common_behind(leaves, x, i + done, y, j + done, both - done);
             }
         }
     }

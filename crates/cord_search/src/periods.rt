@@ -7,7 +7,7 @@ ghost use Rattle.cord_search.specs.inner.Periods.{IsCommon, IsRepeated};
 ghost use Rattle.cord_search.specs.inner.Searches.{HasRead};
 
 use crate::PIECE_LEN;
-use crate::ahead::{Ahead, look_ahead};
+use crate::ahead::{Ahead, Way, look_ahead};
 use crate::pieces::first_piece;
 use cord_core::Cord;
 use cord_io::{ReadFault, Source};
@@ -87,10 +87,10 @@ pub(crate) fn passed<S: Source>(
 }
 
 // How many bytes two texts have in common from two places on, of the first `most`.
-fn common_len<S: Source>(
-    x: &Cord,
+fn common_len<'a, S: Source>(
+    x: &'a Cord,
     i: u64,
-    y: &Cord,
+    y: &'a Cord,
     j: u64,
     most: u64,
     src: &mut S,
@@ -107,9 +107,18 @@ fn common_len<S: Source>(
     ensures read { HasRead ⟦<S as Source>⟧ src.old src.new result }
 {
     let (mut buffer, mut other_buffer) = ([0; PIECE_LEN], [0; PIECE_LEN]);
+    let (mut way, mut other_way) = (Way::new(), Way::new());
     let mut done = 0;
     while done < most {
-        match look_ahead(x, i + done, y, j + done, most - done) {
+        match look_ahead(
+            x,
+            i + done,
+            &mut way,
+            y,
+            j + done,
+            &mut other_way,
+            most - done,
+        ) {
             Ahead::Same(count) => done += count,
             Ahead::Apart(stretch, other) => {
                 let piece = first_piece(stretch, &mut buffer, src)?;

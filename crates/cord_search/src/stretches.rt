@@ -6,10 +6,8 @@ ghost use Rattle.cord_pos.specs.Stretches.{stretch_len, IsFrontOf, IsStretchOf, 
 ghost use Rattle.cord_search.specs.inner.Stretches.{is_other_run, IsWithout, IsMisfit, BeginAlike};
 
 use crate::PIECE_LEN;
-use crate::slices::order_of;
 use cord_core::{Cord, Node};
 use cord_pos::{Position, Stretch};
-use std::cmp::Ordering;
 
 /// The length of a run of another byte.
 pub(crate) fn run_without(stretch: Stretch, wanted: u8) -> Option<u64>
@@ -53,27 +51,6 @@ pub(crate) fn begin_alike(stretch: Stretch, other: Stretch) -> bool
                 ..
             },
         ) => { id == i && start == s }
-        _ => false,
-    }
-}
-
-/// Whether two stretches are bytes of leaves.
-pub(crate) fn are_leaves(stretch: Stretch, other: Stretch) -> bool {
-    match (stretch, other) {
-        (Stretch::Bytes(_), Stretch::Bytes(_)) => true,
-        _ => false,
-    }
-}
-
-/// Whether two stretches are bytes of leaves, and the same ones.
-pub(crate) fn hold_same(stretch: Stretch, other: Stretch) -> bool
-    ensures { result ≡ true → BeginAlike stretch.entry other.entry }
-{
-    match (stretch, other) {
-        (Stretch::Bytes(left), Stretch::Bytes(right)) => match order_of(left, right) {
-            Ordering::Equal => true,
-            _ => false,
-        },
         _ => false,
     }
 }

@@ -1,20 +1,27 @@
-use Rattle.cord_pos.proofs.Within.{within_on}
+use Rattle.cord_search.proofs.Ways.{side_at}
 use Rattle.cord_search.proofs.ahead.meet.Goals as goal
 
-pub loop-spot-preserved-then-len : goal.loop-spot-preserved-then-len
-loop-spot-preserved-then-len c = record {
-  spot = c.in-Some.ensures.spot;
-  other = c.loop-spot.invariant.other;
-  left = within_on c.args.spot.node.now c.args.spot.place c.loop-spot.spot.node.now c.loop-spot.spot.place c.in-Some.side.node.now
-      c.in-Some.side.place c.loop-spot.invariant.left c.in-Some.ensures.within;
-  right = c.loop-spot.invariant.right;
-}
+pub loop-way-preserved-then-other-stop : goal.loop-way-preserved-then-other-stop
+loop-way-preserved-then-other-stop c =
+    let i = c.loop-way.invariant in
+    record {
+      left = side_at c.args.x.now c.args.i c.loop-way.stop c.in-Some.side i.left c.in-Some.ensures.within c.in-Some.ensures.on;
+      right = i.right;
+      left_way = c.in-Some.ensures.way c.args.x.now i.left i.left_way;
+      right_way = i.right_way;
+      left_room = c.in-Some.ensures.room;
+      right_room = i.right_room;
+    }
 
-pub loop-spot-preserved : goal.loop-spot-preserved
-loop-spot-preserved c = record {
-  spot = c.loop-spot.invariant.spot;
-  other = c.in-Some-side.ensures.spot;
-  left = c.loop-spot.invariant.left;
-  right = within_on c.args.other.node.now c.args.other.place c.loop-spot.other.node.now c.loop-spot.other.place
-      c.in-Some-side.side.node.now c.in-Some-side.side.place c.loop-spot.invariant.right c.in-Some-side.ensures.within;
-}
+pub loop-way-preserved : goal.loop-way-preserved
+loop-way-preserved c =
+    let i = c.loop-way.invariant in
+    let side = c.in-Some-step in
+    record {
+      left = i.left;
+      right = side_at c.args.y.now c.args.j c.loop-way.other side.side i.right side.ensures.within side.ensures.on;
+      left_way = i.left_way;
+      right_way = side.ensures.way c.args.y.now i.right i.right_way;
+      left_room = i.left_room;
+      right_room = side.ensures.room;
+    }

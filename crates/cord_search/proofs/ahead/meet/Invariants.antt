@@ -1,17 +1,20 @@
-use Rattle.std.proofs.Common.{◌+◌}
-use Rattle.cord_node.specs.Tree.{len_of}
-use Rattle.cord_pos.specs.inner.Stretches.{IsWithin}
-use Rattle.cord_search.specs.inner.Ahead.{IsSpot}
+use Rattle.std.proofs.Common.{◌+◌, ◌≤◌}
+use Rattle.arrayvec.specs.ArrayVec.{array_vec_len}
+use Rattle.cord_node.specs.Tree.{len_of, depth_of}
+use Rattle.cord_search.specs.inner.Ahead.{IsStopAt, IsWay}
+use Rattle.cord_search.specs.declared.ahead.TheConstants.{WAY_LEN}
 use Rattle.cord_search.proofs.ahead.meet.Given as goal
 
--- each spot is the first one, in the same node or one below it
-abbrev pub invariant-loop-spot : goal.invariant-loop-spot
-invariant-loop-spot l = record {
-  spot : IsSpot l.spot;
-  other : IsSpot l.other;
-  left : IsWithin l.fn.spot.node.now l.fn.spot.place l.spot.node.now l.spot.place;
-  right : IsWithin l.fn.other.node.now l.fn.other.place l.other.node.now l.other.place;
+-- each stop holds its place, and its way leads to it
+abbrev pub invariant-loop-way : goal.invariant-loop-way
+invariant-loop-way l = record {
+  left : IsStopAt l.x l.i l.stop;
+  right : IsStopAt l.y l.j l.other;
+  left_way : IsWay l.x l.way;
+  right_way : IsWay l.y l.other_way;
+  left_room : array_vec_len l.way.stops + depth_of l.stop.node.now ≤ WAY_LEN;
+  right_room : array_vec_len l.other_way.stops + depth_of l.other.node.now ≤ WAY_LEN;
 }
 
-abbrev pub decreases-loop-spot : goal.decreases-loop-spot
-decreases-loop-spot l = len_of l.spot.node.now + len_of l.other.node.now
+abbrev pub decreases-loop-way : goal.decreases-loop-way
+decreases-loop-way l = len_of l.stop.node.now + len_of l.other.node.now

@@ -21,10 +21,10 @@ texts_are g c folder kept =
     let before = c.in_ok-piece-in-Apart.ensures.read.earlier folder after in
     let told = g.met.S.Source.lengths_of_table c.args.src.now folder (c.loop-done.invariant.earlier folder before) in (
       front_within lengths t c.args.x.now (c.args.i + c.loop-done.done) c.in-Apart.stretch c.in_ok-piece-in-Apart.piece.now told
-          c.requires.left_fits c.in-Apart.ensures.0 c.in_ok-piece-in-Apart.ensures.inside
+          c.requires.left_fits c.in-Apart.ensures.ahead.0 c.in_ok-piece-in-Apart.ensures.inside
           (rw c.loop-done.invariant.table at c.in_ok-piece-in-Apart.ensures.text folder after),
       front_within lengths t c.args.y.now (c.args.j + c.loop-done.done) c.in-Apart.other c.in_ok-other-in-Apart.other.now told
-          c.requires.right_fits c.in-Apart.ensures.1 c.in_ok-other-in-Apart.ensures.inside
+          c.requires.right_fits c.in-Apart.ensures.ahead.1 c.in_ok-other-in-Apart.ensures.inside
           (rw (c.first_piece.ensures.read.table, c.loop-done.invariant.table) at c.in_ok-other-in-Apart.ensures.text folder kept),
     )
 
@@ -42,20 +42,22 @@ overflow_add-j g c =
 
 pub first_piece-requires-clause-fits : goal.first_piece-requires-clause-fits
 first_piece-requires-clause-fits g c = rw c.loop-done.invariant.lengths
-    (c.in-Apart.ensures.0.fits (g.S.Source.lengths c.args.src.now) c.requires.left_fits)
+    (c.in-Apart.ensures.ahead.0.fits (g.S.Source.lengths c.args.src.now) c.requires.left_fits)
 
 pub first_piece-requires-in-Apart-clause-fits : goal.first_piece-requires-in-Apart-clause-fits
 first_piece-requires-in-Apart-clause-fits g c = rw (c.first_piece.ensures.read.lengths, c.loop-done.invariant.lengths)
-    (c.in-Apart.ensures.1.fits (g.S.Source.lengths c.args.src.now) c.requires.right_fits)
+    (c.in-Apart.ensures.ahead.1.fits (g.S.Source.lengths c.args.src.now) c.requires.right_fits)
 
 pub loop-done-preserved-in-Same : goal.loop-done-preserved-in-Same
 loop-done-preserved-in-Same g c = record {
-  in_range = omega (arith, c.in-Same.ensures.1, c.loop-done-test.true, c.loop-done.invariant.in_range);
+  in_range = omega (arith, c.in-Same.ensures.ahead.1, c.loop-done-test.true, c.loop-done.invariant.in_range);
   same = λ folder kept.
       let told = g.met.S.Source.lengths_of_table c.args.src.now folder (c.loop-done.invariant.earlier folder kept) in
       alike_on (g.S.Source.lengths c.args.src.now) (g.S.Source.table c.args.src.now folder) c.args.x.now c.args.i c.args.y.now c.args.j
-      c.loop-done.done c.in-Same.count told c.requires.left_fits c.requires.right_fits c.in-Same.ensures.2
+      c.loop-done.done c.in-Same.count told c.requires.left_fits c.requires.right_fits c.in-Same.ensures.ahead.2
       (c.loop-done.invariant.same folder kept);
+  left_way = c.in-Same.ensures.left_way;
+  right_way = c.in-Same.ensures.right_way;
   reads = c.loop-done.invariant.reads;
   lengths = c.loop-done.invariant.lengths;
   table = c.loop-done.invariant.table;
@@ -68,9 +70,8 @@ loop-done-preserved g c = record {
     arith,
     c.min-count.ensures,
     c.in_ok-piece-in-Apart.ensures.inside,
-    c.in-Apart.ensures.3,
+    c.in-Apart.ensures.ahead.3,
     c.loop-done-test.true,
-    c.common_behind-done.ensures.most,
   );
   same = λ folder kept.
       let t = g.S.Source.table c.args.src.now folder in
@@ -83,12 +84,11 @@ loop-done-preserved g c = record {
       let before = c.in_ok-piece-in-Apart.ensures.read.earlier folder after in
       let told = g.met.S.Source.lengths_of_table c.args.src.now folder (c.loop-done.invariant.earlier folder before) in
       let texts = texts_are g (goal.at.loop-done-preserved g c).In_ok-other-in-Apart folder kept in
-      let first : AreSame t c.args.x.now c.args.i c.args.y.now c.args.j (done + n) =
       same_on t c.args.x.now c.args.i c.args.y.now c.args.j done n piece other (omega (arith, c.min-count.ensures))
       (omega (arith, c.min-count.ensures)) texts.0 texts.1 (sym c.in-Equal.is ∙ c.order_of.ensures)
-      (c.loop-done.invariant.same folder before) in
-      alike_on lengths t c.args.x.now c.args.i c.args.y.now c.args.j (done + n) c.common_behind-done.result told c.requires.left_fits
-      c.requires.right_fits c.common_behind-done.ensures.alike first;
+      (c.loop-done.invariant.same folder before);
+  left_way = c.in-Apart.ensures.left_way;
+  right_way = c.in-Apart.ensures.right_way;
   reads = c.in_ok-other-in-Apart.ensures.read.count ∙ (c.in_ok-piece-in-Apart.ensures.read.count ∙ c.loop-done.invariant.reads);
   lengths = c.first_piece-in-Apart.ensures.read.lengths ∙ (c.first_piece.ensures.read.lengths ∙ c.loop-done.invariant.lengths);
   table = c.first_piece-in-Apart.ensures.read.table ∙ (c.first_piece.ensures.read.table ∙ c.loop-done.invariant.table);
@@ -111,14 +111,14 @@ returns-in_default-clause-order g c = λ folder kept.
       arith,
       c.min-count.ensures,
       c.in_ok-piece-in-Apart.ensures.inside,
-      c.in-Apart.ensures.3,
+      c.in-Apart.ensures.ahead.3,
       c.min-both.ensures,
       c.loop-done-test.true,
     )) (omega (
       arith,
       c.min-count.ensures,
       c.in_ok-piece-in-Apart.ensures.inside,
-      c.in-Apart.ensures.3,
+      c.in-Apart.ensures.ahead.3,
       c.min-both.ensures,
       c.loop-done-test.true,
     )) (omega (arith, c.min-count.ensures))

@@ -20,10 +20,10 @@ texts_are g c folder kept =
     let before = c.in_ok-piece-in-Apart.ensures.read.earlier folder after in
     let told = g.met.S.Source.lengths_of_table c.args.src.now folder (c.loop-done.invariant.earlier folder before) in (
       front_within lengths t c.args.x.now (c.args.i + c.loop-done.done) c.in-Apart.stretch c.in_ok-piece-in-Apart.piece.now told
-          c.requires.left_fits c.in-Apart.ensures.0 c.in_ok-piece-in-Apart.ensures.inside
+          c.requires.left_fits c.in-Apart.ensures.ahead.0 c.in_ok-piece-in-Apart.ensures.inside
           (rw c.loop-done.invariant.table at c.in_ok-piece-in-Apart.ensures.text folder after),
       front_within lengths t c.args.y.now (c.args.j + c.loop-done.done) c.in-Apart.other c.in_ok-other-in-Apart.other.now told
-          c.requires.right_fits c.in-Apart.ensures.1 c.in_ok-other-in-Apart.ensures.inside
+          c.requires.right_fits c.in-Apart.ensures.ahead.1 c.in_ok-other-in-Apart.ensures.inside
           (rw (c.first_piece.ensures.read.table, c.loop-done.invariant.table) at c.in_ok-other-in-Apart.ensures.text folder kept),
     )
 
@@ -35,20 +35,22 @@ overflow_add-j g c = omega (arith, c.requires.right_inside, c.loop-done-test.tru
 
 pub first_piece-requires-clause-fits : goal.first_piece-requires-clause-fits
 first_piece-requires-clause-fits g c = rw c.loop-done.invariant.lengths
-    (c.in-Apart.ensures.0.fits (g.S.Source.lengths c.args.src.now) c.requires.left_fits)
+    (c.in-Apart.ensures.ahead.0.fits (g.S.Source.lengths c.args.src.now) c.requires.left_fits)
 
 pub first_piece-requires-in-Apart-clause-fits : goal.first_piece-requires-in-Apart-clause-fits
 first_piece-requires-in-Apart-clause-fits g c = rw (c.first_piece.ensures.read.lengths, c.loop-done.invariant.lengths)
-    (c.in-Apart.ensures.1.fits (g.S.Source.lengths c.args.src.now) c.requires.right_fits)
+    (c.in-Apart.ensures.ahead.1.fits (g.S.Source.lengths c.args.src.now) c.requires.right_fits)
 
 pub loop-done-preserved-in-Same : goal.loop-done-preserved-in-Same
 loop-done-preserved-in-Same g c = record {
-  in_range = omega (arith, c.in-Same.ensures.1, c.loop-done-test.true, c.loop-done.invariant.in_range);
+  in_range = omega (arith, c.in-Same.ensures.ahead.1, c.loop-done-test.true, c.loop-done.invariant.in_range);
   same = λ folder kept.
       let told = g.met.S.Source.lengths_of_table c.args.src.now folder (c.loop-done.invariant.earlier folder kept) in
       alike_on (g.S.Source.lengths c.args.src.now) (g.S.Source.table c.args.src.now folder) c.args.x.now c.args.i c.args.y.now c.args.j
-      c.loop-done.done c.in-Same.count told c.requires.left_fits c.requires.right_fits c.in-Same.ensures.2
+      c.loop-done.done c.in-Same.count told c.requires.left_fits c.requires.right_fits c.in-Same.ensures.ahead.2
       (c.loop-done.invariant.same folder kept);
+  left_way = c.in-Same.ensures.left_way;
+  right_way = c.in-Same.ensures.right_way;
   reads = c.loop-done.invariant.reads;
   lengths = c.loop-done.invariant.lengths;
   table = c.loop-done.invariant.table;
@@ -61,7 +63,7 @@ loop-done-preserved g c = record {
     arith,
     c.agreeing-count.ensures.left,
     c.in_ok-piece-in-Apart.ensures.inside,
-    c.in-Apart.ensures.3,
+    c.in-Apart.ensures.ahead.3,
     c.loop-done-test.true,
   );
   same = λ folder kept.
@@ -75,6 +77,8 @@ loop-done-preserved g c = record {
       let texts = texts_are g (goal.at.loop-done-preserved g c).In_ok-other-in-Apart folder kept in
       common_on t c.args.x.now c.args.i c.args.y.now c.args.j done n piece other c.agreeing-count.ensures.left
       c.agreeing-count.ensures.right texts.0 texts.1 c.agreeing-count.ensures.same (c.loop-done.invariant.same folder before);
+  left_way = c.in-Apart.ensures.left_way;
+  right_way = c.in-Apart.ensures.right_way;
   reads = c.in_ok-other-in-Apart.ensures.read.count ∙ (c.in_ok-piece-in-Apart.ensures.read.count ∙ c.loop-done.invariant.reads);
   lengths = c.first_piece-in-Apart.ensures.read.lengths ∙ (c.first_piece.ensures.read.lengths ∙ c.loop-done.invariant.lengths);
   table = c.first_piece-in-Apart.ensures.read.table ∙ (c.first_piece.ensures.read.table ∙ c.loop-done.invariant.table);
@@ -95,7 +99,7 @@ returns-then-count-both-clause-common g c = λ folder kept.
     let right : n < length other = omega (arith, c.if-count-both.true, c.min-both.ensures) in
     let texts = texts_are g (goal.at.returns-then-count-both-clause-common g c).In_ok-other-in-Apart folder kept in
     common_end t c.args.x.now c.args.i c.args.y.now c.args.j c.args.most done n piece other
-    (omega (arith, left, c.in_ok-piece-in-Apart.ensures.inside, c.in-Apart.ensures.3, c.loop-done-test.true)) left right
+    (omega (arith, left, c.in_ok-piece-in-Apart.ensures.inside, c.in-Apart.ensures.ahead.3, c.loop-done-test.true)) left right
     texts.0 texts.1 c.agreeing-count.ensures.same (c.agreeing-count.ensures.differ left right) (c.loop-done.invariant.same folder before)
 
 pub returns-clause-common : goal.returns-clause-common

@@ -1,8 +1,0 @@
-use Rattle.std.proofs.Common.{sym, subst}
-use Rattle.cord_core.specs.Cord.{CordFitsIn}
-use Rattle.cord.specs.Plain.{no_lengths}
-use Rattle.cord.proofs.text.Text.chunk_at.Goals as goal
-
-pub chunk_of-requires-clause-plain : goal.chunk_of-requires-clause-plain
-chunk_of-requires-clause-plain c = rw c.as_ref.ensures (subst (CordFitsIn no_lengths) (sym c.in-Some.ensures.value)
-    (c.self.invariant.over.fits no_lengths))
