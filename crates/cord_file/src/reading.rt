@@ -32,6 +32,21 @@ enum Way {
     NewFrom(u64),
 }
 
+// How many of the bytes that are left from a place on are read at once: those of one block, or all whole blocks where
+// they go past those that are kept.
+fn size_of(way: Way, from: u64, left: usize) -> usize
+    requires { 0 < left }
+    ensures some { 0 < result }
+    ensures inside { result ≤ left }
+    ensures part { result ≤ BLOCK → from % BLOCK + result ≤ BLOCK }
+{
+    let at = (from % BLOCK as u64) as usize;
+    match way {
+        Way::Past if at == 0 && BLOCK <= left => left - left % BLOCK,
+        _ => left.min(BLOCK - at),
+    }
+}
+
 // Fills `out` with the bytes of an opened file from a place on. The range lies inside the file.
 pub(crate) fn read_range<F: Files>(
     files: &mut F,
@@ -180,8 +195,8 @@ impl<F: Files> Sources<F> {
     }
 
     // Fills `out` with an opened file's bytes from a place on, block by block. Where they are more than all kept blocks
-    // hold, the whole blocks among them go past those that are kept, which stay. It stands apart, so that a read inside
-    // one block needs nothing of it.
+    // hold, the whole blocks among them go at once past those that are kept, which stay. It stands apart, so that a read
+    // inside one block needs nothing of it.
     #[inline(never)]
     fn read_blocks(&mut self, place: usize, start: u64, out: &mut [u8]) -> Result<(), ReadFault>
         requires inside { IsInside (slice_get self.old.entries.items place) start (length out.old) }
@@ -193,8 +208,7 @@ impl<F: Files> Sources<F> {
         let mut done = 0;
         while done < out.len() {
             let from = start + done as u64;
-            let left = BLOCK - (from % BLOCK as u64) as usize;
-            let size = left.min(out.len() - done);
+            let size = size_of(way, from, out.len() - done);
             self.read_one(place, from, &mut out[done..done + size], way)?;
             done += size;
         }
@@ -218,7 +232,7 @@ impl<F: Files> Sources<F> {
         read_range(&mut self.files, file.no, start, out)
     }
 
-    // Fills `out` with bytes of one block of an opened file.
+    // Fills `out` with bytes of one block of an opened file, or with more that go past the kept blocks.
     fn read_one(
         &mut self,
         place: usize,
@@ -228,11 +242,14 @@ impl<F: Files> Sources<F> {
     ) -> Result<(), ReadFault>
         requires inside { IsInside (slice_get self.old.entries.items place) start (length out.old) }
         requires some { 0 < length out.old }
-        requires part { start % BLOCK + length out.old ≤ BLOCK }
+        requires part { length out.old ≤ BLOCK → start % BLOCK + length out.old ≤ BLOCK }
         ensures files { LeavesFiles (is_err result) self.old self.new }
         ensures bytes { (folder : Folder) → F.keeps (device_in self.new) folder →
             OnOk result (AreRead folder (slice_get self.old.entries.items place) start out.new) }
     {
+        if BLOCK < out.len() {
+            return self.read_past_blocks(place, start, out);
+        }
         match way {
             Way::Past if out.len() == BLOCK => self.read_past_blocks(place, start, out),
             Way::NewFrom(number) if number <= start / BLOCK as u64 => {

@@ -154,11 +154,25 @@ fn put_range<const N: usize, S: Source, W: Sink>(
     let mut buffer = [0; N];
     let mut done = 0;
     while done < len {
-        let count = piece_len(len - done, N);
+        let count = piece_len(len - done, most_of(done, N));
         put_piece(id, start + done, &mut buffer[..count], src, sink)?;
         done += count as u64;
     }
     Ok(())
+}
+
+// How many bytes the next of these pieces has at most. The first one of a long range is short: it goes out before more
+// are asked for, so that a device which fails behind it has given it.
+fn most_of(done: u64, most: usize) -> usize
+    requires { 0 < most }
+    ensures some { 0 < result }
+    ensures inside { result ≤ most }
+{
+    if done == 0 && most == BLOCK_LEN {
+        PIECE_LEN
+    } else {
+        most
+    }
 }
 
 // Hands a sink a range of an entry that is one piece, which is read into a slice of its length.

@@ -11,7 +11,8 @@ returns-in_err-put_piece-clause-prefix g c =
     let table = g.S.Source.table c.args.src.now in
     let done = c.loop-done.done in
     let count = c.piece_len-count.result in
-    let room : count ≤ length c.loop-done.buffer = subst (λ n. count ≤ n) (sym c.loop-done.invariant.room) c.piece_len-count.ensures.most in
+    let most : count ≤ g.row.N = omega (arith, c.piece_len-count.ensures.most, c.most_of.ensures.inside) in
+    let room : count ≤ length c.loop-done.buffer = subst (λ n. count ≤ n) (sym c.loop-done.invariant.room) most in
     let whole : length (take count c.loop-done.buffer) ≡ count = length-take-le count c.loop-done.buffer room in
     let inside : done + count ≤ c.args.len = omega (arith, c.piece_len-count.ensures.inside) in
     let piece : Takes (IsPrefixOver (g.S.Source.keeps c.put_piece.new.src) table (Func c.args.id count (c.args.start + done)))
@@ -25,7 +26,8 @@ loop-done-preserved g c =
     let table = g.S.Source.table c.args.src.now in
     let done = c.loop-done.done in
     let count = c.piece_len-count.result in
-    let room : count ≤ length c.loop-done.buffer = subst (λ n. count ≤ n) (sym c.loop-done.invariant.room) c.piece_len-count.ensures.most in
+    let most : count ≤ g.row.N = omega (arith, c.piece_len-count.ensures.most, c.most_of.ensures.inside) in
+    let room : count ≤ length c.loop-done.buffer = subst (λ n. count ≤ n) (sym c.loop-done.invariant.room) most in
     let whole : length (take count c.loop-done.buffer) ≡ count = length-take-le count c.loop-done.buffer room in
     let piece : Takes (IsTextOver (g.S.Source.keeps c.put_piece.new.src) table (Func c.args.id count (c.args.start + done)))
     (g.W.Sink.taken c.loop-done.sink) (g.W.Sink.taken c.put_piece.new.sink) =
