@@ -37,11 +37,11 @@ gathered_own = record { range = gathered_range; small = gathered_small }
 pub leaf_of_bytes : (b : List ℕ) (c : Option Node) → IsCord c → IsLeafOf b c → parts_of c ≡ leaf_parts b
 leaf_of_bytes [] None s h = refl
 leaf_of_bytes (x ∷ b) None s h = absurd (cc h)
-leaf_of_bytes [] (Some (Leaf bytes start len mark)) s h = absurd (omega (arith, s.0, h.2))
-leaf_of_bytes (x ∷ b) (Some (Leaf bytes start len mark)) s h = rw (h.0, h.1, h.2) refl
+leaf_of_bytes [] (Some (Leaf len bytes start mark)) s h = absurd (omega (arith, s.0, h.2))
+leaf_of_bytes (x ∷ b) (Some (Leaf len bytes start mark)) s h = rw (h.0, h.1, h.2) refl
 leaf_of_bytes b (Some (Run byte len)) s h = absurd h
-leaf_of_bytes b (Some (Func id start len)) s h = absurd h
-leaf_of_bytes b (Some (Cat' p left q right len depth mark)) s h = absurd h
+leaf_of_bytes b (Some (Func id len start)) s h = absurd h
+leaf_of_bytes b (Some (Cat' mark depth len p left q right count)) s h = absurd h
 
 leaf_gathered : (b : List ℕ) → length b ≤ CAP → AreFromOr IsGathered (leaf_parts b) []
 leaf_gathered [] h = tt
