@@ -91,17 +91,17 @@ joined_from old ps new one h = record {
 -- a run is a print's own
 run_own : (b n : ℕ) (c : Option Node) → IsRunOf b n c → AreFromOr IsPrinted (parts_of c) []
 run_own b n None h = tt
-run_own b n (Some (Leaf bytes start len mark)) h = absurd h
+run_own b n (Some (Leaf len bytes start mark)) h = absurd h
 run_own b n (Some (Run byte len)) h = (tt, tt)
-run_own b n (Some (Func id start len)) h = absurd h
-run_own b n (Some (Cat' p left q right len depth mark)) h = absurd h
+run_own b n (Some (Func id len start)) h = absurd h
+run_own b n (Some (Cat' mark depth len p left q right count)) h = absurd h
 
 one_run : (b n : ℕ) (c : Option Node) → IsRunOf b n c → length (parts_of c) ≤ 1
 one_run b n None h = omega arith
-one_run b n (Some (Leaf bytes start len mark)) h = absurd h
+one_run b n (Some (Leaf len bytes start mark)) h = absurd h
 one_run b n (Some (Run byte len)) h = omega arith
-one_run b n (Some (Func id start len)) h = absurd h
-one_run b n (Some (Cat' p left q right len depth mark)) h = absurd h
+one_run b n (Some (Func id len start)) h = absurd h
+one_run b n (Some (Cat' mark depth len p left q right count)) h = absurd h
 
 pub run_from : (b n : ℕ) (c : Option Node) (old new : List Part) → IsRunOf b n c → 0 < n → IsPrintedFrom 0 (old ++ parts_of c) new →
     IsPrintedFrom n old new
