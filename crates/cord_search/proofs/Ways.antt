@@ -1,13 +1,13 @@
 -- Ways from the root of a cord to a place of its text.
-use Rattle.std.proofs.Common.{◌≡◌, ℕ, zero, suc, ◌+◌, ◌-◌, ◌<◌, ◌≤◌, List, [], ◌∷◌, ◌++◌, length, take, Some, None, ap, arith}
+use Rattle.std.proofs.Common.{◌≡◌, ℕ, zero, suc, ◌+◌, ◌-◌, ◌<◌, ◌≤◌, List, [], ◌∷◌, ◌++◌, length, take, Some, arith}
 use Rattle.std.specs.Prelude.{Option, IfSome, slice_get}
 use Rattle.cord_io.specs.declared.TheConstants.{MAX_DEPTH}
 use Rattle.cord_node.specs.declared.Node.{Node}
 use Rattle.cord_node.specs.Tree.{len_of, depth_of, IsSound}
-use Rattle.cord_pos.specs.Stretches.{IsStretchOf, IsStretchAt}
+use Rattle.cord_pos.specs.Stretches.{stretch_len, IsStretchOf, IsStretchAt, EndsAt}
 use Rattle.cord_pos.specs.inner.Stretches.{IsWithin}
 use Rattle.cord_pos.specs.declared.stretch.Stretch.{Stretch}
-use Rattle.cord_pos.proofs.Within.{within_self, within_on, stretch_on}
+use Rattle.cord_pos.proofs.Within.{within_self, within_on, within_end, stretch_on, stretch_back}
 use Rattle.cord_search.specs.inner.Ahead.{IsOn, AreOne, IsStop, IsStopAt, AreAlike}
 use Rattle.cord_search.specs.declared.ahead.Stop.{Stop}
 use Rattle.cord_search.proofs.Sharing.{spots_alike}
@@ -70,6 +70,16 @@ module _ (c : Option Node) (at : ℕ) (s : Stop) where
   -- what a part has is what the cord has
   pub stretch_of : (x : Stretch) → IsStopAt c at s → IsStretchAt s.node.now (at - s.start) x → IsStretchOf c at x
   stretch_of x h e = rw h.is (stretch_on h.root at s.node.now (at - s.start) x h.within e)
+
+  -- up to a place
+  pub stretch_to : (x : Stretch) → IsStopAt c at s → stretch_len x ≡ at + 1 - s.start → IsStretchAt s.node.now 0 x → EndsAt c at x
+  stretch_to x h len e =
+      let sum : at - s.start + 1 ≡ 0 + stretch_len x = omega (arith, len, h.on.low) in
+      record {
+        inside = omega (arith, len);
+        stretch = rw h.is (stretch_back h.root (at + 1) s.node.now (at - s.start + 1) 0 x sum
+            (within_end h.root at s.node.now (at - s.start) h.within) e);
+      }
 
 -- one place of two nodes that have one text
 pub stops_alike : (c : Option Node) (i : ℕ) (s : Stop) (d : Option Node) (j : ℕ) (o : Stop) (k : ℕ) → IsStopAt c i s → IsStopAt d j o →

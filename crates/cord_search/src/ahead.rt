@@ -4,7 +4,7 @@ ghost use Rattle.arrayvec.specs.ArrayVec.{array_vec_len};
 ghost use Rattle.cord_core.specs.Cord.{text_len};
 ghost use Rattle.cord_node.specs.declared.Node.{Node as Tree};
 ghost use Rattle.cord_node.specs.Tree.{len_of, depth_of};
-ghost use Rattle.cord_pos.specs.Stretches.{is_part, IsStretchAt};
+ghost use Rattle.cord_pos.specs.Stretches.{is_part, stretch_len, IsStretchAt};
 ghost use Rattle.cord_pos.specs.inner.Stretches.{IsWithin};
 ghost use Rattle.cord_search.specs.inner.Ahead.{IsOn, AreOne, IsStopAt, IsWay, IsAhead};
 
@@ -40,6 +40,50 @@ pub(crate) enum Ahead<'a> {
 }
 
 impl<'a> Stop<'a> {
+    // The root of a cord, which holds each place of it.
+    fn root(cord: &'a Cord, at: u64) -> Stop<'a>
+        requires { at < text_len cord.now }
+        ensures { IsStopAt cord.now at result }
+    {
+        let Some(root) = cord.root() else {
+            unreachable!()
+        };
+        Stop {
+            node: root.as_ref(),
+            start: 0,
+            end: cord.len(),
+        }
+    }
+
+    /// The part of a cord that holds a place.
+    pub(crate) fn part_at(cord: &'a Cord, at: u64) -> Stop<'a>
+        requires { at < text_len cord.now }
+        ensures stop { IsStopAt cord.now at result }
+        ensures part { is_part result.node.now ≡ true }
+    {
+        let mut stop = Stop::root(cord, at);
+        while let Some(side) = stop.side(at) {
+            stop = side;
+        }
+        stop
+    }
+
+    /// What a part has from one place of the cord on, up to another.
+    pub(crate) fn stretch(self, from: u64, to: u64) -> Stretch<'a>
+        requires part { is_part self.node.now ≡ true }
+        requires on { IsOn self from }
+        requires some { from < to }
+        requires inside { to ≤ self.end }
+        ensures stretch { IsStretchAt self.entry.node.now (from - self.entry.start) result }
+        ensures len { stretch_len result ≡ to - from }
+    {
+        let (from, to) = (from - self.start, to - self.start);
+        let Some(stretch) = Stretch::of_part(self.node, from, to) else {
+            unreachable!()
+        };
+        stretch
+    }
+
     /// Whether two nodes are one, and two places are one of it.
     fn is_same(self, at: u64, other: Stop, beside: u64) -> bool
         requires on { IsOn self at }
@@ -52,6 +96,7 @@ impl<'a> Stop<'a> {
     }
 
     /// The side of a concatenation that holds a place of the cord.
+    #[inline(always)]
     fn side(self, at: u64) -> Option<Stop<'a>>
         requires { IsOn self at }
         ensures on { IfSome result (λ side. IsOn side at) }
@@ -106,14 +151,7 @@ impl<'a> Way<'a> {
             }
             self.stops.pop();
         }
-        let Some(root) = cord.root() else {
-            unreachable!()
-        };
-        let stop = Stop {
-            node: root.as_ref(),
-            start: 0,
-            end: cord.len(),
-        };
+        let stop = Stop::root(cord, at);
         self.stops.push(Some(stop));
         stop
     }
@@ -147,11 +185,7 @@ impl<'a> Way<'a> {
         while let Some(side) = self.step(stop, at) {
             stop = side;
         }
-        let (from, to) = (at - stop.start, stop.end - stop.start);
-        let Some(stretch) = Stretch::of_part(stop.node, from, to) else {
-            unreachable!()
-        };
-        stretch
+        stop.stretch(at, stop.end)
     }
 }
 

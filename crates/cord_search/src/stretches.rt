@@ -1,12 +1,12 @@
 // Stretches of a node's text: what lies in one part, from a place on or up to a place.
 ghost use Rattle.std.specs.Prelude.{◌≡◌, ◌≢◌, ◌-◌, ◌<◌, ◌≤◌, length, slice_index, true, is_some, IsSome, IfSome};
 ghost use Rattle.cord_core.specs.Cord.{text_len};
-ghost use Rattle.cord_node.specs.Tree.{len_of, IsSound};
-ghost use Rattle.cord_pos.specs.Stretches.{stretch_len, IsFrontOf, IsStretchOf, IsStretchAt, EndsAt};
+ghost use Rattle.cord_pos.specs.Stretches.{stretch_len, IsFrontOf, IsStretchOf, EndsAt};
 ghost use Rattle.cord_search.specs.inner.Stretches.{is_other_run, IsWithout, IsMisfit, BeginAlike};
 
 use crate::PIECE_LEN;
-use cord_core::{Cord, Node};
+use crate::ahead::Stop;
+use cord_core::Cord;
 use cord_pos::{Position, Stretch};
 
 /// The length of a run of another byte.
@@ -73,32 +73,17 @@ pub(crate) fn cord_stretch_at(cord: &Cord, place: u64) -> Stretch
     requires { place < text_len cord.now }
     ensures { IsStretchOf cord.now place result }
 {
-    let Some(root) = cord.root() else {
-        unreachable!()
-    };
-    stretch_at(root.as_ref(), place)
+    let part = Stop::part_at(cord, place);
+    part.stretch(place, part.end)
 }
 
-/// What is left of a part of a node's text from a place on.
-pub(crate) fn stretch_at(top: &Node, mut place: u64) -> Stretch
-    requires sound { IsSound top.now }
-    requires inside { place < len_of top.now }
-    ensures { IsStretchAt top.now place result }
+/// What a part of a cord's text has up to a place, with the byte there.
+pub(crate) fn cord_stretch_to(cord: &Cord, at: u64) -> Stretch
+    requires { at < text_len cord.now }
+    ensures { EndsAt cord.now at result }
 {
-    let mut node = top;
-    while let Node::Cat { left, right, .. } = node {
-        let seam = left.len();
-        if place < seam {
-            node = left.as_ref();
-        } else {
-            place -= seam;
-            node = right.as_ref();
-        }
-    }
-    let Some(stretch) = Stretch::of_part(node, place, node.len()) else {
-        unreachable!()
-    };
-    stretch
+    let part = Stop::part_at(cord, at);
+    part.stretch(part.start, at + 1)
 }
 
 /// What is left of a part of a position's cord from a place on, to which the position is moved: so a walk over the
@@ -157,39 +142,4 @@ fn block_len(stretch: Stretch) -> u64
         Stretch::Func { start, len, .. } => len.min(size - start % size),
         _ => stretch.len(),
     }
-}
-
-/// What a part of a cord's text has up to a place, with the byte there.
-pub(crate) fn cord_stretch_to(cord: &Cord, at: u64) -> Stretch
-    requires { at < text_len cord.now }
-    ensures { EndsAt cord.now at result }
-{
-    let Some(root) = cord.root() else {
-        unreachable!()
-    };
-    stretch_before(root.as_ref(), at + 1)
-}
-
-/// What a part of a node's text has up to a place.
-fn stretch_before(top: &Node, mut end: u64) -> Stretch
-    requires sound { IsSound top.now }
-    requires some { 0 < end }
-    requires inside { end ≤ len_of top.now }
-    ensures inside { stretch_len result ≤ end }
-    ensures stretch { IsStretchAt top.now (end - stretch_len result) result }
-{
-    let mut node = top;
-    while let Node::Cat { left, right, .. } = node {
-        let seam = left.len();
-        if end <= seam {
-            node = left.as_ref();
-        } else {
-            end -= seam;
-            node = right.as_ref();
-        }
-    }
-    let Some(stretch) = Stretch::of_part(node, 0, end) else {
-        unreachable!()
-    };
-    stretch
 }

@@ -1,4 +1,4 @@
-use Rattle.std.proofs.Common.{◌+◌, ◌<◌, ◌≤◌, arith}
+use Rattle.std.proofs.Common.{◌<◌, ◌≤◌, arith}
 use Rattle.cord_pos.specs.Stretches.{stretch_len, IsStretchOf}
 use Rattle.cord_search.proofs.Sharing.{stretches_alike, front_stretch}
 use Rattle.cord_search.proofs.Ways.{stretch_of, stops_alike}

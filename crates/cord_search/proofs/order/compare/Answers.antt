@@ -2,7 +2,7 @@ use Rattle.std.proofs.Common.{◌+◌, ◌≤◌, ◌<◌, ◌∙◌, sym, arith
 use Rattle.std.specs.Prelude.{min}
 use Rattle.cord_core.specs.Cord.{text_len}
 use Rattle.cord_io.specs.Device.{Folder}
-use Rattle.cord_search.specs.inner.Pieces.{IsPieceOf, AreSame}
+use Rattle.cord_search.specs.inner.Pieces.{IsPieceOf}
 use Rattle.cord_search.proofs.Ranges.{cord_len, front_within}
 use Rattle.cord_search.proofs.Sharing.{alike_on}
 use Rattle.cord_search.proofs.Comparing.{same_on, different, no_different, range_len, cord_limit}

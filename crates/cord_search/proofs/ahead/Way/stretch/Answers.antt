@@ -25,4 +25,4 @@ returns-clause-way c = λ d held way.
 
 pub returns-clause-stretch : goal.returns-clause-stretch
 returns-clause-stretch c = stretch_on c.args.last.node.now (c.args.at - c.args.last.start) c.loop-side.stop.node.now
-    (c.args.at - c.loop-side.stop.start) _ c.loop-side.invariant.within c.in-Some-of_part.ensures.stretch
+    (c.args.at - c.loop-side.stop.start) _ c.loop-side.invariant.within c.stretch.ensures.stretch
