@@ -4,28 +4,30 @@ ghost use Rattle.cord_node.specs.Tree.{cells, len_of, depth_of, count_of, IsSoun
 ghost use Rattle.cord_node.specs.Kept.{parts, AreFrom};
 ghost use Rattle.cord_node.specs.Touched.{AtMostOneMore};
 ghost use Rattle.cord_node.specs.Cords.{node_in, text, text_len, depth, parts_of, IsCord};
-ghost use Rattle.cord_node.specs.inner.Splices.{Takes, LeftTakes, RightTakes, BothTake, SidesAre};
+ghost use Rattle.cord_node.specs.inner.Splices.{Takes, LeftTakes, RightTakes, SeamTakes, BothTake, SidesAre};
 ghost use Rattle.cord_node.specs.inner.Splices.{IsSplice};
 ghost use Rattle.cord_node.specs.inner.Splices.{is_cat, AreSides, AreSpliced, IsEditable};
 
+use crate::make::stored;
 use crate::replace::{are_merged, is_short, replaced};
-use crate::{Node, join, sub_node};
+use crate::{Node, SMALL_LEN, join, sub_node};
 use cord_io::{MAX_DEPTH, MAX_LEN};
-use cord_mark::Mark;
 use std::alloc::{AllocError, Global};
 use std::rc::Rc;
 
-// Where an edit goes on from a node: in one of its sides or in both, or at the node itself.
+// Where an edit goes on from a node: in one of its sides, in either of them, or in both; or it ends at the node itself.
 #[derive(Clone, Copy)]
 enum Way {
     Left,
     Right,
+    Seam,
     Both,
     Here,
 }
 
 // Whether a side takes a range of it, and `middle` in its place: the side stays, and it is no less deep.
 #[tactic(auto, using(crate::proofs::TreeLemmas::len_positive))]
+#[inline(always)]
 fn takes(side: &Rc<Node>, from: u64, until: u64, middle: &Option<Rc<Node>>) -> bool
     requires sound { IsSound side.now.value }
     requires middle_sound { IsCord (node_in middle.now) }
@@ -35,7 +37,7 @@ fn takes(side: &Rc<Node>, from: u64, until: u64, middle: &Option<Rc<Node>>) -> b
 {
     match middle {
         None => until - from < side.len(),
-        Some(node) => node.depth() <= side.depth(),
+        Some(node) => node.depth() == 0 || node.depth() <= side.depth(),
     }
 }
 
@@ -70,7 +72,42 @@ fn goes_left(left: &Node, right: &Node, middle: &Option<Rc<Node>>) -> bool {
     }
 }
 
+// The greatest length of two leaves that are both short.
+const PAIR_LEN: u64 = 2 * SMALL_LEN as u64;
+
+// Whether an edit leaves so few bytes of two leaves that one leaf may have them all.
+#[inline(always)]
+fn becomes_one(
+    left: &Node,
+    right: &Node,
+    from: u64,
+    until: u64,
+    middle: &Option<Rc<Node>>,
+) -> bool {
+    let Some(inner) = some_short(middle) else {
+        return false;
+    };
+    match (left, right) {
+        (Node::Leaf { len: a, .. }, Node::Leaf { len: b, .. }) => {
+            let behind = a.saturating_add(*b).saturating_sub(until);
+            from.saturating_add(inner).saturating_add(behind) <= SMALL_LEN as u64
+        }
+        _ => false,
+    }
+}
+
+// The length of what comes, where that is nothing or a short leaf.
+#[inline(always)]
+fn some_short(middle: &Option<Rc<Node>>) -> Option<u64> {
+    match middle {
+        None => Some(0),
+        Some(node) if is_short(node) => Some(node.len()),
+        _ => None,
+    }
+}
+
 // The way of an edit of a node with these sides.
+#[inline(always)]
 fn way_between(
     left: &Rc<Node>,
     right: &Rc<Node>,
@@ -86,14 +123,17 @@ fn way_between(
     requires within_limit { len_of left.now.value + len_of right.now.value ≤ MAX_LEN }
     ensures left { result ≡ Way.Left → LeftTakes from until (node_in middle.now) left.now.value right.now.value }
     ensures right { result ≡ Way.Right → RightTakes from until (node_in middle.now) left.now.value right.now.value }
+    ensures seam { result ≡ Way.Seam → SeamTakes from until (node_in middle.now) left.now.value right.now.value }
     ensures both { result ≡ Way.Both → BothTake from until (node_in middle.now) left.now.value right.now.value }
 {
     let seam = left.len();
-    let in_left = until <= seam && takes(left, from, until, middle);
-    let in_right = seam <= from && takes(right, from - seam, until - seam, middle);
-    if in_left && (!in_right || goes_left(left, right, middle)) {
-        Way::Left
-    } else if in_right {
+    if until <= seam && takes(left, from, until, middle) {
+        if seam <= from && takes(right, from - seam, until - seam, middle) {
+            Way::Seam
+        } else {
+            Way::Left
+        }
+    } else if seam <= from && takes(right, from - seam, until - seam, middle) {
         Way::Right
     } else if from < seam
         && seam < until
@@ -107,6 +147,7 @@ fn way_between(
 }
 
 // The way of an edit of a node.
+#[inline(always)]
 fn way_of(node: &Node, from: u64, until: u64, middle: &Option<Rc<Node>>) -> Way
     requires sound { IsSound node.now }
     requires middle_sound { IsCord (node_in middle.now) }
@@ -114,30 +155,24 @@ fn way_of(node: &Node, from: u64, until: u64, middle: &Option<Rc<Node>>) -> Way
     requires inside { until ≤ len_of node.now }
     ensures left { result ≡ Way.Left → SidesAre (LeftTakes from until (node_in middle.now)) node.now }
     ensures right { result ≡ Way.Right → SidesAre (RightTakes from until (node_in middle.now)) node.now }
+    ensures seam { result ≡ Way.Seam → SidesAre (SeamTakes from until (node_in middle.now)) node.now }
     ensures both { result ≡ Way.Both → SidesAre (BothTake from until (node_in middle.now)) node.now }
 {
     match node {
-        Node::Cat { left, right, .. } => way_between(left, right, from, until, middle),
+        Node::Cat {
+            left,
+            right,
+            len,
+            ..
+        } => {
+            if *len <= PAIR_LEN && becomes_one(left, right, from, until, middle) {
+                Way::Here
+            } else {
+                way_between(left, right, from, until, middle)
+            }
+        }
         _ => Way::Here,
     }
-}
-
-// What a concatenation of these two sides stores: its length, its depth, how many parts it has, and its mark.
-fn stored(left: &Rc<Node>, right: &Rc<Node>) -> (u64, u32, u64, Mark)
-    requires left_sound { IsSound left.now.value }
-    requires right_sound { IsSound right.now.value }
-    requires within_limit { len_of left.now.value + len_of right.now.value ≤ MAX_LEN }
-    requires shallow { max (depth_of left.now.value) (depth_of right.now.value) + 1 ≤ MAX_DEPTH }
-    ensures len { result.0 ≡ len_of left.now.value + len_of right.now.value }
-    ensures depth { result.1 ≡ max (depth_of left.now.value) (depth_of right.now.value) + 1 }
-    ensures count { result.2 ≡ count_of left.now.value + count_of right.now.value }
-    ensures mark { result.3 ≡ parts left.now.value ++ parts right.now.value }
-{
-    let len = left.len() + right.len();
-    let depth = left.depth().max(right.depth()) + 1;
-    let part_count = left.part_count() + right.part_count();
-    let mark = Mark::new(left, right);
-    (len, depth, part_count, mark)
 }
 
 // The two sides of a concatenation, which are shared.
@@ -161,7 +196,8 @@ fn sides_of(node: &Node) -> Result<(Rc<Node>, Rc<Node>), AllocError>
 /// place, and of one that is shared a new one is made, so what others hold stays. On the way down to the part that is
 /// changed a node costs constant time, and no memory where it is changed in its place. The range lies inside the node,
 /// 1 to `MAX_LEN` bytes are left, and two plus the greater depth is at most `MAX_DEPTH`. At most one part is cut in
-/// two, so there are no more parts than those of both and one.
+/// two, so there are no more parts than those of both and one. Two leaves beside each other that an edit leaves at most
+/// `SMALL_LEN` bytes of become one.
 /// Refused where memory was refused: then nothing was changed.
 pub fn splice(
     alloc: Global,
@@ -195,7 +231,8 @@ pub fn splice(
     Ok(())
 }
 
-// The same, where the node stays as it was if memory was refused.
+// The same, where the node stays as it was if memory was refused. A level goes on in one side alone, as a rule; all else
+// stands in functions that aren't inlined, so that a level keeps few values over the call.
 #[cycle(splice_node)]
 fn splice_node(
     alloc: Global,
@@ -210,9 +247,7 @@ fn splice_node(
 {
     let way = way_of(node, from, until, middle);
     if let Way::Here = way {
-        let new = replaced(alloc, node, from, until, middle)?;
-        *node = new;
-        return Ok(());
+        return splice_here(alloc, node, from, until, middle);
     }
     match Rc::get_mut(node) {
         Some(alone) => splice_in_place(alloc, alone, way, from, until, middle),
@@ -220,7 +255,26 @@ fn splice_node(
     }
 }
 
+// The same where the edit ends: another node is put in the place of this one.
+#[inline(never)]
+fn splice_here(
+    alloc: Global,
+    node: &mut Rc<Node>,
+    from: u64,
+    until: u64,
+    middle: &Option<Rc<Node>>,
+) -> Result<(), AllocError>
+    requires { IsEditable from until (node_in middle.now) node.old.value }
+    ensures splice { IfOk result (λ _. IsSplice from until (node_in middle.now) node.old.value node.new.value) }
+    ensures unchanged { IsErr result → node.new ≡ node.old }
+{
+    let new = replaced(alloc, node, from, until, middle)?;
+    *node = new;
+    Ok(())
+}
+
 // The same of a node that nobody else holds, in its sides.
+#[inline(always)]
 #[cycle(splice_node)]
 fn splice_in_place(
     alloc: Global,
@@ -233,6 +287,7 @@ fn splice_in_place(
     requires editable { IsEditable from until (node_in middle.now) node.old }
     requires left { way ≡ Way.Left → SidesAre (LeftTakes from until (node_in middle.now)) node.old }
     requires right { way ≡ Way.Right → SidesAre (RightTakes from until (node_in middle.now)) node.old }
+    requires seam { way ≡ Way.Seam → SidesAre (SeamTakes from until (node_in middle.now)) node.old }
     requires both { way ≡ Way.Both → SidesAre (BothTake from until (node_in middle.now)) node.old }
     requires goes_on { way ≢ Way.Here }
 
@@ -257,6 +312,7 @@ fn splice_in_place(
 }
 
 // The same of a node that others may hold: a new one is made.
+#[inline(never)]
 #[cycle(splice_node)]
 fn splice_shared(
     alloc: Global,
@@ -269,6 +325,7 @@ fn splice_shared(
     requires editable { IsEditable from until (node_in middle.now) node.old.value }
     requires left { way ≡ Way.Left → SidesAre (LeftTakes from until (node_in middle.now)) node.old.value }
     requires right { way ≡ Way.Right → SidesAre (RightTakes from until (node_in middle.now)) node.old.value }
+    requires seam { way ≡ Way.Seam → SidesAre (SeamTakes from until (node_in middle.now)) node.old.value }
     requires both { way ≡ Way.Both → SidesAre (BothTake from until (node_in middle.now)) node.old.value }
     requires goes_on { way ≢ Way.Here }
 
@@ -283,6 +340,7 @@ fn splice_shared(
 }
 
 // The same of the sides of a node, which stay as they were if memory was refused.
+#[inline(always)]
 #[cycle(splice_node)]
 fn splice_sides(
     alloc: Global,
@@ -304,6 +362,7 @@ fn splice_sides(
         (depth (node_in middle.now)) + 2 ≤ MAX_DEPTH }
     requires left { way ≡ Way.Left → LeftTakes from until (node_in middle.now) left.old.value right.old.value }
     requires right { way ≡ Way.Right → RightTakes from until (node_in middle.now) left.old.value right.old.value }
+    requires seam { way ≡ Way.Seam → SeamTakes from until (node_in middle.now) left.old.value right.old.value }
     requires both { way ≡ Way.Both → BothTake from until (node_in middle.now) left.old.value right.old.value }
     requires goes_on { way ≢ Way.Here }
 
@@ -316,13 +375,77 @@ fn splice_sides(
     match way {
         Way::Left => splice_node(alloc, left, from, until, middle),
         Way::Right => splice_node(alloc, right, from - seam, until - seam, middle),
-        Way::Both => {
-            let behind = until - seam;
-            let rest = sub_node(alloc, right, behind, right.len() - behind)?;
-            splice_node(alloc, left, from, seam, middle)?;
-            *right = rest;
-            Ok(())
-        }
+        Way::Seam => splice_seam(alloc, left, right, from, until, middle),
+        Way::Both => splice_both(alloc, left, right, from, until, middle),
         Way::Here => unreachable!(),
     }
+}
+
+// The same at the seam of two sides, each of which takes `middle`.
+#[inline(never)]
+#[cycle(splice_node)]
+fn splice_seam(
+    alloc: Global,
+    left: &mut Rc<Node>,
+    right: &mut Rc<Node>,
+    from: u64,
+    until: u64,
+    middle: &Option<Rc<Node>>,
+) -> Result<(), AllocError>
+    requires left_sound { IsSound left.old.value }
+    requires right_sound { IsSound right.old.value }
+    requires middle_sound { IsCord (node_in middle.now) }
+    requires order { from ≤ until }
+    requires inside { until ≤ len_of left.old.value + len_of right.old.value }
+    requires within_limit { from + text_len (node_in middle.now)
+        + (len_of left.old.value + len_of right.old.value - until) ≤ MAX_LEN }
+    requires shallow { max (max (depth_of left.old.value) (depth_of right.old.value) + 1)
+        (depth (node_in middle.now)) + 2 ≤ MAX_DEPTH }
+    requires seam { SeamTakes from until (node_in middle.now) left.old.value right.old.value }
+
+    ensures splice { IfOk result (λ _. AreSpliced from until (node_in middle.now) left.old.value right.old.value
+        left.new.value right.new.value) }
+    ensures left_unchanged { IsErr result → left.new ≡ left.old }
+    ensures right_unchanged { IsErr result → right.new ≡ right.old }
+{
+    if goes_left(left, right, middle) {
+        return splice_node(alloc, left, from, until, middle);
+    }
+    let seam = left.len();
+    splice_node(alloc, right, from - seam, until - seam, middle)
+}
+
+// The same over the seam of two sides: the left one loses its end and takes `middle`, the right one loses its beginning.
+#[inline(never)]
+#[cycle(splice_node)]
+fn splice_both(
+    alloc: Global,
+    left: &mut Rc<Node>,
+    right: &mut Rc<Node>,
+    from: u64,
+    until: u64,
+    middle: &Option<Rc<Node>>,
+) -> Result<(), AllocError>
+    requires left_sound { IsSound left.old.value }
+    requires right_sound { IsSound right.old.value }
+    requires middle_sound { IsCord (node_in middle.now) }
+    requires order { from ≤ until }
+    requires inside { until ≤ len_of left.old.value + len_of right.old.value }
+    requires within_limit { from + text_len (node_in middle.now)
+        + (len_of left.old.value + len_of right.old.value - until) ≤ MAX_LEN }
+    requires shallow { max (max (depth_of left.old.value) (depth_of right.old.value) + 1)
+        (depth (node_in middle.now)) + 2 ≤ MAX_DEPTH }
+    requires both { BothTake from until (node_in middle.now) left.old.value right.old.value }
+
+    ensures splice { IfOk result (λ _. AreSpliced from until (node_in middle.now) left.old.value right.old.value
+        left.new.value right.new.value) }
+    ensures left_unchanged { IsErr result → left.new ≡ left.old }
+    ensures right_unchanged { IsErr result → right.new ≡ right.old }
+{
+    let seam = left.len();
+    let behind = until - seam;
+    let rest = sub_node(alloc, right, behind, right.len() - behind)?;
+    splice_node(alloc, left, from, seam, middle)?;
+    *right = rest;
+    Ok(())
 }

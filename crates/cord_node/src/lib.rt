@@ -112,6 +112,21 @@ impl Node {
         }
     }
 
+    // The depth and the number of parts.
+    fn shape(&self) -> (u32, u64)
+        ensures depth { result.0 ≡ depth_of self.now }
+        ensures count { result.1 ≡ count_of self.now }
+    {
+        match self {
+            Node::Cat {
+                depth,
+                part_count,
+                ..
+            } => (*depth, *part_count),
+            _ => (0, 1),
+        }
+    }
+
     // The bytes of a `Leaf`.
     fn leaf_bytes(&self) -> Option<&[u8]>
         requires { IsSound self.now }

@@ -77,6 +77,27 @@ pub fn func(alloc: Global, id: SourceId, start: u64, len: u64) -> Result<Rc<Node
     Ok(node)
 }
 
+// What a concatenation of these two sides stores: its length, its depth, how many parts it has, and its mark.
+#[inline(always)]
+pub fn stored(left: &Rc<Node>, right: &Rc<Node>) -> (u64, u32, u64, Mark)
+    requires left_sound { IsSound left.now.value }
+    requires right_sound { IsSound right.now.value }
+    requires within_limit { len_of left.now.value + len_of right.now.value ≤ MAX_LEN }
+    requires shallow { max (depth_of left.now.value) (depth_of right.now.value) + 1 ≤ MAX_DEPTH }
+    ensures len { result.0 ≡ len_of left.now.value + len_of right.now.value }
+    ensures depth { result.1 ≡ max (depth_of left.now.value) (depth_of right.now.value) + 1 }
+    ensures count { result.2 ≡ count_of left.now.value + count_of right.now.value }
+    ensures mark { result.3 ≡ parts left.now.value ++ parts right.now.value }
+{
+    let len = left.len() + right.len();
+    let (left_depth, left_count) = left.shape();
+    let (right_depth, right_count) = right.shape();
+    let depth = left_depth.max(right_depth) + 1;
+    let part_count = left_count + right_count;
+    let mark = Mark::new(left, right);
+    (len, depth, part_count, mark)
+}
+
 // A concatenation that shares its two sides.
 fn cat(alloc: Global, left: &Rc<Node>, right: &Rc<Node>) -> Result<Rc<Node>, AllocError>
     requires left_sound { IsSound left.now.value }
@@ -93,10 +114,7 @@ fn cat(alloc: Global, left: &Rc<Node>, right: &Rc<Node>) -> Result<Rc<Node>, All
         + 1) }
     ensures count { IfOk result (λ node. count_of node.value ≡ count_of left.now.value + count_of right.now.value) }
 {
-    let len = left.len() + right.len();
-    let depth = left.depth().max(right.depth()) + 1;
-    let part_count = left.part_count() + right.part_count();
-    let mark = Mark::new(left, right);
+    let (len, depth, part_count, mark) = stored(left, right);
     let left = left.clone()?;
     let right = right.clone()?;
     let node = Rc::new(

@@ -83,6 +83,7 @@ fn joined(
 }
 
 // Whether a node is a leaf so short that it can be joined to one with another.
+#[inline(always)]
 pub fn is_short(node: &Node) -> bool {
     match node {
         Node::Leaf { len, .. } => *len < SMALL_LEN as u64,

@@ -42,6 +42,10 @@ LeftTakes from until middle left right = Takes from until middle left
 abbrev pub RightTakes : ℕ → ℕ → Option Node → Node → Node → Type 0
 RightTakes from until middle left right = (len_of left ≤ from) × Takes (from - len_of left) (until - len_of left) middle right
 
+-- in either of them
+abbrev pub SeamTakes : ℕ → ℕ → Option Node → Node → Node → Type 0
+SeamTakes from until middle left right = LeftTakes from until middle left right × RightTakes from until middle left right
+
 -- in the left one, which loses its end, while the right one loses its beginning
 abbrev pub BothTake : ℕ → ℕ → Option Node → Node → Node → Type 0
 BothTake from until middle left right = (from ≤ len_of left) × (len_of left ≤ until) × (until < len_of left + len_of right)

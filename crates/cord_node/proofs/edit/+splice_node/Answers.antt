@@ -48,12 +48,24 @@ splice_sides-returns-in-Right-clause-splice t c =
     c.args.left.now.value c.args.right.now.value c.splice_node-in-Right.new.node.value seam c.requires.order c.requires.left_sound
     c.requires.right_sound (c.requires.right c.in-Right.is) i) c.splice_node-in-Right.ensures.splice
 
-pub splice_sides-returns-in_ok-splice_node-in-Both-clause-splice : goal.splice_sides-returns-in_ok-splice_node-in-Both-clause-splice
-splice_sides-returns-in_ok-splice_node-in-Both-clause-splice t c =
+pub splice_seam-returns-then-goes_left-clause-splice : goal.splice_seam-returns-then-goes_left-clause-splice
+splice_seam-returns-then-goes_left-clause-splice t c = IfOk-weaker _ _ _ (λ _ i. left_changed c.args.from c.args.until
+    (node_in c.args.middle.now) c.args.left.now.value c.args.right.now.value c.splice_node.new.node.value c.requires.order
+    c.requires.left_sound c.requires.right_sound c.requires.seam.0 i) c.splice_node.ensures.splice
+
+pub splice_seam-returns-clause-splice : goal.splice_seam-returns-clause-splice
+splice_seam-returns-clause-splice t c =
+    let seam : c.len-seam.result ≡ len_of c.args.left.now.value = grind (arith, common_steps) in
+    IfOk-weaker _ _ _ (λ _ i. right_changed_at c.args.from c.args.until c.len-seam.result (node_in c.args.middle.now)
+    c.args.left.now.value c.args.right.now.value c.splice_node-2.new.node.value seam c.requires.order c.requires.left_sound
+    c.requires.right_sound c.requires.seam.1 i) c.splice_node-2.ensures.splice
+
+pub splice_both-returns-clause-splice : goal.splice_both-returns-clause-splice
+splice_both-returns-clause-splice t c =
     let seam : c.len-seam.result ≡ len_of c.args.left.now.value = grind (arith, common_steps) in
     let end : c.len.result ≡ len_of c.args.right.now.value = grind (arith, common_steps) in
     both_changed_at c.args.from c.args.until c.len-seam.result c.len.result (node_in c.args.middle.now) c.args.left.now.value
-    c.args.right.now.value c.splice_node-in-Both.new.node.value c.in_ok-rest-in-Both.rest.value seam end c.requires.order
-    c.requires.left_sound c.requires.right_sound (c.requires.both c.in-Both.is) c.in_ok-splice_node-in-Both.ensures.splice
-    c.in_ok-rest-in-Both.ensures.sound c.in_ok-rest-in-Both.ensures.text c.in_ok-rest-in-Both.ensures.len
-    c.in_ok-rest-in-Both.ensures.depth c.in_ok-rest-in-Both.ensures.kept
+    c.args.right.now.value c.splice_node.new.node.value c.in_ok-rest.rest.value seam end c.requires.order
+    c.requires.left_sound c.requires.right_sound c.requires.both c.in_ok-splice_node.ensures.splice
+    c.in_ok-rest.ensures.sound c.in_ok-rest.ensures.text c.in_ok-rest.ensures.len
+    c.in_ok-rest.ensures.depth c.in_ok-rest.ensures.kept

@@ -1,7 +1,0 @@
-use Rattle.std.proofs.Common.{arith}
-use Rattle.std.proofs.lemmas.Grind.{common_steps}
-use Rattle.cord_node.proofs.TreeLemmas.{count_within_len}
-use Rattle.cord_node.proofs.edit.stored.Goals as goal
-
-pub overflow_add-part_count : goal.overflow_add-part_count
-overflow_add-part_count c = grind (arith, common_steps, count_within_len)
