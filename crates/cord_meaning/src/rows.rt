@@ -89,6 +89,8 @@ pub fn wrong_ends_are_not_honest()
         n.finished_after ≡ n.finished_before + 1 → EndsHonestly Rows.hello [] [] [] n (NoMemory 2) → ⊥ }
     ensures no_put_failed { (n : Counts) → n.puts_after ≡ n.puts_before →
         EndsHonestly Rows.hello [] [] (codes "hel") n (WriteFailed 2) → ⊥ }
+    ensures put_failure_as_finish { (n : Counts) → n.puts_before < n.puts_after →
+        EndsHonestly Rows.hello [] [] (codes "hello") n (WriteFailed 0) → ⊥ }
     ensures nothing_reads_there { (n : Counts) → EndsHonestly Rows.hello [] [] [] n (ReadFailed 1) → ⊥ }
     ensures nothing_puts_there { (n : Counts) → EndsHonestly Rows.hello [] [] [] n (WriteFailed 1) → ⊥ }
 {}

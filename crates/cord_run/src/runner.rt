@@ -6,10 +6,10 @@ mod steps;
 ghost use Rattle.std.specs.Prelude.{◌≡◌, ◌≢◌, ◌<◌, ◌-◌, ◌^◌, IfOk, IfErr, OnErr, List, ℕ, map};
 ghost use Rattle.cord_file.specs.Sources.{device_in};
 ghost use Rattle.cord_io.specs.Device.{Folder};
-ghost use Rattle.cord_meaning.specs.Ends.{EndsHonestly, FailsWhere, NamesCause};
+ghost use Rattle.cord_meaning.specs.Ends.{EndsHonestly, FailsWhere, NamesCause, NamesDevice};
 ghost use Rattle.cord_plan.specs.Meaning.{IsPlanOf};
 ghost use Rattle.cord_plan.specs.Views.{operation_view};
-ghost use Rattle.cord_run.specs.Failing.{FailsNowhereElse};
+ghost use Rattle.cord_run.specs.Failing.{FailsNowhereElse, NamesFinish};
 ghost use Rattle.cord_run.specs.inner.Failing.{FailsAmong};
 ghost use Rattle.cord_run.specs.Runs.{IsPlanBy, NothingCalled, Runs, TellsRun, Way, counts_over};
 ghost use Rattle.cord_run.specs.inner.Steps.{HonestPlan};
@@ -41,7 +41,10 @@ fn run_over<F: Files, S: Sink>(
     ensures honest { (folder : Folder) → F.keeps (device_in sources.new) folder →
         HonestPlan folder (map operation_view plan.now) (S.taken sink.old) (S.taken sink.new) result }
     ensures fails { FailsAmong (map operation_view plan.now) result }
-    ensures cause { NamesCause
+    ensures cause { NamesDevice
+        (counts_over ⟦<F as Files>⟧ ⟦<S as Sink>⟧ (device_in sources.old) (device_in sources.new) sink.old sink.new)
+        result }
+    ensures finish { NamesFinish (map operation_view plan.now)
         (counts_over ⟦<F as Files>⟧ ⟦<S as Sink>⟧ (device_in sources.old) (device_in sources.new) sink.old sink.new)
         result }
 {
@@ -62,7 +65,9 @@ pub fn run<F: Files, S: Sink>(alloc: Global, plan: &Plan, files: F, sink: &mut S
         (counts_over ⟦<F as Files>⟧ ⟦<S as Sink>⟧ files result.1 sink.old sink.new) result.0 }
     ensures fails { (statements : List Statement) → FailsNowhereElse statements (map operation_view plan.now) →
         FailsWhere statements result.0 }
-    ensures cause { NamesCause
+    ensures cause { NamesDevice
+        (counts_over ⟦<F as Files>⟧ ⟦<S as Sink>⟧ files result.1 sink.old sink.new) result.0 }
+    ensures finish { NamesFinish (map operation_view plan.now)
         (counts_over ⟦<F as Files>⟧ ⟦<S as Sink>⟧ files result.1 sink.old sink.new) result.0 }
     ensures earlier { (folder : Folder) → F.keeps result.1 folder → F.keeps files folder }
 {
@@ -94,7 +99,7 @@ fn run_by<F: Files, S: Sink>(
     ensures run { (script : List ℕ) → Reads script read.now →
         Runs script (F.keeps result.1) (S.taken sink.old) (S.taken sink.new)
         (counts_over ⟦<F as Files>⟧ ⟦<S as Sink>⟧ files result.1 sink.old sink.new) result.0 }
-    ensures cause { NamesCause
+    ensures cause { (script : List ℕ) → Reads script read.now → NamesCause
         (counts_over ⟦<F as Files>⟧ ⟦<S as Sink>⟧ files result.1 sink.old sink.new) result.0 }
     ensures earlier { (folder : Folder) → F.keeps result.1 folder → F.keeps files folder }
 {

@@ -16,7 +16,10 @@ returns-clause-whole c =
     record {
       puts = record { out = codes "hello"; taken = refl; honest = (sym run.output_is, sym run.end_is) };
       fails = tt;
-      names = record { files_kept = refl; sink_kept = refl; finished = refl };
+      names = record {
+        device = record { files_kept = refl; sink_kept = refl; finished = refl };
+        finish = λ is. refl;
+      };
     }
 
 pub returns-clause-cut : goal.returns-clause-cut
@@ -40,5 +43,8 @@ returns-clause-cut c = record {
     );
   };
   fails = inr (inr (inl (refl, tt)));
-  names = record { sink_failed = refl; put = λ _. omega arith; unfinished = refl; files_kept = refl };
+  names = record {
+    device = record { sink_failed = refl; put = λ _. omega arith; unfinished = refl; files_kept = refl };
+    finish = λ is. let bad : ⊥ = cc in absurd bad;
+  };
 }

@@ -55,31 +55,34 @@ returns-clause-another_fault c = λ n h.
     bad
 
 pub returns-clause-done_without_finish : goal.returns-clause-done_without_finish
-returns-clause-done_without_finish c = λ n rose h. let kept = h.names.sink_kept in absurd (omega (arith, rose, kept))
+returns-clause-done_without_finish c = λ n rose h. let kept = h.names.device.sink_kept in absurd (omega (arith, rose, kept))
 
 pub returns-clause-fault_without_finish : goal.returns-clause-fault_without_finish
-returns-clause-fault_without_finish c = λ n same h. let once = h.names.finished in absurd (omega (arith, same, once))
+returns-clause-fault_without_finish c = λ n same h. let once = h.names.device.finished in absurd (omega (arith, same, once))
 
 pub returns-clause-finish_after_write_failed : goal.returns-clause-finish_after_write_failed
-returns-clause-finish_after_write_failed c = λ n once h. let same = h.names.unfinished in absurd (omega (arith, same, once))
+returns-clause-finish_after_write_failed c = λ n once h. let same = h.names.device.unfinished in absurd (omega (arith, same, once))
 
 pub returns-clause-no_read_failed : goal.returns-clause-no_read_failed
-returns-clause-no_read_failed c = λ n same h. let rose = h.names.files_failed in absurd (omega (arith, same, rose))
+returns-clause-no_read_failed c = λ n same h. let rose = h.names.device.files_failed in absurd (omega (arith, same, rose))
 
 pub returns-clause-read_failure_as_no_memory : goal.returns-clause-read_failure_as_no_memory
-returns-clause-read_failure_as_no_memory c = λ n rose h. let same = h.names.files_kept in absurd (omega (arith, same, rose))
+returns-clause-read_failure_as_no_memory c = λ n rose h. let same = h.names.device.files_kept in absurd (omega (arith, same, rose))
 
 pub returns-clause-write_failure_as_no_memory : goal.returns-clause-write_failure_as_no_memory
-returns-clause-write_failure_as_no_memory c = λ n rose h. let same = h.names.puts_kept in absurd (omega (arith, same, rose))
+returns-clause-write_failure_as_no_memory c = λ n rose h. let same = h.names.device.puts_kept in absurd (omega (arith, same, rose))
 
 pub returns-clause-write_failure_as_read_failure : goal.returns-clause-write_failure_as_read_failure
-returns-clause-write_failure_as_read_failure c = λ n rose h. let same = h.names.puts_kept in absurd (omega (arith, same, rose))
+returns-clause-write_failure_as_read_failure c = λ n rose h. let same = h.names.device.puts_kept in absurd (omega (arith, same, rose))
 
 pub returns-clause-no_put_failed : goal.returns-clause-no_put_failed
-returns-clause-no_put_failed c = λ n same h. let rose = h.names.put (omega arith) in absurd (omega (arith, same, rose))
+returns-clause-no_put_failed c = λ n same h. let rose = h.names.device.put (omega arith) in absurd (omega (arith, same, rose))
+
+pub returns-clause-put_failure_as_finish : goal.returns-clause-put_failure_as_finish
+returns-clause-put_failure_as_finish c = λ n rose h. let same = h.names.finish refl in absurd (omega (arith, rose, same))
 
 pub returns-clause-failed_and_finished : goal.returns-clause-failed_and_finished
-returns-clause-failed_and_finished c = λ n rose once h. let asked = h.names.asked in absurd (omega (arith, rose, once, asked))
+returns-clause-failed_and_finished c = λ n rose once h. let asked = h.names.device.asked in absurd (omega (arith, rose, once, asked))
 
 pub returns-clause-nothing_reads_there : goal.returns-clause-nothing_reads_there
 returns-clause-nothing_reads_there c =

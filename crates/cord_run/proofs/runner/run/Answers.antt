@@ -1,13 +1,16 @@
-use Rattle.std.proofs.Common.{ℕ, ap, map, subst, sym}
+use Rattle.std.proofs.Common.{ℕ, List, ap, map, subst, sym}
 use Rattle.cord_file.specs.Sources.{device_in}
-use Rattle.cord_meaning.specs.Ends.{Counts, NamesCause}
+use Rattle.cord_meaning.specs.Ends.{Counts, NamesDevice}
+use Rattle.cord_plan.specs.Planned.{Operation}
 use Rattle.cord_plan.specs.Views.{operation_view}
+use Rattle.cord_run.specs.Failing.{NamesFinish}
 use Rattle.cord_run.proofs.Ends.{fails_where}
 use Rattle.cord_run.proofs.Meaning.{ends_honestly}
 use Rattle.cord_run.proofs.runner.run.Goals as goal
 
 pub returns-in-Ok-clause-honest : goal.returns-in-Ok-clause-honest
 returns-in-Ok-clause-honest g c = λ statements plan alike grammar script reads folder agrees.
+    let operations : List Operation = map operation_view c.args.plan.now in
     let e = c.run_over-end.result in
     let n : Counts = record {
       files_before = g.F.Files.failures (device_in c.in-Ok.sources);
@@ -20,14 +23,18 @@ returns-in-Ok-clause-honest g c = λ statements plan alike grammar script reads 
       finished_after = (g.S.Sink.finished c.run_over-end.new.sink).ended;
     } in
     let m : Counts = record n { files_before = g.F.Files.failures c.args.files; files_after = g.F.Files.failures c.close.result } in
-    let names = subst (λ (k : ℕ). NamesCause (record n { files_before = k; files_after = g.F.Files.failures c.close.result }) e)
+    let device = subst (λ (k : ℕ). NamesDevice (record n { files_before = k; files_after = g.F.Files.failures c.close.result }) e)
     (ap g.F.Files.failures c.in-Ok.ensures.made.0)
-    (subst (λ (k : ℕ). NamesCause (record n { files_after = k }) e)
+    (subst (λ (k : ℕ). NamesDevice (record n { files_after = k }) e)
     (sym (ap g.F.Files.failures c.close.ensures)) c.run_over-end.ensures.cause) in
+    let finish = subst (λ (k : ℕ). NamesFinish operations (record n { files_before = k; files_after = g.F.Files.failures c.close.result }) e)
+    (ap g.F.Files.failures c.in-Ok.ensures.made.0)
+    (subst (λ (k : ℕ). NamesFinish operations (record n { files_after = k }) e)
+    (sym (ap g.F.Files.failures c.close.ensures)) c.run_over-end.ensures.finish) in
     let there : g.F.Files.keeps (device_in c.run_over-end.new.sources) folder =
     subst (λ f. g.F.Files.keeps f folder) c.close.ensures agrees in
-    ends_honestly statements (map operation_view c.args.plan.now) plan grammar script reads alike folder (g.S.Sink.taken c.args.sink.now)
-    (g.S.Sink.taken c.run_over-end.new.sink) m e (c.run_over-end.ensures.honest folder there) c.run_over-end.ensures.fails names
+    ends_honestly statements operations plan grammar script reads alike folder (g.S.Sink.taken c.args.sink.now)
+    (g.S.Sink.taken c.run_over-end.new.sink) m e (c.run_over-end.ensures.honest folder there) c.run_over-end.ensures.fails device finish
 
 pub returns-in-Ok-clause-fails : goal.returns-in-Ok-clause-fails
 returns-in-Ok-clause-fails g c = λ statements alike. fails_where statements

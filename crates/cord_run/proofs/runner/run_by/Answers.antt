@@ -4,8 +4,17 @@ use Rattle.cord_plan.specs.Meaning.{IsPlanOf}
 use Rattle.cord_plan.specs.Views.{operation_view}
 use Rattle.cord_run.specs.Runs.{IsPlanBy}
 use Rattle.cord_script.specs.Script.{whole}
+use Rattle.cord_run.proofs.Meaning.{names_cause}
 use Rattle.cord_run.proofs.Readers.{plan_alike}
 use Rattle.cord_run.proofs.runner.run_by.Goals as goal
+
+pub returns-in-Ok-clause-cause : goal.returns-in-Ok-clause-cause
+returns-in-Ok-clause-cause g c = λ script reads.
+    let s = c.args.read.now in
+    let operations = map operation_view c.in-Ok.plan in
+    let chosen : IsPlanBy g.way s operations =
+    subst (λ made. IfOk made (λ plan. IsPlanBy g.way s (map operation_view plan))) c.in-Ok.is c.requires.1.1.0 in
+    names_cause script s reads operations (plan_alike g.way s operations chosen) _ c.run.result.0 c.run.ensures.cause c.run.ensures.finish
 
 pub returns-in-Ok-clause-run : goal.returns-in-Ok-clause-run
 returns-in-Ok-clause-run g c = λ script reads.

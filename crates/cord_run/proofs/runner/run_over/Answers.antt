@@ -11,7 +11,7 @@ use Rattle.cord_plan.specs.Planned.{Operation}
 use Rattle.cord_plan.specs.Views.{operation_view}
 use Rattle.cord_run.specs.inner.Ends.{Closes}
 use Rattle.cord_run.specs.inner.Steps.{end_of_run}
-use Rattle.cord_run.proofs.Ends.{closed_cause, closed_fails, closed_honest, no_put_failed, put_failed, run_fails}
+use Rattle.cord_run.proofs.Ends.{closed_cause, closed_fails, closed_finish, closed_honest, no_put_failed, put_failed, run_fails}
 use Rattle.cord_run.proofs.runner.run_over.Goals as goal
 
 pub returns-clause-honest : goal.returns-clause-honest
@@ -51,3 +51,20 @@ returns-clause-cause g c =
     (no_put_failed _ _ _ _ _ _ before after c.run_plan.ensures.finished c.requires.sink_count)
     (put_failed _ _ _ _ _ _ before after c.run_plan.ensures.finished c.requires.sink_count) c.close_output.ensures.puts c.run_plan.result
     c.run_plan.ensures.counts told closes
+
+pub returns-clause-finish : goal.returns-clause-finish
+returns-clause-finish g c =
+    let told : End = c.close_output.result in
+    let n : SinkCounts = sink_counts g.S.Sink c.run_plan.new.sink c.close_output.new.sink in
+    let closes = subst (λ (e : End). Closes n e told) c.end_of_run-own.ensures c.close_output.ensures.closes in
+    let before = g.met.S.Sink.failures_are c.args.sink.now in
+    let after = g.met.S.Sink.failures_are c.run_plan.new.sink in
+    closed_finish (g.F.Files.failures (device_in c.args.sources.now)) (g.F.Files.failures (device_in c.run_plan.new.sources))
+    (g.S.Sink.failures c.args.sink.now)
+    (g.S.Sink.failures c.run_plan.new.sink) (g.S.Sink.failures c.close_output.new.sink) (g.S.Sink.finished c.args.sink.now).ended
+    (g.S.Sink.finished c.run_plan.new.sink).ended (g.S.Sink.finished c.close_output.new.sink).ended (g.S.Sink.failed_puts c.args.sink.now)
+    (g.S.Sink.failed_puts c.run_plan.new.sink) (g.S.Sink.failed_puts c.close_output.new.sink) c.requires.files_count
+    c.requires.sink_count (ap (λ (f : Finishes). f.ended) c.run_plan.ensures.finished)
+    (no_put_failed _ _ _ _ _ _ before after c.run_plan.ensures.finished c.requires.sink_count)
+    (put_failed _ _ _ _ _ _ before after c.run_plan.ensures.finished c.requires.sink_count) c.close_output.ensures.puts
+    (map operation_view c.args.plan.now) c.run_plan.result c.run_plan.ensures.counts c.run_plan.ensures.fails told closes
