@@ -1,0 +1,6 @@
+//! Worked rows of line indices. They stand in a crate of their own, since tests inside a crate have all of it proved a
+//! second time.
+#![tactic(auto)]
+
+#[cfg(test)]
+mod tests;

@@ -1,0 +1,131 @@
+-- Texts that are cut into pieces.
+use Rattle.std.proofs.Common.{◌≡◌, ℕ, suc, zero, ◌+◌, ◌-◌, ◌<◌, ◌≤◌, List, [], ◌∷◌, ◌++◌, length, take, drop, refl, sym, ap, ◌∙◌, arith, append_assoc, subst, min, length-take, length-append}
+use Rattle.std.proofs.lemmas.List.{append-nil, take_all, drop-drop}
+use Rattle.std.proofs.lemmas.List.Sums.{sum_by-take-le}
+use Rattle.std.proofs.Math.Seq.{take-add, drop-append_seam}
+use Rattle.cord_io.specs.declared.TheConstants.{MAX_LEN}
+use Rattle.cord_node.proofs.Ranges.{take-append_right}
+use Rattle.cord_lines.specs.Lines.{after_ends}
+use Rattle.cord_lines.proofs.Ends.{past_all}
+use Rattle.cord_lines.specs.declared.counting.Counts.{Counts}
+use Rattle.cord_lines.specs.declared.blocks.Block.{Block}
+use Rattle.cord_lines.specs.Counts.{counts_of, ends_in, plus, AreFew, AreNarrow}
+use Rattle.cord_lines.specs.inner.Blocks.{block_counts, total}
+use Rattle.cord_lines.specs.inner.Cuts.{IsCut, AreModest}
+use Rattle.cord_lines.proofs.Countings.{counts-append, ends-le, chars-le}
+use Rattle.cord_lines.proofs.Sums.{min_front, total-cons}
+
+pub total_is : (bs : List Block) (x : List ℕ) → IsCut bs x → total bs ≡ counts_of x
+total_is [] x c = ap counts_of (sym c)
+total_is (b ∷ bs) x (piece, rest, text, here, more) =
+    total-cons b bs ∙ ap (λ (a : Counts). plus a (total bs)) here ∙ ap (plus (counts_of piece)) (total_is bs rest more)
+    ∙ sym (counts-append piece rest) ∙ ap counts_of (sym text)
+
+-- a text in two, between two blocks
+pub record Split (i : ℕ) (bs : List Block) (x : List ℕ) : Type 0 where
+  pub front : List ℕ
+  pub back : List ℕ
+  pub text : x ≡ front ++ back
+  pub first : IsCut (take i bs) front
+  pub second : IsCut (drop i bs) back
+
+pub split : (i : ℕ) (bs : List Block) (x : List ℕ) → IsCut bs x → Split i bs x
+split zero bs x c = record { front = []; back = x; text = refl; first = refl; second = c }
+split (suc i) [] x c = record { front = []; back = x; text = refl; first = refl; second = c }
+split (suc i) (b ∷ bs) x (piece, rest, text, here, more) =
+    let s = split i bs rest more in
+    record {
+      front = piece ++ s.front;
+      back = s.back;
+      text = text ∙ ap (λ (y : List ℕ). piece ++ y) s.text ∙ sym (append_assoc piece s.front s.back);
+      first = (piece, s.front, refl, here, s.first);
+      second = s.second;
+    }
+
+pub joined : (cs bs : List Block) (x y : List ℕ) → IsCut cs x → IsCut bs y → IsCut (cs ++ bs) (x ++ y)
+joined [] bs x y c d = subst (λ (z : List ℕ). IsCut bs z) (ap (λ (z : List ℕ). z ++ y) (sym c)) d
+joined (a ∷ cs) bs x y (piece, rest, text, here, more) d =
+    (piece, rest ++ y, ap (λ (z : List ℕ). z ++ y) text ∙ append_assoc piece rest y, here, joined cs bs rest y more d)
+
+-- what is before a block
+pub front_counts : (i : ℕ) (bs : List Block) (x : List ℕ) (c : IsCut bs x) → total (take i bs) ≡ counts_of (split i bs x c).front
+front_counts i bs x c = total_is (take i bs) (split i bs x c).front (split i bs x c).first
+
+pub few : (bs : List Block) → AreModest bs → AreFew (total bs)
+few bs m = record { bytes = omega (arith, m.bytes); ends = omega (arith, m.ends); chars = omega (arith, m.chars) }
+
+pub modest : (bs : List Block) (x : List ℕ) → IsCut bs x → length x ≤ MAX_LEN → AreModest bs
+modest bs x c le =
+    let all : total bs ≡ counts_of x = total_is bs x c in
+    record {
+      bytes = (let e = ap (λ (a : Counts). a.bytes) all in omega (arith, e, le));
+      ends = (let e = ap (λ (a : Counts). a.ends) all in omega (arith, e, le, ends-le x));
+      chars = (let e = ap (λ (a : Counts). a.chars) all in omega (arith, e, le, chars-le x));
+    }
+
+pub one_piece_more : (bs : List Block) (b : Block) (x y z : List ℕ) → IsCut bs x → block_counts b ≡ counts_of y → z ≡ x ++ y → IsCut (bs ++ b ∷ []) z
+one_piece_more bs b x y z c here text = subst (λ (w : List ℕ). IsCut (bs ++ b ∷ []) w) (sym text)
+    (joined bs (b ∷ []) x y c (y, [], sym (append-nil y), here, refl))
+
+-- a range in two
+pub range_more : (x : List ℕ) (from place end : ℕ) → from ≤ place → place ≤ end →
+    take (end - from) (drop from x) ≡ take (place - from) (drop from x) ++ take (end - place) (drop place x)
+range_more x from place end le le2 =
+    let whole : end - from ≡ (place - from) + (end - place) = omega (arith, le, le2) in
+    let there : from + (place - from) ≡ place = omega (arith, le) in
+    ap (λ (n : ℕ). take n (drop from x)) whole ∙ take-add (place - from) (end - place) (drop from x)
+    ∙ ap (λ (y : List ℕ). take (place - from) (drop from x) ++ take (end - place) y) (drop-drop (place - from) from x ∙ ap (λ (n : ℕ). drop n x) there)
+
+pub short : (n : ℕ) (x : List ℕ) → length (take n x) ≤ n
+short n x = omega (arith, length-take n x)
+
+pub narrow : (x : List ℕ) → length x < 65536 → AreNarrow (counts_of x)
+narrow x lt = record { bytes = lt; ends = omega (arith, lt, ends-le x); chars = omega (arith, lt, chars-le x) }
+
+pub all_of : (x : List ℕ) (n : ℕ) → n ≡ length x → take (n - 0) (drop 0 x) ≡ x
+all_of x n e = take_all (n - 0) x (omega (arith, e))
+
+-- what is before a block, and then some bytes more, fits
+pub few_more : (bs : List Block) (i p n : ℕ) (x : List ℕ) → AreModest bs → n ≤ MAX_LEN → p ≤ n →
+    AreFew (plus (total (take i bs)) (counts_of (take (n - p) (drop p x))))
+few_more bs i p n x m le le2 =
+    let here = short (n - p) (drop p x) in
+    record {
+      bytes = omega (arith, m.bytes, le, here, sum_by-take-le (λ (b : Block). b.bytes) bs i);
+      ends = omega (arith, m.ends, le, here, ends-le (take (n - p) (drop p x)), sum_by-take-le (λ (b : Block). b.ends) bs i);
+      chars = omega (arith, m.chars, le, here, chars-le (take (n - p) (drop p x)), sum_by-take-le (λ (b : Block). b.chars) bs i);
+    }
+
+module _ (bs : List Block) (x : List ℕ) (c : IsCut bs x) (i : ℕ) where
+  abbrev s : Split i bs x
+  s = split i bs x c
+
+  before : total (take i bs) ≡ counts_of s.front
+  before = front_counts i bs x c
+
+  starts : (total (take i bs)).bytes ≡ length s.front
+  starts = ap (λ (a : Counts). a.bytes) before
+
+  rest : (p : ℕ) → p ≡ length s.front → drop p x ≡ s.back
+  rest p e = ap (λ (n : ℕ). drop n x) e ∙ ap (drop (length s.front)) s.text ∙ drop-append_seam s.front s.back
+
+  pub counts_to : (p end place : ℕ) → p ≡ (total (take i bs)).bytes → p ≤ end → end ≡ min (length x) place →
+      plus (total (take i bs)) (counts_of (take (end - p) (drop p x))) ≡ counts_of (take place x)
+  counts_to p end place e le min-is =
+      let p-is : p ≡ length s.front = e ∙ starts in
+      let reach : length s.front ≤ end = omega (arith, p-is, le) in
+      ap (λ (a : Counts). plus a (counts_of (take (end - p) (drop p x)))) before
+      ∙ ap (λ (y : List ℕ). plus (counts_of s.front) (counts_of (take (end - p) y))) (rest p p-is)
+      ∙ ap (λ (n : ℕ). plus (counts_of s.front) (counts_of (take (end - n) s.back))) p-is
+      ∙ sym (counts-append s.front (take (end - length s.front) s.back))
+      ∙ ap counts_of (sym (take-append_right s.front s.back end reach) ∙ ap (take end) (sym s.text) ∙ min_front x place end min-is)
+
+  pub start_at : (from n : ℕ) → from ≡ min (total (take i bs)).bytes (length x) → (total (take i bs)).ends < n →
+      from + after_ends (n - (total (take i bs)).ends) (drop from x) ≡ after_ends n x
+  start_at from n e lt =
+      let ends : (total (take i bs)).ends ≡ ends_in s.front = ap (λ (a : Counts). a.ends) before in
+      let len : length x ≡ length s.front + length s.back = ap (λ (y : List ℕ). length y) s.text ∙ length-append s.front s.back in
+      let from-is : from ≡ length s.front = omega (arith, e, starts, len) in
+      ap (λ (y : List ℕ). from + after_ends (n - (total (take i bs)).ends) y) (rest from from-is)
+      ∙ ap (λ (k : ℕ). from + after_ends (n - k) s.back) ends ∙ ap (λ (k : ℕ). k + after_ends (n - ends_in s.front) s.back) from-is
+      ∙ sym (past_all n s.front s.back (omega (arith, lt, ends))) ∙ ap (after_ends n) (sym s.text)

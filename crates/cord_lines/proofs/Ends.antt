@@ -1,0 +1,68 @@
+-- Where the ends of lines stand in two texts, one after the other.
+use Rattle.std.proofs.Common.{◌≡◌, ℕ, ◌+◌, ◌-◌, ◌<◌, ◌≤◌, Bool, true, false, cond, List, [], ◌∷◌, ◌++◌, length, drop, replicate, min, refl, sym, ap, ◌∙◌, arith, suc, zero}
+use Rattle.std.specs.Prelude.{◌==◌, if◌then◌else◌}
+use Rattle.std.proofs.lemmas.Bool.Decides.{nat_tests}
+use Rattle.std.proofs.lemmas.List.Sums.{sum_by-cons, sum_by-append}
+use Rattle.cord_lines.specs.Counts.{is_end, ends_in}
+use Rattle.cord_lines.specs.Lines.{after_ends}
+
+pub ends-cons : (b : ℕ) (x : List ℕ) (is : Bool) → is_end b ≡ is → ends_in (b ∷ x) ≡ cond is 1 0 + ends_in x
+ends-cons b x is h = sum_by-cons (λ (c : ℕ). cond (is_end c) 1 0) b x ∙ ap (λ (w : Bool). cond w 1 0 + ends_in x) h
+
+pub ends-append : (x y : List ℕ) → ends_in (x ++ y) ≡ ends_in x + ends_in y
+ends-append x y = sum_by-append (λ (c : ℕ). cond (is_end c) 1 0) x y
+
+pub none_passed : (x : List ℕ) → after_ends 0 x ≡ 0
+none_passed [] = refl
+none_passed (b ∷ x) = refl
+
+-- one byte more
+pub one_more : (n : ℕ) (x : List ℕ) (b : ℕ) (is : Bool) → is_end b ≡ is → 0 < n →
+    after_ends n (b ∷ x) ≡ 1 + after_ends (if is then n - 1 else n) x
+one_more n x b is h lt = let none : (n == 0) ≡ false = grind (arith, nat_tests) in rw (none, h) refl
+
+past_one : (n : ℕ) (x y : List ℕ) (b : ℕ) (is : Bool) → is_end b ≡ is → ends_in (b ∷ x) < n →
+    ((m : ℕ) → ends_in x < m → after_ends m (x ++ y) ≡ length x + after_ends (m - ends_in x) y) →
+    after_ends n (b ∷ (x ++ y)) ≡ 1 + (length x + after_ends (n - ends_in (b ∷ x)) y)
+past_one n x y b true h lt later =
+    let count : ends_in (b ∷ x) ≡ 1 + ends_in x = ends-cons b x true h in
+    let same : n - 1 - ends_in x ≡ n - ends_in (b ∷ x) = omega (arith, count) in
+    one_more n (x ++ y) b true h (omega (arith, lt)) ∙ ap (λ (k : ℕ). 1 + k) (later (n - 1) (omega (arith, lt, count)))
+    ∙ ap (λ (k : ℕ). 1 + (length x + after_ends k y)) same
+past_one n x y b false h lt later =
+    let count : ends_in (b ∷ x) ≡ 0 + ends_in x = ends-cons b x false h in
+    let same : n - ends_in x ≡ n - ends_in (b ∷ x) = omega (arith, count) in
+    one_more n (x ++ y) b false h (omega (arith, lt)) ∙ ap (λ (k : ℕ). 1 + k) (later n (omega (arith, lt, count)))
+    ∙ ap (λ (k : ℕ). 1 + (length x + after_ends k y)) same
+
+-- the ends in the first text are passed
+pub past_all : (n : ℕ) (x y : List ℕ) → ends_in x < n → after_ends n (x ++ y) ≡ length x + after_ends (n - ends_in x) y
+past_all n [] y lt = let e : n ≡ n - 0 = omega arith in ap (λ (k : ℕ). after_ends k y) e ∙ omega arith
+past_all n (b ∷ x) y lt = past_one n x y b (is_end b) refl lt (λ m less. past_all m x y less) ∙ omega arith
+
+within_one : (n : ℕ) (x y : List ℕ) (b : ℕ) (is : Bool) → is_end b ≡ is → 0 < n → n ≤ ends_in (b ∷ x) →
+    ((m : ℕ) → m ≤ ends_in x → after_ends m (x ++ y) ≡ after_ends m x) → after_ends n (b ∷ (x ++ y)) ≡ after_ends n (b ∷ x)
+within_one n x y b true h some le later =
+    one_more n (x ++ y) b true h some ∙ ap (λ (k : ℕ). 1 + k) (later (n - 1) (omega (arith, le, ends-cons b x true h)))
+    ∙ sym (one_more n x b true h some)
+within_one n x y b false h some le later =
+    one_more n (x ++ y) b false h some ∙ ap (λ (k : ℕ). 1 + k) (later n (omega (arith, le, ends-cons b x false h)))
+    ∙ sym (one_more n x b false h some)
+
+-- the first text has as many ends
+pub in_first : (n : ℕ) (x y : List ℕ) → n ≤ ends_in x → after_ends n (x ++ y) ≡ after_ends n x
+in_first zero x y le = none_passed (x ++ y) ∙ sym (none_passed x)
+in_first (suc n) [] y le = absurd (omega (arith, le))
+in_first (suc n) (b ∷ x) y le = within_one (suc n) x y b (is_end b) refl (omega arith) le (λ m less. in_first m x y less)
+
+-- a run of ends
+pub run_of_ends : (n count : ℕ) → after_ends n (replicate count 10) ≡ min n count
+run_of_ends n zero = omega arith
+run_of_ends zero (suc count) = none_passed (replicate (suc count) 10) ∙ omega arith
+run_of_ends (suc n) (suc count) =
+    one_more (suc n) (replicate count 10) 10 true refl (omega arith) ∙ ap (λ (k : ℕ). 1 + k) (run_of_ends (suc n - 1) count) ∙ omega arith
+
+-- a run of another byte
+pub run_of_none : (n count b : ℕ) → is_end b ≡ false → 0 < n → after_ends n (replicate count b) ≡ count
+run_of_none n zero b e some = refl
+run_of_none n (suc count) b e some = one_more n (replicate count b) b false e some ∙ ap (λ (k : ℕ). 1 + k) (run_of_none n count b e some) ∙ omega arith

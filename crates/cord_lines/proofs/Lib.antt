@@ -1,0 +1,7 @@
+pub mod Ends
+pub mod Readings
+pub mod Countings
+pub mod Sums
+pub mod Grouping
+pub mod Cuts
+pub mod Linings

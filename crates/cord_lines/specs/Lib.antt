@@ -1,0 +1,4 @@
+pub mod Counts
+pub mod Lines
+pub mod Index
+pub mod inner

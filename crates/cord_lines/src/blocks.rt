@@ -1,0 +1,256 @@
+// The blocks of a text, and what each holds.
+ghost use Rattle.std.specs.Prelude.{◌≡◌, ◌+◌, ◌-◌, ◌<◌, ◌≤◌, ◌*◌, ◌++◌, IfOk, OnOk, IsErr, IsOkUnless, length, take, drop, slice_set};
+ghost use Rattle.cord_io.specs.declared.CordError.TheVariants.{NoMemory};
+ghost use Rattle.cord_lines.specs.Counts.{plus, AreFew, AreNarrow};
+ghost use Rattle.cord_lines.specs.inner.Blocks.{amount, block_counts, total, AreSumsOf};
+
+use crate::counting::Counts;
+use cord_io::CordError;
+use std::alloc::Global;
+use std::marker::Model;
+
+/// How many blocks are summed up together.
+const GROUP: usize = 256;
+
+/// The counts of a block, which has less than 65,536 bytes.
+#[derive(Clone, Copy)]
+pub(crate) struct Block {
+    pub(crate) bytes: u16,
+    pub(crate) ends: u16,
+    pub(crate) chars: u16,
+}
+
+impl Block {
+    /// Its counts.
+    pub(crate) fn counts(self) -> Counts
+        ensures counts { result ≡ block_counts self }
+        ensures narrow { AreNarrow result }
+    {
+        Counts {
+            bytes: u64::from(self.bytes),
+            ends: u64::from(self.ends),
+            chars: u64::from(self.chars),
+        }
+    }
+
+    /// The block of these counts.
+    pub(crate) fn of(counts: Counts) -> Block
+        requires { AreNarrow counts }
+        ensures { block_counts result ≡ counts }
+    {
+        Block {
+            bytes: counts.bytes as u16,
+            ends: counts.ends as u16,
+            chars: counts.chars as u16,
+        }
+    }
+}
+
+/// By what a block is looked for.
+#[derive(Clone, Copy)]
+pub(crate) enum Measure {
+    Bytes,
+    Ends,
+}
+
+impl Measure {
+    fn of(self, counts: Counts) -> u64
+        ensures { result ≡ amount self counts }
+    {
+        match self {
+            Measure::Bytes => counts.bytes,
+            Measure::Ends => counts.ends,
+        }
+    }
+}
+
+/// A block or a group, by its index, and the counts of all before it.
+#[derive(Clone, Copy)]
+pub(crate) struct Found {
+    pub(crate) index: usize,
+    pub(crate) before: Counts,
+}
+
+/// The blocks of a text in order, with the sums of each `GROUP` of them.
+#[derive(Drop)]
+pub(crate) struct Blocks {
+    blocks: Vec<Block>,
+    sums: Vec<Counts>,
+}
+
+impl Model for Blocks {
+    ghost use Rattle.std.specs.Prelude.{List};
+    ghost use Rattle.cord_lines.specs.declared.blocks.Block.{Block};
+    ghost use Rattle.cord_lines.specs.inner.Blocks.{AreSumsOf};
+
+    ghost Value = { List Block };
+
+    ghost view = { λ b. b.blocks.items };
+
+    ghost invariant = { λ b. AreSumsOf b.sums.items b.blocks.items };
+}
+
+impl Blocks {
+    /// These blocks. Refused for want of memory alone.
+    pub(crate) fn of(alloc: Global, blocks: Vec<Block>) -> Result<Blocks, CordError>
+        ensures blocks { IfOk result (λ made. made ≡ blocks.items) }
+        ensures refused { IsOkUnless result NoMemory }
+    {
+        let sums = sums_of(alloc, &blocks)?;
+        Ok(Blocks { blocks, sums })
+    }
+
+    /// The number of blocks.
+    pub(crate) fn len(&self) -> usize
+        ensures { result ≡ length self.now }
+    {
+        self.blocks.len()
+    }
+
+    /// The counts of a block.
+    pub(crate) fn get(&self, index: usize) -> Counts
+        requires { index < length self.now }
+        ensures { total (take (index + 1) self.now) ≡ plus (total (take index self.now)) result }
+    {
+        self.blocks[index].counts()
+    }
+
+    /// The counts of all blocks.
+    pub(crate) fn counts(&self) -> Counts
+        requires { AreFew (total self.now) }
+        ensures { result ≡ total self.now }
+    {
+        let mut counts = Counts::NONE;
+        for sum in &self.sums {
+            counts = counts.plus(*sum);
+        }
+        counts
+    }
+
+    /// The last block with no more than `target` before it: of no blocks none.
+    pub(crate) fn find(&self, measure: Measure, target: u64) -> Found
+        requires { AreFew (total self.now) }
+        ensures inside { result.index ≤ length self.now }
+        ensures before { result.before ≡ total (take result.index self.now) }
+        ensures most { amount measure result.before ≤ target }
+    {
+        let group = self.group_with(measure, target);
+        let rest = &self.blocks[group.index..];
+        let found = block_with(
+            &rest[..rest.len().min(GROUP)],
+            measure,
+            target,
+            group.before,
+        );
+        Found {
+            index: group.index + found.index,
+            before: found.before,
+        }
+    }
+
+    // The first block of the last group with no more than `target` before it.
+    fn group_with(&self, measure: Measure, target: u64) -> Found
+        requires { AreFew (total self.now) }
+        ensures inside { result.index ≤ length self.now }
+        ensures before { result.before ≡ total (take result.index self.now) }
+        ensures most { amount measure result.before ≤ target }
+    {
+        let blocks = self.blocks.as_slice();
+        let mut before = Counts::NONE;
+        for (index, sum) in self.sums.iter().enumerate() {
+            let after = before.plus(*sum);
+            if target < measure.of(after) {
+                return Found {
+                    index: index * GROUP,
+                    before,
+                };
+            }
+            before = after;
+        }
+        Found {
+            index: blocks.len(),
+            before,
+        }
+    }
+
+    /// Puts a block into the place of another one.
+    pub(crate) fn set(&mut self, index: usize, block: Block)
+        requires { index < length self.old }
+        ensures { self.new ≡ slice_set self.old index block }
+    {
+        self.blocks[index] = block;
+        let group = index / GROUP;
+        let rest = &self.blocks[group * GROUP..];
+        self.sums[group] = sum_of(&rest[..rest.len().min(GROUP)]);
+    }
+
+    /// Puts blocks into the place of `count` others. Refused for want of memory alone, and then all is as it was.
+    pub(crate) fn replace(
+        &mut self,
+        alloc: Global,
+        start: usize,
+        count: usize,
+        fresh: &[Block],
+    ) -> Result<(), CordError>
+        requires { start + count ≤ length self.old }
+        ensures blocks { OnOk result (self.new ≡ take start self.old ++ fresh.now ++ drop (start + count) self.old) }
+        ensures unchanged { IsErr result → self.new ≡ self.old }
+        ensures refused { IsOkUnless result NoMemory }
+    {
+        let mut blocks = Vec::with_capacity(alloc, self.blocks.len() - count + fresh.len())?;
+        blocks.extend_from_slice(&self.blocks[..start])?;
+        blocks.extend_from_slice(fresh)?;
+        blocks.extend_from_slice(&self.blocks[start + count..])?;
+        *self = Blocks::of(alloc, blocks)?;
+        Ok(())
+    }
+}
+
+// The last block with no more than `target` before it, where the blocks follow others.
+fn block_with(blocks: &[Block], measure: Measure, target: u64, others: Counts) -> Found
+    requires few { AreFew (plus others (total blocks.now)) }
+    requires most { amount measure others ≤ target }
+    ensures inside { result.index ≤ length blocks.now }
+    ensures before { result.before ≡ plus others (total (take result.index blocks.now)) }
+    ensures most { amount measure result.before ≤ target }
+{
+    let mut before = others;
+    for (index, block) in blocks.iter().enumerate() {
+        let after = before.plus(block.counts());
+        if target < measure.of(after) {
+            return Found { index, before };
+        }
+        before = after;
+    }
+    Found {
+        index: blocks.len(),
+        before,
+    }
+}
+
+// The sum of a group of blocks.
+fn sum_of(blocks: &[Block]) -> Counts
+    requires { length blocks.now ≤ GROUP }
+    ensures { result ≡ total blocks.now }
+{
+    let mut sum = Counts::NONE;
+    for block in blocks {
+        sum = sum.plus(block.counts());
+    }
+    sum
+}
+
+// The sums of all groups.
+fn sums_of(alloc: Global, blocks: &[Block]) -> Result<Vec<Counts>, CordError>
+    ensures sums { IfOk result (λ sums. AreSumsOf sums.items blocks.now) }
+    ensures refused { IsOkUnless result NoMemory }
+{
+    let mut sums = Vec::with_capacity(alloc, blocks.len() / GROUP + 1)?;
+    let mut rest = blocks;
+    while !rest.is_empty() {
+        let (front, back) = rest.split_at(rest.len().min(GROUP));
+        sums.push(sum_of(front))?;
+        rest = back;
+    }
+    Ok(sums)
+}

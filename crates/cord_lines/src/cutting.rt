@@ -1,0 +1,45 @@
+// Ranges of a text that are cut into blocks.
+ghost use Rattle.std.specs.Prelude.{◌≡◌, ◌-◌, ◌<◌, ◌≤◌, IfOk, IsOkUnless, length, take, drop};
+ghost use Rattle.cord_io.specs.declared.CordError.TheVariants.{NoMemory};
+ghost use Rattle.cord_lines.specs.inner.Cuts.{IsCut};
+
+use crate::blocks::Block;
+use crate::reading::count_range;
+use cord::{CordError, Text};
+use std::alloc::Global;
+
+/// The bytes of a block of a new index: the last one has up to twice as many.
+pub(crate) const BLOCK: u64 = 8_192;
+
+/// Blocks have less than twice as many bytes.
+pub(crate) const LARGEST: u64 = 32_767;
+
+/// The blocks of what a text has from one place up to another, of so many bytes each, the last one of less than twice
+/// as many. Refused for want of memory alone.
+pub(crate) fn cut(
+    alloc: Global,
+    text: &Text,
+    from: u64,
+    to: u64,
+    size: u64,
+) -> Result<Vec<Block>, CordError>
+    requires ordered { from ≤ to }
+    requires inside { to ≤ length text.now }
+    requires some { 0 < size }
+    requires few { size ≤ LARGEST }
+    ensures cut { IfOk result (λ blocks. IsCut blocks.items (take (to - from) (drop from text.now))) }
+    ensures refused { IsOkUnless result NoMemory }
+{
+    let mut blocks = Vec::with_capacity(alloc, ((to - from) / size).max(1) as usize)?;
+    let mut place = from;
+    while place < to {
+        let end = if to - place < 2 * size {
+            to
+        } else {
+            place + size
+        };
+        blocks.push(Block::of(count_range(text, place, end)))?;
+        place = end;
+    }
+    Ok(blocks)
+}

@@ -1,0 +1,118 @@
+//! The lines of a text by number.
+ghost use Rattle.std.specs.Prelude.{◌≡◌, ◌+◌, ◌≤◌, List, ℕ, IfOk, OnOk, IsErr, IsOkUnless, length, take, drop, slice_get};
+ghost use Rattle.cord_io.specs.declared.CordError.TheVariants.{NoMemory};
+ghost use Rattle.cord.specs.Lines.{lines, bare_lines};
+ghost use Rattle.cord_lines.specs.Counts.{chars_in, counts_of, ends_in};
+ghost use Rattle.cord_lines.specs.Lines.{after_ends, lacks_end};
+ghost use Rattle.cord_lines.specs.inner.Cuts.{AreModest};
+
+use crate::blocks::{Blocks, Measure};
+use crate::counting::Counts;
+use crate::cutting::{BLOCK, cut};
+use crate::reading::{count_range, end_from};
+use cord::{CordError, Text};
+use std::alloc::Global;
+
+/// How many lines end, and how many characters begin, in each block of a text, so that a line is found by its number
+/// and by a place in it without a walk through the text. It belongs to one text and doesn't keep it: each call is given
+/// that text once more, and of another text its answers mean nothing.
+///
+/// A line ends with the byte 10, which the last one may lack. Blocks have 8 to 16 KiB at first, so the index takes less
+/// than a thousandth of the text's memory. A look-up passes the sums of 256 blocks each, then the blocks of one group,
+/// and reads a part of one block.
+#[derive(Drop)]
+pub struct LineIndex {
+    blocks: Blocks,
+    lacks_end: bool,
+    ghost modest: { AreModest blocks },
+}
+
+impl LineIndex {
+    ghost use Rattle.cord_lines.specs.Index.{IsIndexOf};
+
+    /// The index of a text. Each byte is counted once. Refused for want of memory alone.
+    pub fn of(alloc: Global, text: &Text) -> Result<LineIndex, CordError>
+        ensures index { IfOk result (λ index. IsIndexOf index text.now) }
+        ensures refused { IsOkUnless result NoMemory }
+    {
+        let blocks = cut(alloc, text, 0, text.len(), BLOCK)?;
+        let blocks = Blocks::of(alloc, blocks)?;
+        Ok(LineIndex {
+            blocks,
+            lacks_end: lacks_end_of(text),
+        })
+    }
+
+    /// The number of lines. Constant time but for a pass over the sums.
+    pub fn lines(&self) -> u64
+        ensures { (x : List ℕ) → IsIndexOf self.now x → result ≡ length (lines x) }
+    {
+        self.blocks.counts().ends + u64::from(self.lacks_end)
+    }
+
+    /// The place where line `n`, from 0, begins: the place after the `n`th end of a line, and the end of the text where
+    /// there are fewer.
+    pub fn line_start(&self, text: &Text, n: u64) -> u64
+        ensures { IsIndexOf self.now text.now → result ≡ after_ends n text.now }
+    {
+        if n == 0 {
+            return 0;
+        }
+        let found = self.blocks.find(Measure::Ends, n - 1);
+        let from = found.before.bytes.min(text.len());
+        end_from(text, from, n - found.before.ends)
+    }
+
+    /// The number of the line that holds the byte at `place`: how many lines end before it. At or past the end of the
+    /// text it is how many end in all.
+    pub fn line_of(&self, text: &Text, place: u64) -> u64
+        ensures { IsIndexOf self.now text.now → result ≡ ends_in (take place text.now) }
+    {
+        self.counts_before(text, place).ends
+    }
+
+    /// How many characters of UTF-8 begin in at most `count` bytes from `start` on: each byte but those of the form
+    /// 10xxxxxx begins one.
+    pub fn utf8_len(&self, text: &Text, start: u64, count: u64) -> u64
+        ensures { IsIndexOf self.now text.now → result ≡ chars_in (take count (drop start text.now)) }
+    {
+        let end = start.saturating_add(count).min(text.len());
+        let before = self.counts_before(text, start).chars;
+        self.counts_before(text, end).chars.saturating_sub(before)
+    }
+
+    /// Line `n`, from 0, with its end or without it: none where there are no more than `n` lines. It shares the tree of
+    /// the text. Refused for want of memory alone.
+    pub fn line(&self, alloc: Global, text: &Text, n: u64) -> Result<Option<Text>, CordError>
+        ensures line { IsIndexOf self.now text.now → IfOk result (λ line. line ≡ slice_get (lines text.now) n) }
+        ensures refused { IsOkUnless result NoMemory }
+    {
+        let start = self.line_start(text, n);
+        if start >= text.len() {
+            return Ok(None);
+        }
+        let end = end_from(text, start, 1);
+        let line = text.substr(alloc, start, end - start)?;
+        Ok(Some(line))
+    }
+    // The counts of the bytes before a place.
+    fn counts_before(&self, text: &Text, place: u64) -> Counts
+        ensures { IsIndexOf self.now text.now → result ≡ counts_of (take place text.now) }
+    {
+        let end = place.min(text.len());
+        let found = self.blocks.find(Measure::Bytes, end);
+        found
+            .before
+            .plus(count_range(text, found.before.bytes, end))
+    }
+}
+
+// Whether the last line of a text lacks its end.
+fn lacks_end_of(text: &Text) -> bool
+    ensures { result ≡ lacks_end text.now }
+{
+    match text.get(text.len().saturating_sub(1)) {
+        Some(byte) => byte != b'\n',
+        None => false,
+    }
+}
