@@ -1,15 +1,10 @@
 -- How often a byte stands in a text that is counted chunk by chunk.
-use Rattle.std.proofs.Common.{◌≡◌, ℕ, zero, suc, ◌+◌, ◌-◌, ◌≤◌, Bool, true, false, cond, List, length, drop, ap, ◌∙◌, refl, arith}
+use Rattle.std.proofs.Common.{◌≡◌, ℕ, zero, suc, ◌+◌, ◌-◌, Bool, true, false, cond, List, length, drop, ap, ◌∙◌, refl, arith}
 use Rattle.std.specs.Prelude.{slice_index}
 use Rattle.std.specs.List.{count_by}
 use Rattle.std.proofs.lemmas.List.Sums.{sum_by-drop_more}
 use Rattle.std.proofs.lemmas.List.{drop_all}
 use Rattle.memchr.specs.Find.{places_from, places}
-
--- the bytes before a place are counted
-pub record IsCounted (p : ℕ → Bool) (x : List ℕ) (place count : ℕ) : Type 0 where
-  pub inside : place ≤ length x
-  pub sum : count + count_by p (drop place x) ≡ count_by p x
 
 -- as many places as bytes pass a test
 count_places : (p : ℕ → Bool) (hay : List ℕ) (i n : ℕ) → i + n ≡ length hay → length (places_from p hay i n) ≡ count_by p (drop i hay)

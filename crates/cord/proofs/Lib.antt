@@ -9,7 +9,6 @@ pub mod Results
 pub mod Printing
 pub mod Lining
 pub mod Chunking
-pub mod ChunkingBack
 pub mod Counting
 pub mod LineNumbers
 pub mod Repeating

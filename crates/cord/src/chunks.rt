@@ -1,13 +1,12 @@
 // The chunks of a text.
-ghost use Rattle.std.specs.Prelude.{◌≡◌, ◌<◌, length, min, take};
-ghost use Rattle.cord_node.specs.Tree.{len_of, IsSound};
-ghost use Rattle.cord_node.specs.Tables.{bytes_over, FitsIn};
+ghost use Rattle.std.specs.Prelude.{◌≡◌, ◌<◌, ◌≤◌, length, min, take, drop};
+ghost use Rattle.cord_pos.specs.Stretches.{stretch_len, stretch_bytes, StretchFitsIn};
 ghost use Rattle.cord.specs.Chunks.{chunk_bytes, JoinBackTo, JoinTo};
-ghost use Rattle.cord.specs.inner.Chunks.{IsChunkAt};
+ghost use Rattle.cord.specs.inner.Chunks.{IsAhead};
 ghost use Rattle.cord.specs.Plain.{no_lengths, no_table};
 
 use crate::{ChunksBack, Text};
-use cord_core::Node;
+use cord_pos::{Position, Stretch};
 use std::io;
 use std::io::Read;
 use std::marker::Model;
@@ -31,87 +30,82 @@ impl<'a> Chunk<'a> {
             Chunk::Run { count, .. } => count,
         }
     }
+
+    // That of a stretch of a text over no files.
+    pub(crate) fn of(stretch: Stretch<'a>) -> Chunk<'a>
+        requires some { 0 < stretch_len stretch }
+        requires plain { StretchFitsIn no_lengths stretch }
+        ensures bytes { chunk_bytes result ≡ stretch_bytes no_table stretch.entry }
+        ensures len { length (chunk_bytes result) ≡ stretch_len stretch.entry }
+    {
+        match stretch {
+            Stretch::Bytes(bytes) => Chunk::Bytes(bytes),
+            Stretch::Run { byte, len } => Chunk::Run { byte, count: len },
+            Stretch::Func { .. } => unreachable!(),
+        }
+    }
 }
 
 /// The bytes of a text that are left: an iterator over their chunks, and a reader.
 #[derive(Drop)]
 pub struct Chunks<'a> {
-    text: &'a Text,
-    start: u64,
+    position: Position<'a>,
 }
 
 impl<'a> Model for Chunks<'a> {
-    ghost use Rattle.std.specs.Prelude.{List, ℕ, ◌≤◌, drop, length};
+    ghost use Rattle.std.specs.Prelude.{List, ℕ};
+    ghost use Rattle.cord.specs.Plain.{IsPlain};
+    ghost use Rattle.cord.specs.inner.Chunks.{left_from};
 
     ghost Value = { List ℕ };
 
-    ghost view = { λ c. drop c.start c.text.now };
+    ghost view = { λ c. left_from c.position.cord c.position.index };
 
-    ghost invariant = { λ c. c.start ≤ length c.text.now };
+    ghost invariant = { λ c. IsPlain c.position.cord };
 }
 
 impl Text {
-    /// Its chunks in order: together they are the text. None is copied.
+    /// Its chunks in order: together they are the text. None is copied, and from one to the next takes constant time,
+    /// taken over all of them.
     pub fn chunks(&self) -> Chunks<'_>
         ensures text { result ≡ self.now }
         ensures joined { JoinTo result self.now }
     {
         Chunks {
-            text: self,
-            start: 0,
+            position: Position::set(&self.cord, 0),
         }
     }
 
     /// Its chunks from the last to the first: put together from the last that came to the first, they are the text.
-    /// None is copied.
+    /// None is copied, and from one to the next takes constant time, taken over all of them.
     pub fn chunks_back(&self) -> ChunksBack<'_>
         ensures text { result ≡ self.now }
         ensures joined { JoinBackTo result self.now }
     {
         ChunksBack {
-            text: self,
-            end: self.len(),
+            position: Position::set(&self.cord, self.len().saturating_sub(1)),
         }
-    }
-
-    // The chunk that begins at a place.
-    pub(crate) fn chunk_at(&self, place: u64) -> Chunk<'_>
-        requires { place < length self.now }
-        ensures { IsChunkAt self.now place result }
-    {
-        let Some(root) = self.cord.root() else {
-            unreachable!()
-        };
-        chunk_of(root.as_ref(), place)
     }
 }
 
-// The chunk of a node's text that begins at a place.
-fn chunk_of(node: &Node, place: u64) -> Chunk<'_>
-    requires sound { IsSound node.now }
-    requires plain { FitsIn no_lengths node.now }
-    requires inside { place < len_of node.now }
-    ensures { IsChunkAt (bytes_over no_table node.now) place result }
-{
-    match node {
-        Node::Leaf {
-            bytes,
-            start,
-            len,
-            ..
-        } => Chunk::Bytes(&bytes.as_slice()[(*start + place) as usize..(*start + *len) as usize]),
-        Node::Run { byte, len } => Chunk::Run {
-            byte: *byte,
-            count: *len - place,
-        },
-        Node::Func { .. } => unreachable!(),
-        Node::Cat { left, right, .. } => {
-            let seam = left.len();
-            if place < seam {
-                chunk_of(left.as_ref(), place)
-            } else {
-                chunk_of(right.as_ref(), place - seam)
-            }
+impl<'a> Chunks<'a> {
+    // The chunk with which the bytes that are left begin.
+    pub(crate) fn ahead(&self) -> Option<Chunk<'a>>
+        ensures { IsAhead self.now result }
+    {
+        match self.position.ahead() {
+            Some(stretch) => Some(Chunk::of(stretch)),
+            None => None,
+        }
+    }
+
+    // Leaves out the first bytes of those that are left.
+    pub(crate) fn pass(&mut self, count: u64)
+        requires { count ≤ length self.old }
+        ensures { self.new ≡ drop count self.old }
+    {
+        if let Some(index) = self.position.index() {
+            self.position.move_to(index + count);
         }
     }
 }
@@ -127,11 +121,8 @@ impl<'a> Iterator for Chunks<'a> {
     ghost remaining = { item_count (λ left. left) };
 
     fn next(&mut self) -> Option<Chunk<'a>> {
-        if self.start == self.text.len() {
-            return None;
-        }
-        let chunk = self.text.chunk_at(self.start);
-        self.start += chunk.len();
+        let chunk = self.ahead()?;
+        self.pass(chunk.len());
         Some(chunk)
     }
 }
@@ -151,11 +142,11 @@ impl<'a> Read for Chunks<'a> {
         // Memory answers each time.
         ensures reads { IsOk result }
     {
-        if self.start == self.text.len() {
+        let Some(chunk) = self.ahead() else {
             return Ok(0);
-        }
-        let count = copy_front(self.text.chunk_at(self.start), buf);
-        self.start += count as u64;
+        };
+        let count = copy_front(chunk, buf);
+        self.pass(count as u64);
         Ok(count)
     }
 }

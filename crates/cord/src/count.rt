@@ -12,11 +12,9 @@ impl Text {
         ensures { result ≡ count_by (λ own. own == byte) self.now }
     {
         let mut count = 0;
-        let mut place = 0;
-        while place < self.len() {
-            let chunk = self.chunk_at(place);
+        let mut chunks = self.chunks();
+        while let Some(chunk) = chunks.next() {
             count += count_in(chunk, byte);
-            place += chunk.len();
         }
         count
     }

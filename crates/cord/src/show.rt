@@ -1,5 +1,6 @@
 // Texts as `{}` and `{:?}` show them.
 ghost use Rattle.std.specs.Prelude.{◌+◌, ◌<◌, ◌≤◌, IfOk, length};
+ghost use Rattle.cord.specs.Chunks.{chunk_bytes};
 
 use crate::{Chunk, Text};
 use std::fmt;
@@ -37,39 +38,21 @@ impl fmt::Debug for Text {
 /// Its bytes as UTF-8, where U+FFFD stands for what is none, as in `String::from_utf8_lossy`.
 impl fmt::Display for Text {
     fn fmt<W: fmt::Write>(&self, f: &mut fmt::Formatter<W>) -> fmt::Result {
-        let len = self.len();
         let mut place = 0;
-        while place < len {
-            place += self.write_from(place, f)?;
+        let mut chunks = self.chunks();
+        while let Some(chunk) = chunks.ahead() {
+            let mut count = write_chunk(chunk, f)?;
+            if count == 0 {
+                count = self.write_char_at(place, f)?;
+            }
+            place += count;
+            chunks.pass(count);
         }
         Ok(())
     }
 }
 
 impl Text {
-    // Writes what stands at a place and is UTF-8 in its chunk, or else one character: how many bytes that were.
-    fn write_from<W: fmt::Write>(
-        &self,
-        place: u64,
-        f: &mut fmt::Formatter<W>,
-    ) -> Result<u64, fmt::Error>
-        requires { place < length self.now }
-        ensures some { IfOk result (λ count. 0 < count) }
-        ensures inside { IfOk result (λ count. place + count ≤ length self.now) }
-    {
-        let count = match self.chunk_at(place) {
-            Chunk::Bytes(bytes) => write_front(bytes, f)?,
-            Chunk::Run { byte, count } => {
-                let piece = [byte; PIECE_LEN];
-                write_front(&piece[..count.min(PIECE_LEN as u64) as usize], f)?
-            }
-        };
-        if count > 0 {
-            return Ok(count as u64);
-        }
-        self.write_char_at(place, f)
-    }
-
     // Writes the character at a place, which may go on in another chunk, or U+FFFD: how many bytes it stands for.
     fn write_char_at<W: fmt::Write>(
         &self,
@@ -95,6 +78,23 @@ impl Text {
         f.write_str(first.valid())?;
         Ok(first.valid().len() as u64)
     }
+}
+
+// Writes the UTF-8 that a chunk begins with: how many bytes they are, of a run at most `PIECE_LEN`.
+fn write_chunk<W: fmt::Write>(
+    chunk: Chunk<'_>,
+    f: &mut fmt::Formatter<W>,
+) -> Result<u64, fmt::Error>
+    ensures { IfOk result (λ count. count ≤ length (chunk_bytes chunk.entry)) }
+{
+    let count = match chunk {
+        Chunk::Bytes(bytes) => write_front(bytes, f)?,
+        Chunk::Run { byte, count } => {
+            let piece = [byte; PIECE_LEN];
+            write_front(&piece[..count.min(PIECE_LEN as u64) as usize], f)?
+        }
+    };
+    Ok(count as u64)
 }
 
 // Writes the UTF-8 that bytes begin with: how many they are.
