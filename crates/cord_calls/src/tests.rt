@@ -1,6 +1,7 @@
 //! What each call of the library answers, row by row.
 mod balance;
 mod cords;
+mod depths;
 mod devices;
 mod edits;
 mod entry;
