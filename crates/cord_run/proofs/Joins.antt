@@ -49,13 +49,13 @@ parts_more (x ∷ cs) c = ap (λ (ps : List Part). parts_of x ++ ps) (parts_more
 pub leaf_kept : (b : List ℕ) (c : Option Node) → IsLeafOf b c → length b ≤ SMALL_LEN → (ps : List Part) → 0 < length ps →
     Kept ps (parts_of c)
 leaf_kept b None is few ps some = record { no_more = omega arith; from_there = tt }
-leaf_kept b (Some (Leaf bytes start len mark)) is few ps some = record {
+leaf_kept b (Some (Leaf len bytes start mark)) is few ps some = record {
   no_more = omega (arith, some);
   from_there = (IsFrom-small (leaf_part (rc_slice_items bytes) start len) ps (omega (arith, is.2, few)), tt);
 }
 leaf_kept b (Some (Run byte len)) is few ps some = absurd is
-leaf_kept b (Some (Func id start len)) is few ps some = absurd is
-leaf_kept b (Some (Cat' p left q right len depth mark)) is few ps some = absurd is
+leaf_kept b (Some (Func id len start)) is few ps some = absurd is
+leaf_kept b (Some (Cat' mark depth len p left q right count)) is few ps some = absurd is
 
 module _ (cords : List (Option Node)) where
   -- none are in front
