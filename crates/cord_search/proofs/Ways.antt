@@ -8,7 +8,8 @@ use Rattle.cord_pos.specs.Stretches.{stretch_len, IsStretchOf, IsStretchAt, Ends
 use Rattle.cord_pos.specs.inner.Stretches.{IsWithin}
 use Rattle.cord_pos.specs.declared.stretch.Stretch.{Stretch}
 use Rattle.cord_pos.proofs.Within.{within_self, within_on, within_end, stretch_on, stretch_back}
-use Rattle.cord_search.specs.inner.Ahead.{IsOn, AreOne, IsStop, IsStopAt, AreAlike}
+use Rattle.cord_search.specs.inner.Ahead.{IsSpot, AreOneSpot, IsSpotOf, IsStop, AreAlike}
+use Rattle.cord_search.specs.declared.ahead.Spot.{Spot}
 use Rattle.cord_search.specs.declared.ahead.Stop.{Stop}
 use Rattle.cord_search.proofs.Sharing.{spots_alike}
 
@@ -23,69 +24,63 @@ moved n place m at i j e w = record {
   text = w.text;
 }
 
-module _ (c : Option Node) (at : ℕ) (s : Stop) where
+module _ (c : Option Node) (at : ℕ) where
   -- a node on the way that holds the place
-  pub stop_at : (k : ℕ) → IsStop c k s → s.start ≤ at → at < s.end → IsStopAt c at s
-  stop_at k h low high = record {
+  pub stop_at : (k : ℕ) (stop : Stop) (s : Spot) → IsStop c k stop → stop.start ≤ at → s.node.now ≡ stop.node.now →
+      s.place ≡ at - stop.start → at - stop.start < len_of stop.node.now → IsSpotOf c at s
+  stop_at k stop s h low node place inside = record {
     root = h.root;
     is = h.is;
-    within = moved h.root s.start s.node.now 0 at (at - s.start) (omega (arith, low)) h.within;
-    on = record { sound = h.within.sound; low = low; high = high; end = h.end };
+    within = rw (node, place) (moved h.root stop.start stop.node.now 0 at (at - stop.start) (omega (arith, low)) h.within);
+    spot = (rw node h.within.sound, rw (node, place) inside);
   }
 
   -- a node that holds the place is kept
-  pub stop_kept : (k : ℕ) → IsStopAt c at s → k + depth_of s.node.now ≤ MAX_DEPTH → IsStop c k s
-  stop_kept k h depth = record {
+  pub stop_kept : (k : ℕ) (stop : Stop) (s : Spot) → IsSpotOf c at s → stop.node.now ≡ s.node.now → stop.start ≡ at - s.place →
+      k + depth_of s.node.now ≤ MAX_DEPTH → IsStop c k stop
+  stop_kept k stop s h node start depth = record {
     root = h.root;
     is = h.is;
-    within = moved h.root at s.node.now (at - s.start) s.start 0 (omega (arith, h.on.low)) h.within;
-    end = h.on.end;
-    depth = depth;
+    within = rw (node, start) (moved h.root at s.node.now s.place (at - s.place) 0 (omega (arith, h.within.here)) h.within);
+    depth = rw node depth;
   }
 
+module _ (c : Option Node) (at : ℕ) (s : Spot) where
   -- the side of a node that holds it
-  pub side_at : (side : Stop) → IsStopAt c at s → IsWithin s.node.now (at - s.start) side.node.now (at - side.start) → IsOn side at →
-      IsStopAt c at side
-  side_at side h w on = record {
+  pub side_at : (side : Spot) → IsSpotOf c at s → IsWithin s.node.now s.place side.node.now side.place → IsSpot side → IsSpotOf c at side
+  side_at side h w spot = record {
     root = h.root;
     is = h.is;
-    within = within_on h.root at s.node.now (at - s.start) side.node.now (at - side.start) h.within w;
-    on = on;
+    within = within_on h.root at s.node.now s.place side.node.now side.place h.within w;
+    spot = spot;
   }
 
   -- the root of the cord
-  pub root_at : (n : Node) → c ≡ Some n → IsSound n → s.node.now ≡ n → s.start ≡ 0 → s.end ≡ len_of n → at < len_of n → IsStopAt c at s
-  root_at n is sound e start end inside = record {
+  pub root_at : (n : Node) → c ≡ Some n → IsSound n → s.node.now ≡ n → s.place ≡ at → at < len_of n → IsSpotOf c at s
+  root_at n is sound node place inside = record {
     root = n;
     is = is;
-    within = rw (e, start) (moved n at n at at (at - 0) (omega arith) (within_self n at sound));
-    on = record {
-      sound = rw e sound;
-      low = omega (arith, start);
-      high = omega (arith, end, inside);
-      end = rw (e, start, end) (omega arith);
-    };
+    within = rw (node, place) (within_self n at sound);
+    spot = (rw node sound, rw (node, place) inside);
   }
 
   -- what a part has is what the cord has
-  pub stretch_of : (x : Stretch) → IsStopAt c at s → IsStretchAt s.node.now (at - s.start) x → IsStretchOf c at x
-  stretch_of x h e = rw h.is (stretch_on h.root at s.node.now (at - s.start) x h.within e)
+  pub stretch_of : (x : Stretch) → IsSpotOf c at s → IsStretchAt s.node.now s.place x → IsStretchOf c at x
+  stretch_of x h e = rw h.is (stretch_on h.root at s.node.now s.place x h.within e)
 
   -- up to a place
-  pub stretch_to : (x : Stretch) → IsStopAt c at s → stretch_len x ≡ at + 1 - s.start → IsStretchAt s.node.now 0 x → EndsAt c at x
-  stretch_to x h len e =
-      let sum : at - s.start + 1 ≡ 0 + stretch_len x = omega (arith, len, h.on.low) in
-      record {
-        inside = omega (arith, len);
-        stretch = rw h.is (stretch_back h.root (at + 1) s.node.now (at - s.start + 1) 0 x sum
-            (within_end h.root at s.node.now (at - s.start) h.within) e);
-      }
+  pub stretch_to : (x : Stretch) → IsSpotOf c at s → stretch_len x ≡ s.place + 1 → IsStretchAt s.node.now 0 x → EndsAt c at x
+  stretch_to x h len e = record {
+    inside = omega (arith, len, h.within.here);
+    stretch = rw h.is (stretch_back h.root (at + 1) s.node.now (s.place + 1) 0 x (omega (arith, len))
+        (within_end h.root at s.node.now s.place h.within) e);
+  }
 
 -- one place of two nodes that have one text
-pub stops_alike : (c : Option Node) (i : ℕ) (s : Stop) (d : Option Node) (j : ℕ) (o : Stop) (k : ℕ) → IsStopAt c i s → IsStopAt d j o →
-    AreOne s i o j → i + k ≤ s.end → AreAlike c i d j k
-stops_alike c i s d j o k h g one inside = rw (h.is, g.is) (spots_alike h.root i s.node.now (i - s.start) g.root j o.node.now (j - o.start)
-    k h.within g.within one.0 one.1 one.2 (omega (arith, inside, h.on.low, h.on.end)))
+pub stops_alike : (c : Option Node) (i : ℕ) (s : Spot) (d : Option Node) (j : ℕ) (o : Spot) (k : ℕ) → IsSpotOf c i s → IsSpotOf d j o →
+    AreOneSpot s o → s.place + k ≤ len_of s.node.now → AreAlike c i d j k
+stops_alike c i s d j o k h g one inside = rw (h.is, g.is) (spots_alike h.root i s.node.now s.place g.root j o.node.now o.place k
+    h.within g.within one.0 one.1 one.2 inside)
 
 -- what holds of each item by its place holds of one item more
 pub all_push : {A : Type 0} (P : ℕ → A → Type 0) (xs : List A) (x : A) → ((k : ℕ) → IfSome (slice_get xs k) (P k)) → P (length xs) x →

@@ -3,10 +3,10 @@ ghost use Rattle.std.specs.Prelude.{◌≡◌, ◌+◌, ◌-◌, ◌<◌, ◌≤
 ghost use Rattle.arrayvec.specs.ArrayVec.{array_vec_len};
 ghost use Rattle.cord_core.specs.Cord.{text_len};
 ghost use Rattle.cord_node.specs.declared.Node.{Node as Tree};
-ghost use Rattle.cord_node.specs.Tree.{len_of, depth_of};
+ghost use Rattle.cord_node.specs.Tree.{len_of, depth_of, IsSound};
 ghost use Rattle.cord_pos.specs.Stretches.{is_part, stretch_len, IsStretchAt};
 ghost use Rattle.cord_pos.specs.inner.Stretches.{IsWithin};
-ghost use Rattle.cord_search.specs.inner.Ahead.{IsOn, AreOne, IsStopAt, IsWay, IsAhead};
+ghost use Rattle.cord_search.specs.inner.Ahead.{IsSpot, AreOneSpot, IsSpotOf, IsWay, IsAhead};
 
 use crate::stretches::begin_alike;
 use arrayvec::ArrayVec;
@@ -17,12 +17,18 @@ use cord_pos::Stretch;
 // The most nodes on a way: a root, and a step for each level below it.
 const WAY_LEN: usize = MAX_DEPTH as usize + 1;
 
-/// A node of a cord, and where its text begins and ends in the cord's.
+/// A place of a node's text.
+#[derive(Clone, Copy)]
+pub(crate) struct Spot<'a> {
+    pub(crate) node: &'a Node,
+    pub(crate) place: u64,
+}
+
+/// A node of a cord, and the place in the cord's text where its own begins.
 #[derive(Clone, Copy)]
 pub(crate) struct Stop<'a> {
     pub(crate) node: &'a Node,
     pub(crate) start: u64,
-    pub(crate) end: u64,
 }
 
 /// The nodes on the way from the root of a cord to a place of its text, as far down as it was gone.
@@ -39,69 +45,66 @@ pub(crate) enum Ahead<'a> {
     Apart(Stretch<'a>, Stretch<'a>),
 }
 
-impl<'a> Stop<'a> {
-    // The root of a cord, which holds each place of it.
-    fn root(cord: &'a Cord, at: u64) -> Stop<'a>
+impl<'a> Spot<'a> {
+    // A place of a cord, as one of its root.
+    fn of(cord: &'a Cord, at: u64) -> Spot<'a>
         requires { at < text_len cord.now }
-        ensures { IsStopAt cord.now at result }
+        ensures spot { IsSpotOf cord.now at result }
+        ensures place { result.place ≡ at }
     {
         let Some(root) = cord.root() else {
             unreachable!()
         };
-        Stop {
+        Spot {
             node: root.as_ref(),
-            start: 0,
-            end: cord.len(),
+            place: at,
         }
     }
 
-    /// The part of a cord that holds a place.
-    pub(crate) fn part_at(cord: &'a Cord, at: u64) -> Stop<'a>
+    /// A place of a cord, as one of the part that holds it.
+    pub(crate) fn of_part(cord: &'a Cord, at: u64) -> Spot<'a>
         requires { at < text_len cord.now }
-        ensures stop { IsStopAt cord.now at result }
+        ensures spot { IsSpotOf cord.now at result }
         ensures part { is_part result.node.now ≡ true }
     {
-        let mut stop = Stop::root(cord, at);
-        while let Some(side) = stop.side(at) {
-            stop = side;
+        let mut spot = Spot::of(cord, at);
+        while let Some(side) = spot.side() {
+            spot = side;
         }
-        stop
+        spot
     }
 
-    /// What a part has from one place of the cord on, up to another.
+    /// What a part has from one place on, up to another.
     pub(crate) fn stretch(self, from: u64, to: u64) -> Stretch<'a>
         requires part { is_part self.node.now ≡ true }
-        requires on { IsOn self from }
+        requires sound { IsSound self.node.now }
         requires some { from < to }
-        requires inside { to ≤ self.end }
-        ensures stretch { IsStretchAt self.entry.node.now (from - self.entry.start) result }
+        requires inside { to ≤ len_of self.node.now }
+        ensures stretch { IsStretchAt self.entry.node.now from result }
         ensures len { stretch_len result ≡ to - from }
     {
-        let (from, to) = (from - self.start, to - self.start);
         let Some(stretch) = Stretch::of_part(self.node, from, to) else {
             unreachable!()
         };
         stretch
     }
 
-    /// Whether two nodes are one, and two places are one of it.
-    fn is_same(self, at: u64, other: Stop, beside: u64) -> bool
-        requires on { IsOn self at }
-        requires other_on { IsOn other beside }
-        ensures { result ≡ true → AreOne self.entry at other.entry beside }
+    // Whether the two are one place of one node.
+    fn is_same(self, other: Spot) -> bool
+        requires sound { IsSpot self × IsSpot other }
+        ensures { result ≡ true → AreOneSpot self.entry other.entry }
     {
-        at - self.start == beside - other.start
-            && self.end - self.start == other.end - other.start
+        self.place == other.place
+            && self.node.len() == other.node.len()
             && self.node.same(other.node)
     }
 
-    /// The side of a concatenation that holds a place of the cord.
-    #[inline(always)]
-    fn side(self, at: u64) -> Option<Stop<'a>>
-        requires { IsOn self at }
-        ensures on { IfSome result (λ side. IsOn side at) }
+    // The same place in the side of a concatenation that holds it.
+    fn side(self) -> Option<Spot<'a>>
+        requires { IsSpot self }
+        ensures spot { IfSome result (λ side. IsSpot side) }
         ensures within { IfSome result (λ side.
-            IsWithin self.entry.node.now (at - self.entry.start) side.node.now (at - side.start)) }
+            IsWithin self.entry.node.now self.entry.place side.node.now side.place) }
         ensures shorter { IfSome result (λ side. len_of side.node.now < len_of self.entry.node.now) }
         ensures lower { IfSome result (λ side. depth_of side.node.now < depth_of self.entry.node.now) }
         ensures part { result ≡ None → is_part self.entry.node.now ≡ true }
@@ -109,18 +112,16 @@ impl<'a> Stop<'a> {
         let Node::Cat { left, right, .. } = self.node else {
             return None;
         };
-        let seam = self.start + left.len();
-        if at < seam {
-            return Some(Stop {
+        let seam = left.len();
+        if self.place < seam {
+            return Some(Spot {
                 node: left.as_ref(),
-                end: seam,
-                ..self
+                place: self.place,
             });
         }
-        Some(Stop {
+        Some(Spot {
             node: right.as_ref(),
-            start: seam,
-            ..self
+            place: self.place - seam,
         })
     }
 }
@@ -136,60 +137,72 @@ impl<'a> Way<'a> {
     }
 
     // Goes up to the last node that holds a place of the cord, or else begins at the root.
-    fn climb(&mut self, cord: &'a Cord, at: u64) -> Stop<'a>
+    fn climb(&mut self, cord: &'a Cord, at: u64) -> Spot<'a>
         requires way { IsWay cord.now self.old }
         requires inside { at < text_len cord.now }
         ensures way { IsWay cord.now self.new }
-        ensures stop { IsStopAt cord.now at result }
+        ensures spot { IsSpotOf cord.now at result }
         ensures room { array_vec_len self.new.stops + depth_of result.node.now ≤ WAY_LEN }
     {
         while let Some(last) = self.stops.last() {
             if let Some(stop) = last {
-                if stop.start <= at && at < stop.end {
-                    return *stop;
+                if stop.start <= at && at - stop.start < stop.node.len() {
+                    return Spot {
+                        node: stop.node,
+                        place: at - stop.start,
+                    };
                 }
             }
             self.stops.pop();
         }
-        let stop = Stop::root(cord, at);
-        self.stops.push(Some(stop));
-        stop
+        let spot = Spot::of(cord, at);
+        self.stops.push(Some(Stop {
+            node: spot.node,
+            start: 0,
+        }));
+        spot
     }
 
-    // Goes down from the last node to the side that holds a place of the cord: nowhere from a part.
-    fn step(&mut self, last: Stop<'a>, at: u64) -> Option<Stop<'a>>
-        requires on { IsOn last at }
+    // Goes down from the last node to the side that holds the place `at` of the cord: nowhere from a part.
+    fn step(&mut self, last: Spot<'a>, at: u64) -> Option<Spot<'a>>
+        requires spot { IsSpot last }
+        requires low { last.place ≤ at }
         requires room { array_vec_len self.old.stops + depth_of last.node.now ≤ WAY_LEN }
-        ensures way { (c : Option Tree) → IsStopAt c at last.entry → IsWay c self.old → IsWay c self.new }
-        ensures on { IfSome result (λ side. IsOn side at) }
+        ensures way { (c : Option Tree) → IsSpotOf c at last.entry → IsWay c self.old → IsWay c self.new }
+        ensures spot { IfSome result (λ side. IsSpot side) }
+        ensures low { IfSome result (λ side. side.place ≤ at) }
         ensures within { IfSome result (λ side.
-            IsWithin last.entry.node.now (at - last.entry.start) side.node.now (at - side.start)) }
+            IsWithin last.entry.node.now last.entry.place side.node.now side.place) }
         ensures shorter { IfSome result (λ side. len_of side.node.now < len_of last.entry.node.now) }
         ensures room { IfSome result (λ side. array_vec_len self.new.stops + depth_of side.node.now ≤ WAY_LEN) }
         ensures stays { IfNone result (array_vec_len self.new.stops ≡ array_vec_len self.old.stops) }
         ensures part { result ≡ None → is_part last.entry.node.now ≡ true }
     {
-        let side = last.side(at)?;
-        self.stops.push(Some(side));
+        let side = last.side()?;
+        self.stops.push(Some(Stop {
+            node: side.node,
+            start: at - side.place,
+        }));
         Some(side)
     }
 
-    // What the part that holds a place of the cord has from there on: the way goes down to it.
-    fn stretch(&mut self, last: Stop<'a>, at: u64) -> Stretch<'a>
-        requires on { IsOn last at }
+    // What the part that holds the place `at` of the cord has from there on: the way goes down to it.
+    fn stretch(&mut self, last: Spot<'a>, at: u64) -> Stretch<'a>
+        requires spot { IsSpot last }
+        requires low { last.place ≤ at }
         requires room { array_vec_len self.old.stops + depth_of last.node.now ≤ WAY_LEN }
-        ensures way { (c : Option Tree) → IsStopAt c at last.entry → IsWay c self.old → IsWay c self.new }
-        ensures stretch { IsStretchAt last.entry.node.now (at - last.entry.start) result }
+        ensures way { (c : Option Tree) → IsSpotOf c at last.entry → IsWay c self.old → IsWay c self.new }
+        ensures stretch { IsStretchAt last.entry.node.now last.entry.place result }
     {
-        let mut stop = last;
-        while let Some(side) = self.step(stop, at) {
-            stop = side;
+        let mut spot = last;
+        while let Some(side) = self.step(spot, at) {
+            spot = side;
         }
-        stop.stretch(at, stop.end)
+        spot.stretch(spot.place, spot.node.len())
     }
 }
 
-// The greatest node that holds both places at one of its own, as two stops that are the same: going down, from the
+// The greatest node that holds both places at one of its own, as two equal spots: going down, from the
 // longer of two nodes, meets it, since a node's sides are shorter than the node. Where there is none, a part and a node
 // that is no longer.
 fn meet<'a>(
@@ -199,24 +212,24 @@ fn meet<'a>(
     y: &'a Cord,
     j: u64,
     other_way: &mut Way<'a>,
-) -> (Stop<'a>, Stop<'a>)
+) -> (Spot<'a>, Spot<'a>)
     requires left_inside { i < text_len x.now }
     requires right_inside { j < text_len y.now }
     requires left_way { IsWay x.now way.old }
     requires right_way { IsWay y.now other_way.old }
-    ensures left { IsStopAt x.now i result.0 }
-    ensures right { IsStopAt y.now j result.1 }
+    ensures left { IsSpotOf x.now i result.0 }
+    ensures right { IsSpotOf y.now j result.1 }
     ensures left_way { IsWay x.now way.new }
     ensures right_way { IsWay y.now other_way.new }
     ensures left_room { array_vec_len way.new.stops + depth_of (result.0).node.now ≤ WAY_LEN }
     ensures right_room { array_vec_len other_way.new.stops + depth_of (result.1).node.now ≤ WAY_LEN }
 {
-    let mut stop = way.climb(x, i);
+    let mut spot = way.climb(x, i);
     let mut other = other_way.climb(y, j);
-    while !stop.is_same(i, other, j) {
-        if other.end - other.start <= stop.end - stop.start {
-            let Some(side) = way.step(stop, i) else { break };
-            stop = side;
+    while !spot.is_same(other) {
+        if other.node.len() <= spot.node.len() {
+            let Some(side) = way.step(spot, i) else { break };
+            spot = side;
         } else {
             let Some(side) = other_way.step(other, j) else {
                 break
@@ -224,7 +237,7 @@ fn meet<'a>(
             other = side;
         }
     }
-    (stop, other)
+    (spot, other)
 }
 
 /// What two cords' texts have at two places, at most `most` bytes: bytes that are known to be the same, since they
@@ -249,11 +262,11 @@ pub(crate) fn look_ahead<'a>(
     ensures left_way { IsWay x.now way.new }
     ensures right_way { IsWay y.now other_way.new }
 {
-    let (stop, other) = meet(x, i, way, y, j, other_way);
-    if stop.is_same(i, other, j) {
-        return Ahead::Same(most.min(stop.end - i));
+    let (spot, other) = meet(x, i, way, y, j, other_way);
+    if spot.is_same(other) {
+        return Ahead::Same(most.min(spot.node.len() - spot.place));
     }
-    let stretch = way.stretch(stop, i);
+    let stretch = way.stretch(spot, i);
     let next = other_way.stretch(other, j);
     let count = most.min(stretch.len()).min(next.len());
     if begin_alike(stretch, next) {

@@ -5,7 +5,7 @@ ghost use Rattle.cord_pos.specs.Stretches.{stretch_len, IsFrontOf, IsStretchOf, 
 ghost use Rattle.cord_search.specs.inner.Stretches.{is_other_run, IsWithout, IsMisfit, BeginAlike};
 
 use crate::PIECE_LEN;
-use crate::ahead::Stop;
+use crate::ahead::Spot;
 use cord_core::Cord;
 use cord_pos::{Position, Stretch};
 
@@ -69,12 +69,13 @@ fn other_in(bytes: &[u8], byte: u8) -> Option<usize>
 }
 
 /// What is left of a part of a cord's text from a place on.
+#[inline(always)]
 pub(crate) fn cord_stretch_at(cord: &Cord, place: u64) -> Stretch
     requires { place < text_len cord.now }
     ensures { IsStretchOf cord.now place result }
 {
-    let part = Stop::part_at(cord, place);
-    part.stretch(place, part.end)
+    let part = Spot::of_part(cord, place);
+    part.stretch(part.place, part.node.len())
 }
 
 /// What a part of a cord's text has up to a place, with the byte there.
@@ -82,8 +83,8 @@ pub(crate) fn cord_stretch_to(cord: &Cord, at: u64) -> Stretch
     requires { at < text_len cord.now }
     ensures { EndsAt cord.now at result }
 {
-    let part = Stop::part_at(cord, at);
-    part.stretch(part.start, at + 1)
+    let part = Spot::of_part(cord, at);
+    part.stretch(0, part.place + 1)
 }
 
 /// What is left of a part of a position's cord from a place on, to which the position is moved: so a walk over the

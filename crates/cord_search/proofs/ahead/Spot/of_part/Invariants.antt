@@ -1,0 +1,10 @@
+use Rattle.cord_node.specs.Tree.{len_of}
+use Rattle.cord_search.specs.inner.Ahead.{IsSpotOf}
+use Rattle.cord_search.proofs.ahead.Spot.of_part.Given as goal
+
+-- the place is one of the node's
+abbrev pub invariant-loop-side : goal.invariant-loop-side
+invariant-loop-side l = IsSpotOf l.cord l.at l.spot
+
+abbrev pub decreases-loop-side : goal.decreases-loop-side
+decreases-loop-side l = len_of l.spot.node.now

@@ -1,0 +1,20 @@
+use Rattle.std.proofs.Common.{◌≡◌, ◌+◌, ◌≤◌, Some, refl, length, arith, rules}
+use Rattle.std.specs.Prelude.{IfSome}
+use Rattle.cord_io.specs.declared.TheConstants.{MAX_DEPTH}
+use Rattle.cord_node.specs.Tree.{depth_of}
+use Rattle.cord_pos.proofs.Counts.{depth_limit}
+use Rattle.cord_search.specs.inner.Ahead.{IsStop}
+use Rattle.cord_search.specs.declared.ahead.Stop.{Stop}
+use Rattle.cord_search.proofs.Ways.{stop_kept, all_push}
+use Rattle.cord_search.proofs.ahead.Way.climb.Goals as goal
+
+pub returns-clause-way : goal.returns-clause-way
+returns-clause-way c =
+    let items = c.loop-last.self.stops.items in
+    let spot = c.of-spot.result in
+    let root : Stop = record { node = spot.node; start = 0 } in
+    let none : length items ≡ 0 = search rules in
+    let depth : length items + depth_of spot.node.now ≤ MAX_DEPTH =
+    omega (arith, none, depth_limit spot.node.now c.of-spot.ensures.spot.spot.0) in
+    rw c.push.ensures.items (all_push (λ k o. IfSome o (IsStop c.args.cord.now k)) items (Some root) c.loop-last.invariant
+    (stop_kept c.args.cord.now c.args.at (length items) root spot c.of-spot.ensures.spot refl (omega (arith, c.of-spot.ensures.place)) depth))
