@@ -5,3 +5,4 @@ pub mod Sums
 pub mod Grouping
 pub mod Cuts
 pub mod Linings
+pub mod Edits

@@ -1,11 +1,11 @@
 -- Sums of groups of blocks.
-use Rattle.std.proofs.Common.{◌≡◌, ℕ, suc, zero, ◌+◌, ◌*◌, ◌-◌, ◌<◌, ◌≤◌, List, [], ◌∷◌, ◌++◌, length, get_or, take, drop, refl, sym, ap, ◌∙◌, arith, length-drop, subst, min, Bool, true, false}
-use Rattle.std.specs.Prelude.{nat_le}
+use Rattle.std.proofs.Common.{◌≡◌, ℕ, suc, zero, ◌+◌, ◌*◌, ◌-◌, ◌<◌, ◌≤◌, List, [], ◌∷◌, ◌++◌, length, get_or, take, drop, refl, sym, ap, ◌∙◌, arith, append_assoc, length-drop, subst, min, Bool, true, false}
+use Rattle.std.specs.Prelude.{nat_le, nat_lt}
 use Rattle.std.proofs.lemmas.Bool.Decides.{nat_tests}
 use Rattle.std.proofs.Math.ListN.{set, length-set}
 use Rattle.std.proofs.Math.Seq.{take-add}
 use Rattle.std.specs.List.{sum_by}
-use Rattle.std.proofs.lemmas.List.{take_all, drop_all, take-append-drop, drop-drop, drop-set-lt, drop-set-add, take-set-le}
+use Rattle.std.proofs.lemmas.List.{take_all, drop_all, take-append-drop, drop-drop, drop-set, drop-set-lt, drop-set-add, take-set, take-set-le}
 use Rattle.std.proofs.lemmas.List.Sums.{fold_more, sum_by-cons, sum_by-append, sum_by-take-le}
 use Rattle.cord_lines.specs.declared.counting.Counts.{Counts}
 use Rattle.cord_lines.specs.declared.blocks.Block.{Block}
@@ -166,3 +166,24 @@ module _ (bs ys : List Block) (s m : ℕ) (rest : ys ≡ drop s bs) where
 
   pub few_part : AreFew (total bs) → AreFew (plus (total (take s bs)) (total (take m ys)))
   few_part f = rw then_some (few_blocks bs (s + m) f)
+
+-- one block in the place of another one
+pub set_one : (xs fresh : List Block) (i : ℕ) (d : Block) → i < length xs → length fresh ≡ 1 →
+    set xs i (get_or fresh 0 d) ≡ take i xs ++ fresh ++ drop (i + 1) xs
+set_one xs [] i d lt one = absurd (omega (arith, one))
+set_one xs (y ∷ []) i d lt one =
+    let first : get_or (y ∷ []) 0 d ≡ y = refl in
+    ap (λ (w : Block). set xs i w) first ∙ sym (take-append-drop i (set xs i y)) ∙ ap (λ (w : List Block). w ++ drop i (set xs i y)) (take-set xs i y)
+    ∙ ap (λ (w : List Block). take i xs ++ w) (drop-set xs i y lt) ∙ sym (append_assoc (take i xs) (y ∷ []) (drop (i + 1) xs))
+set_one xs (y ∷ z ∷ fresh) i d lt one = absurd (omega (arith, one))
+
+module _ (bs : List Block) (n p : ℕ) (here : p ≡ (total (take n bs)).bytes) (le : n ≤ length bs) (less : p < (total bs).bytes) where
+  room_cases : (is : Bool) → nat_lt n (length bs) ≡ is → n < length bs
+  room_cases true h = grind (arith, nat_tests)
+  room_cases false h =
+      let all : take n bs ≡ bs = take_all n bs (grind (arith, nat_tests)) in
+      absurd (omega (arith, here, less, ap (λ (ys : List Block). (total ys).bytes) all))
+
+  -- where not all bytes are passed a block is left
+  pub room : n < length bs
+  room = room_cases (nat_lt n (length bs)) refl

@@ -2,3 +2,4 @@ pub mod Reading
 pub mod Standing
 pub mod Blocks
 pub mod Cuts
+pub mod Edits

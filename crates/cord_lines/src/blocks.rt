@@ -1,5 +1,5 @@
 // The blocks of a text, and what each holds.
-ghost use Rattle.std.specs.Prelude.{◌≡◌, ◌+◌, ◌-◌, ◌<◌, ◌≤◌, ◌*◌, ◌++◌, IfOk, OnOk, IsErr, IsOkUnless, length, take, drop, slice_set};
+ghost use Rattle.std.specs.Prelude.{◌≡◌, ◌+◌, ◌-◌, ◌<◌, ◌≤◌, ◌^◌, ◌++◌, IfOk, OnOk, IsErr, IsOkUnless, length, take, drop, slice_set};
 ghost use Rattle.cord_io.specs.declared.CordError.TheVariants.{NoMemory};
 ghost use Rattle.cord_lines.specs.Counts.{plus, AreFew, AreNarrow};
 ghost use Rattle.cord_lines.specs.inner.Blocks.{amount, block_counts, total, AreSumsOf};
@@ -133,6 +133,7 @@ impl Blocks {
         ensures inside { result.index ≤ length self.now }
         ensures before { result.before ≡ total (take result.index self.now) }
         ensures most { amount measure result.before ≤ target }
+        ensures short { length self.now < 2 ^ 64 }
     {
         let group = self.group_with(measure, target);
         let rest = &self.blocks[group.index..];
@@ -173,8 +174,8 @@ impl Blocks {
         }
     }
 
-    /// Puts a block into the place of another one.
-    pub(crate) fn set(&mut self, index: usize, block: Block)
+    // Puts a block into the place of another one.
+    fn set(&mut self, index: usize, block: Block)
         requires { index < length self.old }
         ensures { self.new ≡ slice_set self.old index block }
     {
@@ -197,6 +198,10 @@ impl Blocks {
         ensures unchanged { IsErr result → self.new ≡ self.old }
         ensures refused { IsOkUnless result NoMemory }
     {
+        if count == 1 && fresh.len() == 1 {
+            self.set(start, fresh[0]);
+            return Ok(());
+        }
         let mut blocks = Vec::with_capacity(alloc, self.blocks.len() - count + fresh.len())?;
         blocks.extend_from_slice(&self.blocks[..start])?;
         blocks.extend_from_slice(fresh)?;

@@ -10,6 +10,7 @@ use crate::blocks::{Blocks, Measure};
 use crate::counting::Counts;
 use crate::cutting::{BLOCK, cut};
 use crate::reading::{count_range, end_from};
+use crate::renewing::{Edit, renew};
 use cord::{CordError, Text};
 use std::alloc::Global;
 
@@ -28,7 +29,7 @@ pub struct LineIndex {
 }
 
 impl LineIndex {
-    ghost use Rattle.cord_lines.specs.Index.{IsIndexOf};
+    ghost use Rattle.cord_lines.specs.Index.{IsIndexBefore, IsIndexOf};
 
     /// The index of a text. Each byte is counted once. Refused for want of memory alone.
     pub fn of(alloc: Global, text: &Text) -> Result<LineIndex, CordError>
@@ -95,6 +96,33 @@ impl LineIndex {
         let line = text.substr(alloc, start, end - start)?;
         Ok(Some(line))
     }
+    /// Makes it the index of the text after an edit: `inserted` bytes stand from `start` on in the place of `removed`
+    /// others of the text before. Only the blocks that the edit meets are counted once more, and the new bytes. Refused
+    /// for want of memory alone, and then it is as it was.
+    pub fn edited(
+        &mut self,
+        alloc: Global,
+        after: &Text,
+        start: u64,
+        removed: u64,
+        inserted: u64,
+    ) -> Result<(), CordError>
+        requires { IsIndexBefore self.old after.now start removed inserted }
+        ensures index { OnOk result (IsIndexOf self.new after.now) }
+        ensures unchanged { IsErr result → self.new ≡ self.old }
+        ensures refused { IsOkUnless result NoMemory }
+    {
+        let edit = Edit {
+            start,
+            removed,
+            inserted,
+        };
+        let lacks_end = lacks_end_of(after);
+        renew(&mut self.blocks, alloc, after, edit)?;
+        self.lacks_end = lacks_end;
+        Ok(())
+    }
+
     // The counts of the bytes before a place.
     fn counts_before(&self, text: &Text, place: u64) -> Counts
         ensures { IsIndexOf self.now text.now → result ≡ counts_of (take place text.now) }

@@ -6,5 +6,6 @@ mod counting;
 mod cutting;
 mod index;
 mod reading;
+mod renewing;
 
 pub use index::LineIndex;

@@ -1,0 +1,150 @@
+// Blocks of a text that was edited.
+ghost use Rattle.std.specs.Prelude.{◌≡◌, ◌+◌, ◌<◌, ◌≤◌, ◌^◌, OnOk, IsErr, IsOkUnless, length};
+ghost use Rattle.cord_io.specs.declared.CordError.TheVariants.{NoMemory};
+ghost use Rattle.cord_lines.specs.Counts.{AreFew};
+ghost use Rattle.cord_lines.specs.inner.Blocks.{total};
+ghost use Rattle.cord_lines.specs.inner.Cuts.{AreModest, IsCut};
+ghost use Rattle.cord_lines.specs.inner.Edits.{Covers, IsBefore, IsSpan};
+
+use crate::blocks::{Blocks, Measure};
+use crate::cutting::{BLOCK, LARGEST, cut};
+use cord::{CordError, MAX_LEN, Text};
+use std::alloc::Global;
+
+/// Blocks of fewer bytes are joined with one beside them.
+const SMALLEST: u64 = 2_048;
+
+/// So many bytes from a place on were removed, and so many others put there.
+#[derive(Clone, Copy)]
+pub(crate) struct Edit {
+    pub(crate) start: u64,
+    pub(crate) removed: u64,
+    pub(crate) inserted: u64,
+}
+
+/// Blocks beside each other: `count` of them from the index `first` on, which hold `bytes` bytes from `start` on.
+#[derive(Clone, Copy)]
+struct Span {
+    first: usize,
+    count: usize,
+    start: u64,
+    bytes: u64,
+}
+
+/// The blocks of the text after an edit: those that the edit meets are counted once more. Refused for want of memory
+/// alone, and then all is as it was.
+pub(crate) fn renew(
+    blocks: &mut Blocks,
+    alloc: Global,
+    after: &Text,
+    edit: Edit,
+) -> Result<(), CordError>
+    requires modest { AreModest blocks.old }
+    requires edit { IsBefore blocks.old after.now edit }
+    ensures cut { OnOk result (IsCut blocks.new after.now) }
+    ensures limit { length after.now ≤ MAX_LEN }
+    ensures unchanged { IsErr result → blocks.new ≡ blocks.old }
+    ensures refused { IsOkUnless result NoMemory }
+{
+    let len_after = after.len();
+    prove!(edit.inserted <= len_after);
+    let span = span_of(blocks, edit);
+    let len = span.bytes - edit.removed + edit.inserted;
+    let size = size_of(len, span.count);
+    let fresh = cut(alloc, after, span.start, span.start + len, size)?;
+    blocks.replace(alloc, span.first, span.count, &fresh)?;
+    Ok(())
+}
+
+// The size of the blocks of so many bytes in the place of so many blocks: such that their number stays, where they are
+// neither small nor large then.
+fn size_of(len: u64, count: usize) -> u64
+    ensures some { 0 < result }
+    ensures few { result ≤ LARGEST }
+{
+    let mean = len / (count as u64).max(1);
+    if SMALLEST <= mean && mean <= LARGEST {
+        mean
+    } else {
+        BLOCK
+    }
+}
+
+// The blocks that an edit meets, with one more beside them where they would be small afterwards.
+fn span_of(blocks: &Blocks, edit: Edit) -> Span
+    requires modest { AreModest blocks.now }
+    requires inside { edit.start + edit.removed ≤ (total blocks.now).bytes }
+    ensures { Covers blocks.now result edit }
+{
+    let span = span_over(blocks, edit.start, edit.start + edit.removed);
+    if span.count > 0 && SMALLEST <= span.bytes - edit.removed + edit.inserted.min(SMALLEST) {
+        span
+    } else if span.first + span.count < blocks.len() {
+        with_next(blocks, span)
+    } else if span.first > 0 {
+        with_last(blocks, span)
+    } else {
+        span
+    }
+}
+
+// The blocks that hold the bytes from one place up to another.
+fn span_over(blocks: &Blocks, start: u64, end: u64) -> Span
+    requires modest { AreModest blocks.now }
+    requires ordered { start ≤ end }
+    requires inside { end ≤ (total blocks.now).bytes }
+    ensures span { IsSpan blocks.now result }
+    ensures from { result.start ≤ start }
+    ensures to { end ≤ result.start + result.bytes }
+    ensures short { length blocks.now < 2 ^ 64 }
+{
+    let found = blocks.find(Measure::Bytes, start);
+    let mut span = Span {
+        first: found.index,
+        count: 0,
+        start: found.before.bytes,
+        bytes: 0,
+    };
+    while span.start + span.bytes < end {
+        span = with_next(blocks, span);
+    }
+    span
+}
+
+// These blocks and the one after them.
+fn with_next(blocks: &Blocks, span: Span) -> Span
+    requires modest { AreModest blocks.now }
+    requires short { length blocks.now < 2 ^ 64 }
+    requires span { IsSpan blocks.now span }
+    requires more { span.first + span.count < length blocks.now }
+    ensures span { IsSpan blocks.now result }
+    ensures start { result.start ≡ span.start }
+    ensures longer { span.bytes ≤ result.bytes }
+    ensures first { result.first ≡ span.first }
+    ensures count { result.count ≡ span.count + 1 }
+{
+    Span {
+        count: span.count + 1,
+        bytes: span.bytes + blocks.get(span.first + span.count).bytes,
+        ..span
+    }
+}
+
+// The block before these ones, and them.
+fn with_last(blocks: &Blocks, span: Span) -> Span
+    requires modest { AreModest blocks.now }
+    requires short { length blocks.now < 2 ^ 64 }
+    requires span { IsSpan blocks.now span }
+    requires more { 0 < span.first }
+    ensures span { IsSpan blocks.now result }
+    ensures start { result.start ≤ span.start }
+    ensures end { result.start + result.bytes ≡ span.start + span.bytes }
+{
+    let bytes = blocks.get(span.first - 1).bytes;
+    Span {
+        first: span.first - 1,
+        count: span.count + 1,
+        start: span.start - bytes,
+        bytes: span.bytes + bytes,
+    }
+}
