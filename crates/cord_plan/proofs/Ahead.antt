@@ -13,14 +13,14 @@ use Rattle.std.proofs.lemmas.Nat.Bits.{bit_at-zero, bit_at_set_same, bit_at_set_
 use Rattle.std.proofs.lemmas.Option.{slice_get-get_or}
 use Rattle.std.proofs.lemmas.List.{get_or-replicate, length-replicate}
 use Rattle.cord_syntax.specs.declared.statements.Statement.{Statement}
-use Rattle.cord_plan.specs.Operands.{assigns, has, reads, target_of}
-use Rattle.cord_plan.specs.inner.Ahead.{AreAhead, AreToldFrom, IsLineLater, flow, is_noted, later_in}
-use Rattle.cord_plan.specs.inner.Choices.{simple_operands}
+use Rattle.cord_plan.specs.Operands.{assigns, has, read_by, reads, target_of}
+use Rattle.cord_plan.specs.inner.Ahead.{AreAhead, AreBits, AreToldFrom, IsLineLater, flow, is_noted, later_in}
 use Rattle.cord_plan.specs.inner.Marks.{bit}
 use Rattle.cord_plan.specs.inner.Numbering.{names_of, number_in}
 use Rattle.cord_plan.specs.inner.Recent.{Notes, Puts, entry_at, entry_of, noted}
 use Rattle.cord_plan.specs.declared.flow.ahead.LineLater.{LineLater}
 use Rattle.cord_plan.specs.declared.flow.numbering.Numbering.{Numbering}
+use Rattle.cord_plan.proofs.Choices.{simple_reads}
 use Rattle.cord_plan.proofs.Numbers.{Numbered, numbered, unnumbered}
 use Rattle.cord_plan.proofs.Recents.{set_apart, set_there}
 use Rattle.cord_plan.proofs.Words.{bit_or_is, bit_zero_is}
@@ -62,32 +62,6 @@ line_more t l ls p old now new named clears notes ahead = record { known = λ x.
     at_all x = rw (notes x, clears x)
         (after_line (has (names_of t) x) (reads l x) (assigns l x) (later_in ls x) p (entry_of t old x) (ahead.known x)
         (ahead.told x) (named x))
-
--- the bits of two operands
-first_bit : (a b : Bool) → ((a && true) || (b && false)) ≡ a
-first_bit true b = refl
-first_bit false true = refl
-first_bit false false = refl
-
-second_bit : (a b : Bool) → ((a && false) || (b && true)) ≡ b
-second_bit true true = refl
-second_bit true false = refl
-second_bit false b = and-true b
-
-module _ (holds : List ℕ → Bool) where
-  -- the bits of these names are those of which it holds
-  abbrev pub AreBits : List (List ℕ) → ℕ → Type 0
-  AreBits xs w = (i : ℕ) (x : List ℕ) → i < 16 → slice_get xs i ≡ Some x → bit w i ≡ holds x
-
-  pub bits_two : (y z : List ℕ) (a b : Bool) (v w : ℕ) → a ≡ holds y → b ≡ holds z → ((i : ℕ) → bit v i ≡ (a && (i == 0))) →
-      ((i : ℕ) → bit w i ≡ (b && (i == 1))) → AreBits (y ∷ z ∷ []) (bit_or v w)
-  bits_two y z a b v w first second one two zero x lt e =
-      let same : y ≡ x = cc in
-      bit_or_is v w 0 ∙ (rw (one 0, two 0) (first_bit a b) ∙ (first ∙ ap holds same))
-  bits_two y z a b v w first second one two (suc zero) x lt e =
-      let same : z ≡ x = cc in
-      bit_or_is v w 1 ∙ (rw (one 1, two 1) (second_bit a b) ∙ (second ∙ ap holds same))
-  bits_two y z a b v w first second one two (suc (suc i)) x lt e = let bad : ⊥ = cc in absurd bad
 
 -- the bit of an operand
 pub one_bit : (k i : ℕ) → k < 16 → bit (1 * 2 ^ k % 65536) i ≡ (i == k)
@@ -132,12 +106,12 @@ bits_more holds xs k w v x a there is one bits = record {
 -- what is asked of a line, by what is noted behind it
 pub line_is : (t : Numbering) (places : List (Option ℕ)) (ls : List Statement) (l : Statement) (line : LineLater) (target : Option ℕ) →
     AreAhead ls t places → line.target ≡ is_noted (entry_at places target) → target ≡ number_in t (target_of l) →
-    ((xs : List (List ℕ)) → simple_operands l ≡ Some xs → AreBits (λ x. is_noted (entry_of t places x)) xs line.operands) →
+    AreBits (λ x. is_noted (entry_of t places x)) (read_by l) line.operands →
     IsLineLater l (λ x. later_in ls x) line
 line_is t places ls l line target ahead told number bits = record {
   target = λ x e. told ∙ (ap (λ (o : Option ℕ). is_noted (entry_at places o)) (number ∙ ap (λ (o : Option (List ℕ)). number_in t o) e)
       ∙ ahead.told x);
-  operands = λ xs e i x lt there. bits xs e i x lt there ∙ ahead.told x;
+  operands = λ xs e i x lt there. bits i x lt (ap (λ (ys : List (List ℕ)). slice_get ys i) (simple_reads l xs e) ∙ there) ∙ ahead.told x;
 }
 
 -- one line more is told

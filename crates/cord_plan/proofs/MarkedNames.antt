@@ -1,6 +1,6 @@
 -- Words that mark names.
 use Rattle.std.proofs.Common.{◌≡◌, ◌⊎◌, ℕ, ◌+◌, ◌*◌, ◌/◌, ◌%◌, ◌^◌, ◌<◌, Bool, true, false, ◌||◌, List, [], ◌∷◌, ◌++◌, take, length, get_or}
-use Rattle.std.proofs.Common.{Some, refl, sym, ap, ◌∙◌, subst, inl, inr, arith}
+use Rattle.std.proofs.Common.{Option, Some, None, refl, sym, ap, ◌∙◌, subst, inl, inr, arith}
 use Rattle.std.specs.Prelude.{slice_get}
 use Rattle.std.specs.Str.{bytes_eq}
 use Rattle.std.specs.Int.RustNames.{bit_or}
@@ -9,8 +9,8 @@ use Rattle.std.proofs.Math.Nat.{div-add-mod, mod-lt}
 use Rattle.std.proofs.lemmas.Bool.{cases_eq}
 use Rattle.std.proofs.lemmas.List.{take_more}
 use Rattle.cord_plan.specs.declared.flow.numbering.Numbering.{Numbering}
-use Rattle.cord_plan.specs.Operands.{has}
-use Rattle.cord_plan.specs.inner.Numbering.{names_of, number_of}
+use Rattle.cord_plan.specs.Operands.{has, is_name}
+use Rattle.cord_plan.specs.inner.Numbering.{names_of, number_in, number_of}
 use Rattle.cord_plan.specs.inner.Marks.{bit, IsBit, Marks}
 use Rattle.cord_plan.proofs.Named.{same_bytes, own_bytes}
 use Rattle.cord_plan.proofs.Numbers.{number_there}
@@ -91,11 +91,12 @@ module _ (t : Numbering) (g : ℕ) where
       let small : i < 128 = b.within in
       other (omega arith))
 
--- a name that is marked or is one of those that are left, once the first of these is marked
-pub marked_next : (xs ys : List (List ℕ)) (y x : List ℕ) (v w i : ℕ) → xs ≡ y ∷ ys → bit w i ≡ bytes_eq x y →
-    (bit (bit_or v w) i || has ys x) ≡ (bit v i || has xs x)
-marked_next xs ys y x v w i is marks = rw (bit_or_is v w i, marks, is) (one_more (bit v i) (bytes_eq x y) (has ys x))
-  where
-    one_more : (a b c : Bool) → ((a || b) || c) ≡ (a || (b || c))
-    one_more true b c = refl
-    one_more false b c = refl
+  -- the name of a number, where there is one
+  pub marks_named : (o : Option (List ℕ)) (n w : ℕ) → Some n ≡ number_in t o →
+      ((y : List ℕ) → number_of t y ≡ Some n → Marks t g (λ x. bytes_eq x y) w) → Marks t g (λ x. is_name o x) w
+  marks_named None n w e marks = let bad : ⊥ = cc in absurd bad
+  marks_named (Some y) n w e marks = marks y (sym e)
+
+  pub marks_unnamed : (o : Option (List ℕ)) → None ≡ number_in t o → Marks t g (λ x. is_name o x) 0
+  marks_unnamed None e x i b = bit_zero_is i
+  marks_unnamed (Some y) e x i b = marks_none t g y (λ k mine. (let number = mine.number in let bad : ⊥ = cc in bad)) x i b

@@ -1,24 +1,29 @@
 -- Names and their numbers.
-use Rattle.std.proofs.Common.{◌≡◌, ◌⊎◌, ℕ, zero, suc, ◌+◌, ◌<◌, Bool, true, false, ◌||◌, List, [], ◌∷◌, ◌++◌, take, length, get_or}
-use Rattle.std.proofs.Common.{Option, Some, None, refl, sym, ap, ◌∙◌, subst, ⊎_elim, arith, if◌then◌else◌}
+use Rattle.std.proofs.Common.{◌≡◌, ◌⊎◌, ℕ, zero, suc, ◌+◌, ◌-◌, ◌<◌, ◌≤◌, Bool, true, false, ◌||◌, List, [], ◌∷◌, ◌++◌, take, drop}
+use Rattle.std.proofs.Common.{length, get_or, Option, Some, None, inl, inr, refl, sym, ap, ◌∙◌, subst, ⊎_elim, arith, if◌then◌else◌}
+use Rattle.std.proofs.Common.{append_assoc, append-nil, length-append}
 use Rattle.std.specs.Prelude.{slice_get, option_map, All, IfNone, IfSome}
 use Rattle.std.specs.List.{IsDistinct, list_any}
 use Rattle.std.specs.Str.{bytes_eq}
-use Rattle.std.proofs.Math.Bool.{or-false}
 use Rattle.std.proofs.Math.Nat.{eq-or-lt_of_le}
 use Rattle.std.proofs.lemmas.Bool.{cases_eq, cases_lt, or_left, or_right, true≢false}
 use Rattle.std.proofs.lemmas.Cmp.{nat_list_eq_equiv}
-use Rattle.std.proofs.lemmas.List.{take_more}
+use Rattle.std.proofs.Math.Seq.{drop-append_seam}
+use Rattle.std.proofs.lemmas.List.{drop-append-le, length-drop, length-map, map-append, take-append-le, take_all, take_more}
 use Rattle.std.proofs.lemmas.Map.Keys.{IsDistinct-push, apart_from_distinct}
-use Rattle.std.proofs.lemmas.Option.{slice_get-get_or, slice_get_within}
+use Rattle.std.proofs.lemmas.Option.{get_or_from_slice_get, slice_get-get_or, slice_get-map, slice_get_cases, slice_get_within}
 use Rattle.cord_syntax.specs.declared.statements.Statement.{Statement}
 use Rattle.cord_operands.specs.declared.operands.Argument.{Argument}
 use Rattle.cord_operands.specs.declared.operands.Argument.TheVariants.{Number, Cord}
+use Rattle.cord_plan.specs.declared.flow.numbering.LineNumbers.{LineNumbers}
+use Rattle.cord_plan.specs.declared.flow.numbering.NumberedLine.{NumberedLine}
 use Rattle.cord_plan.specs.declared.flow.numbering.Numbering.{Numbering}
-use Rattle.cord_plan.specs.Operands.{has, cord_arguments, read_by}
-use Rattle.cord_plan.specs.inner.Numbering.{names_of, number_of}
-use Rattle.cord_plan.specs.inner.Places.{Adds, CoversTo, place_of}
-use Rattle.cord_plan.proofs.Named.{same_bytes, own_bytes, has_append}
+use Rattle.cord_plan.specs.Operands.{has, cord_arguments, read_by, reads_at, target_of}
+use Rattle.cord_plan.specs.inner.Choices.{simple_operands}
+use Rattle.cord_plan.specs.inner.Numbering.{Covers, IsLineAt, IsNumbered, IsNumbering, names_of, number_in, number_of}
+use Rattle.cord_plan.specs.inner.Places.{Adds, AddsLine, AreNumbers, Grows, IsLine, IsNumber, Takes, place_of}
+use Rattle.cord_plan.proofs.Choices.{simple_reads}
+use Rattle.cord_plan.proofs.Named.{same_bytes, own_bytes}
 
 -- the name at the place that was found
 pub place_found : (names : List (List ℕ)) (x : List ℕ) (n : ℕ) → place_of names x ≡ Some n → slice_get names n ≡ Some x
@@ -79,23 +84,6 @@ module _ (t : Numbering) (x : List ℕ) where
           let bad : ⊥ = cc in
           absurd bad
 
--- a list of names with one more
-has_before : (x y : List ℕ) (names : List (List ℕ)) → has names x ≡ true → has (names ++ y ∷ []) x ≡ true
-has_before x y [] h = let bad : ⊥ = cc in absurd bad
-has_before x y (z ∷ names) h = by_name (bytes_eq x z) h (λ k. has_before x y names k)
-  where
-    by_name : (b : Bool) → (b || has names x) ≡ true → (has names x ≡ true → has (names ++ y ∷ []) x ≡ true) →
-        (b || has (names ++ y ∷ []) x) ≡ true
-    by_name true k ih = refl
-    by_name false k ih = ih k
-
-has_last : (x y : List ℕ) (names : List (List ℕ)) → bytes_eq x y ≡ true → has (names ++ y ∷ []) x ≡ true
-has_last x y [] h = or_left (bytes_eq x y) false h
-has_last x y (z ∷ names) h = or_right (bytes_eq x z) (has (names ++ y ∷ []) x) (has_last x y names h)
-
-same_name : (y x : List ℕ) → has (y ∷ []) x ≡ true → bytes_eq x y ≡ true
-same_name y x h = sym (or-false (bytes_eq x y)) ∙ h
-
 pub none_distinct : IsDistinct bytes_eq []
 unfolding IsDistinct
 none_distinct = tt
@@ -140,78 +128,270 @@ module _ (names : List (List ℕ)) (distinct : IsDistinct bytes_eq names) (x : L
   place_told None there none = sym (unplaced x names none)
   place_told (Some n) there none = sym (place_at n there)
 
-pub name_added : (y : List ℕ) (names : List (List ℕ)) → All (λ z. bytes_eq y z ≡ false) names → Adds (y ∷ []) names (names ++ y ∷ [])
+-- ---- lists that grow
+get_before : {A : Type 0} (xs ys : List A) (k : ℕ) (x : A) → slice_get xs k ≡ Some x → slice_get (xs ++ ys) k ≡ Some x
+get_before [] ys k x e = let bad : ⊥ = cc in absurd bad
+get_before (z ∷ xs) ys zero x e = e
+get_before (z ∷ xs) ys (suc k) x e = get_before xs ys k x e
+
+get_last : {A : Type 0} (xs : List A) (x : A) → slice_get (xs ++ x ∷ []) (length xs) ≡ Some x
+get_last [] x = refl
+get_last (z ∷ xs) x = get_last xs x
+
+pub same_names : (names : List (List ℕ)) → Grows names names
+same_names names = record { remains = λ n x e. e; distinct = λ d. d }
+
+then_grows : (a b c : List (List ℕ)) → Grows a b → Grows b c → Grows a c
+then_grows a b c one two = record {
+  remains = λ n x e. two.remains n x (one.remains n x e);
+  distinct = λ d. two.distinct (one.distinct d);
+}
+
+pub name_added : (y : List ℕ) (names : List (List ℕ)) → All (λ z. bytes_eq y z ≡ false) names →
+    Takes y (length names) names (names ++ y ∷ [])
 name_added y names new = record {
-  remains = λ x k. has_before x y names k;
-  added = λ x h. has_last x y names (same_name y x h);
-  distinct = λ d. IsDistinct-push nat_list_eq_equiv names y d (unlisted y names new);
+  grows = record {
+    remains = λ n x e. get_before names (y ∷ []) n x e;
+    distinct = λ d. IsDistinct-push nat_list_eq_equiv names y d (unlisted y names new);
+  };
+  is = get_last names y;
 }
 
 -- a name that stands in the list already
-pub name_known : (y : List ℕ) (names : List (List ℕ)) (n : ℕ) → slice_get names n ≡ Some y → Adds (y ∷ []) names names
-name_known y names n there = record {
-  remains = λ x k. k;
-  added = λ x h. subst (λ (z : List ℕ). has names z ≡ true) (sym (same_bytes x y (same_name y x h))) (has_there names y n there);
-  distinct = λ d. d;
+pub name_known : (y : List ℕ) (names : List (List ℕ)) (n : ℕ) → slice_get names n ≡ Some y → Takes y n names names
+name_known y names n there = record { grows = same_names names; is = there }
+
+-- ---- the numbers of names stay when other names come
+module _ (old new : List (List ℕ)) (grows : Grows old new) where
+  numbers_stay : (xs : List (List ℕ)) (ns : List ℕ) → AreNumbers old xs ns → AreNumbers new xs ns
+  numbers_stay [] [] e = refl
+  numbers_stay [] (n ∷ ns) e = let bad : ⊥ = cc in absurd bad
+  numbers_stay (x ∷ xs) [] e = let bad : ⊥ = cc in absurd bad
+  numbers_stay (x ∷ xs) (n ∷ ns) e =
+      let here : slice_get old n ≡ Some x = cc in
+      let rest : AreNumbers old xs ns = cc in
+      λ i. grows.remains n x here i ∷ numbers_stay xs ns rest i
+
+  number_stays : (o : Option (List ℕ)) (n : Option ℕ) → IsNumber old o n → IsNumber new o n
+  number_stays None None e = refl
+  number_stays None (Some n) e = let bad : ⊥ = cc in absurd bad
+  number_stays (Some x) None e = let bad : ⊥ = cc in absurd bad
+  number_stays (Some x) (Some n) e =
+      let there : slice_get old n ≡ Some x = cc in
+      ap Some (grows.remains n x there)
+
+  line_stays : (read more : List ℕ) (l : Statement) (line : NumberedLine) → IsLine old read l line → IsLine new (read ++ more) l line
+  line_stays read more l line is =
+      let order : line.start ≤ line.end = is.order in
+      let within : line.end ≤ length read = is.within in
+      let size : length (drop line.start read) ≡ length read - line.start = length-drop line.start read in
+      let same : take (line.end - line.start) (drop line.start (read ++ more)) ≡ take (line.end - line.start) (drop line.start read) =
+      ap (take (line.end - line.start)) (drop-append-le line.start read more (omega arith))
+      ∙ take-append-le (line.end - line.start) (drop line.start read) more (omega arith) in
+      record {
+        target = number_stays (target_of l) line.target is.target;
+        order = order;
+        within = let long : length (read ++ more) ≡ length read + length more = length-append read more in omega arith;
+        reads = rw same (numbers_stay (read_by l) (take (line.end - line.start) (drop line.start read)) is.reads);
+      }
+
+-- ---- numbers that are noted
+pub none_added : (names : List (List ℕ)) (numbers : List ℕ) → Adds [] names names numbers numbers
+none_added names numbers = record { grows = same_names names; numbers = []; noted = sym (append-nil numbers); are = refl }
+
+pub one_added : (x : List ℕ) (n : ℕ) (old new : List (List ℕ)) (before after : List ℕ) → Takes x n old new → after ≡ before ++ n ∷ [] →
+    Adds (x ∷ []) old new before after
+one_added x n old new before after takes noted = record {
+  grows = takes.grows;
+  numbers = n ∷ [];
+  noted = noted;
+  are = ap (λ (o : Option (List ℕ)). o ∷ []) takes.is;
 }
 
-pub none_added : (names : List (List ℕ)) → Adds [] names names
-none_added names = record {
-  remains = λ x k. k;
-  added = λ x h. let bad : ⊥ = cc in absurd bad;
-  distinct = λ d. d;
+pub both_added : (xs ys a b c : List (List ℕ)) (p q r : List ℕ) → Adds xs a b p q → Adds ys b c q r → Adds (xs ++ ys) a c p r
+both_added xs ys a b c p q r one two = record {
+  grows = then_grows a b c one.grows two.grows;
+  numbers = one.numbers ++ two.numbers;
+  noted = two.noted ∙ (ap (λ (ns : List ℕ). ns ++ two.numbers) one.noted ∙ append_assoc p one.numbers two.numbers);
+  are = map-append (λ n. slice_get c n) one.numbers two.numbers
+      ∙ (both (numbers_stay b c two.grows xs one.numbers one.are) two.are ∙ sym (map-append Some xs ys));
 }
+  where
+    both : {i j k m : List (Option (List ℕ))} → i ≡ j → k ≡ m → (i ++ k) ≡ (j ++ m)
+    both e f = λ i. e i ++ f i
 
-pub both_added : (xs ys a b c : List (List ℕ)) → Adds xs a b → Adds ys b c → Adds (xs ++ ys) a c
-both_added xs ys a b c one two = record {
-  remains = λ x k. two.remains x (one.remains x k);
-  added = λ x h. ⊎_elim (λ left. two.remains x (one.added x left)) (λ right. two.added x right) (has_append xs ys x h);
-  distinct = λ d. two.distinct (one.distinct d);
-}
-
--- names that were added stay when others come
-pub then_added : (xs ys a b c : List (List ℕ)) → Adds xs a b → Adds ys b c → Adds xs a c
-then_added xs ys a b c one two = record {
-  remains = λ x k. two.remains x (one.remains x k);
-  added = λ x h. two.remains x (one.added x h);
-  distinct = λ d. two.distinct (one.distinct d);
-}
-
-pub more_added : (names : List (List ℕ)) (i : ℕ) (y : List ℕ) (a b c : List (List ℕ)) → i < length names → y ≡ get_or names i y →
-    Adds (take i names) a b → Adds (y ∷ []) b c → Adds (take (i + 1) names) a c
-more_added names i y a b c lt is one two =
+pub more_added : (names : List (List ℕ)) (i : ℕ) (y : List ℕ) (a b c : List (List ℕ)) (p q r : List ℕ) → i < length names →
+    y ≡ get_or names i y → Adds (take i names) a b p q → Adds (y ∷ []) b c q r → Adds (take (i + 1) names) a c p r
+more_added names i y a b c p q r lt is one two =
     let front : take (i + 1) names ≡ take i names ++ y ∷ [] =
     take_more names i y lt ∙ ap (λ (z : List ℕ). take i names ++ z ∷ []) (sym is) in
-    rw front (both_added (take i names) (y ∷ []) a b c one two)
+    rw front (both_added (take i names) (y ∷ []) a b c p q r one two)
 
 cords_append : (xs ys : List Argument) → cord_arguments (xs ++ ys) ≡ cord_arguments xs ++ cord_arguments ys
 cords_append [] ys = refl
 cords_append (Number n ∷ xs) ys = cords_append xs ys
 cords_append (Cord y ∷ xs) ys = ap (λ (zs : List (List ℕ)). y ∷ zs) (cords_append xs ys)
 
-pub arguments_more : (arguments : List Argument) (i : ℕ) (e : Argument) → i < length arguments → e ≡ get_or arguments i e →
-    cord_arguments (take (i + 1) arguments) ≡ cord_arguments (take i arguments) ++ cord_arguments (e ∷ [])
-arguments_more arguments i e lt is =
+pub more_arguments : (arguments : List Argument) (i : ℕ) (e : Argument) (a b c : List (List ℕ)) (p q r : List ℕ) →
+    i < length arguments → e ≡ get_or arguments i e → Adds (cord_arguments (take i arguments)) a b p q →
+    Adds (cord_arguments (e ∷ [])) b c q r → Adds (cord_arguments (take (i + 1) arguments)) a c p r
+more_arguments arguments i e a b c p q r lt is one two =
     let front : take (i + 1) arguments ≡ take i arguments ++ e ∷ [] =
     take_more arguments i e lt ∙ ap (λ (z : Argument). take i arguments ++ z ∷ []) (sym is) in
-    rw front (cords_append (take i arguments) (e ∷ []))
+    let more : cord_arguments (take (i + 1) arguments) ≡ cord_arguments (take i arguments) ++ cord_arguments (e ∷ []) =
+    rw front (cords_append (take i arguments) (e ∷ [])) in
+    rw more (both_added (cord_arguments (take i arguments)) (cord_arguments (e ∷ [])) a b c p q r one two)
 
-pub more_arguments : (arguments : List Argument) (i : ℕ) (e : Argument) (a b c : List (List ℕ)) → i < length arguments →
-    e ≡ get_or arguments i e → Adds (cord_arguments (take i arguments)) a b → Adds (cord_arguments (e ∷ [])) b c →
-    Adds (cord_arguments (take (i + 1) arguments)) a c
-more_arguments arguments i e a b c lt is one two =
-    rw (arguments_more arguments i e lt is) (both_added (cord_arguments (take i arguments)) (cord_arguments (e ∷ [])) a b c one two)
+-- what was noted last
+last_noted : (p ns q : List ℕ) → q ≡ p ++ ns → take (length q - length p) (drop (length p) q) ≡ ns
+last_noted p ns q is =
+    let long : length (p ++ ns) ≡ length p + length ns = length-append p ns in
+    rw (is, drop-append_seam p ns) (take_all (length (p ++ ns) - length p) ns (omega arith))
 
-pub more_covered : (s : List Statement) (i : ℕ) (l : Statement) (old new : List (List ℕ)) → i < length s → l ≡ get_or s i l →
-    CoversTo s i old → Adds (read_by l) old new → CoversTo s (i + 1) new
-more_covered s i l old new lt is covers adds k within x r = ⊎_elim (λ here. adds.added x (reads_here here))
-    (λ before. adds.remains x (covers k before x r)) (last_or_before k within)
+-- the numbers of a line that assigns a name, or none
+pub line_added : (l : Statement) (a b c : List (List ℕ)) (p q : List ℕ) (line : NumberedLine) → Adds (read_by l) a b p q → Grows b c →
+    IsNumber c (target_of l) line.target → line.start ≡ length p → line.end ≡ length q → AddsLine l a c p q line
+line_added l a b c p q line adds grows target start end =
+    let long : length (p ++ adds.numbers) ≡ length p + length adds.numbers = length-append p adds.numbers in
+    let size : length q ≡ length (p ++ adds.numbers) = ap length adds.noted in
+    record {
+      grows = then_grows a b c adds.grows grows;
+      numbers = adds.numbers;
+      noted = adds.noted;
+      is = record {
+        target = target;
+        order = omega arith;
+        within = omega arith;
+        reads = rw (start, end, last_noted p adds.numbers q adds.noted) (numbers_stay b c grows (read_by l) adds.numbers adds.are);
+      };
+    }
+
+-- the lines before a place have their numbers
+abbrev pub LinesTo : List Statement → ℕ → List (List ℕ) → List ℕ → List NumberedLine → Type 0
+LinesTo s i names read lines = (p : ℕ) (l : Statement) → p < i → slice_get s p ≡ Some l →
+    (line : NumberedLine) × (slice_get lines p ≡ Some line) × IsLine names read l line
+
+pub lines_more : (s : List Statement) (i : ℕ) (l : Statement) (old new : List (List ℕ)) (before after : List ℕ) (lines : List NumberedLine)
+    (line : NumberedLine) → length lines ≡ i → i < length s → l ≡ get_or s i l → AddsLine l old new before after line →
+    LinesTo s i old before lines → LinesTo s (i + 1) new after (lines ++ line ∷ [])
+lines_more s i l old new before after lines line size lt is adds told p m within there =
+    by_place (eq-or-lt_of_le (let le : p ≤ i = omega arith in le))
   where
-    there : slice_get s i ≡ Some l
-    there = slice_get-get_or s i l lt ∙ ap Some (sym is)
+    here : slice_get s i ≡ Some l
+    here = slice_get-get_or s i l lt ∙ ap Some (sym is)
 
-    reads_here : k ≡ i → has (read_by l) x ≡ true
-    reads_here same = rw (same, there) at r
+    by_place : (p ≡ i) ⊎ (p < i) → (found : NumberedLine) × (slice_get (lines ++ line ∷ []) p ≡ Some found) × IsLine new after m found
+    by_place (inl same) =
+        let mine : slice_get s i ≡ Some m = ap (λ (n : ℕ). slice_get s n) (sym same) ∙ there in
+        let first = here in
+        let one : l ≡ m = cc in (
+          line,
+          ap (λ (n : ℕ). slice_get (lines ++ line ∷ []) n) (same ∙ sym size) ∙ get_last lines line,
+          subst (λ (k : Statement). IsLine new after k line) one adds.is,
+        )
+    by_place (inr less) =
+        let found : (found : NumberedLine) × (slice_get lines p ≡ Some found) × IsLine old before m found = told p m less there in (
+          found.0,
+          get_before lines (line ∷ []) p found.0 found.1,
+          rw adds.noted (line_stays old new adds.grows before adds.numbers m found.0 found.2),
+        )
 
-    last_or_before : (n : ℕ) → n < i + 1 → (n ≡ i) ⊎ (n < i)
-    last_or_before n h = eq-or-lt_of_le (omega arith)
+-- ---- what numbers tell
+module _ (t : Numbering) where
+  -- the number of a name, where there is one
+  pub number_told : (o : Option (List ℕ)) (n : Option ℕ) → IsNumber (names_of t) o n → n ≡ number_in t o
+  number_told None None e = refl
+  number_told None (Some n) e = let bad : ⊥ = cc in absurd bad
+  number_told (Some x) None e = let bad : ⊥ = cc in absurd bad
+  number_told (Some x) (Some n) e =
+      let there : slice_get (names_of t) n ≡ Some x = cc in
+      sym (place_at (names_of t) t.distinct x n there)
+
+  module _ (xs : List (List ℕ)) (ns : List ℕ) (are : AreNumbers (names_of t) xs ns) where
+    pub as_many : length ns ≡ length xs
+    as_many = sym (length-map ns (λ n. slice_get (names_of t) n)) ∙ (ap length are ∙ length-map xs Some)
+
+    both_at : (i : ℕ) → option_map (λ n. slice_get (names_of t) n) (slice_get ns i) ≡ option_map Some (slice_get xs i)
+    both_at i = sym (slice_get-map (λ n. slice_get (names_of t) n) ns i)
+        ∙ (ap (λ (os : List (Option (List ℕ))). slice_get os i) are ∙ slice_get-map Some xs i)
+
+    -- the name of a number
+    pub record NamedAt (i n : ℕ) : Type 0 where
+      pub name : List ℕ
+      pub there : slice_get xs i ≡ Some name
+      pub number : number_of t name ≡ Some n
+      pub within : i < length xs
+      pub is : name ≡ get_or xs i name
+
+    pub name_at : (i n : ℕ) → slice_get ns i ≡ Some n → NamedAt i n
+    name_at i n e = by_name (slice_get xs i) refl (ap (λ (o : Option ℕ). option_map (λ m. slice_get (names_of t) m) o) (sym e) ∙ both_at i)
+      where
+        by_name : (o : Option (List ℕ)) → slice_get xs i ≡ o → Some (slice_get (names_of t) n) ≡ option_map Some o → NamedAt i n
+        by_name None f h = let bad : ⊥ = cc in absurd bad
+        by_name (Some x) f h =
+            let there : slice_get (names_of t) n ≡ Some x = cc in
+            record {
+              name = x;
+              there = f;
+              number = place_at (names_of t) t.distinct x n there;
+              within = slice_get_within xs i x f;
+              is = sym (get_or_from_slice_get xs i x x f);
+            }
+
+    -- the number of a name
+    pub number_at : (i : ℕ) (x : List ℕ) → slice_get xs i ≡ Some x → slice_get ns i ≡ number_of t x
+    number_at i x e = by_number (slice_get ns i) (both_at i ∙ ap (option_map Some) e)
+      where
+        by_number : (o : Option ℕ) → option_map (λ n. slice_get (names_of t) n) o ≡ Some (Some x) → o ≡ number_of t x
+        by_number None h = let bad : ⊥ = cc in absurd bad
+        by_number (Some n) h =
+            let there : slice_get (names_of t) n ≡ Some x = cc in
+            sym (place_at (names_of t) t.distinct x n there)
+
+  -- the names of numbers are known
+  pub numbers_known : (xs : List (List ℕ)) (ns : List ℕ) → AreNumbers (names_of t) xs ns → (x : List ℕ) → has xs x ≡ true →
+      has (names_of t) x ≡ true
+  numbers_known [] ns e x h = let bad : ⊥ = cc in absurd bad
+  numbers_known (y ∷ xs) [] e x h = let bad : ⊥ = cc in absurd bad
+  numbers_known (y ∷ xs) (n ∷ ns) e x h =
+      let rest : AreNumbers (names_of t) xs ns = cc in
+      by_name (bytes_eq x y) refl h (λ k. numbers_known xs ns rest x k)
+    where
+      by_name : (v : Bool) → bytes_eq x y ≡ v → (v || has xs x) ≡ true → (has xs x ≡ true → has (names_of t) x ≡ true) →
+          has (names_of t) x ≡ true
+      by_name true same k others =
+          let here : slice_get (names_of t) n ≡ Some y = let all = e in cc in
+          has_there (names_of t) x n (here ∙ ap Some (sym (same_bytes x y same)))
+      by_name false other k others = others k
+
+  -- the numbers of a line, as they are kept
+  pub line_numbered : (l : Statement) (line : NumberedLine) (numbers : LineNumbers) → IsLine (names_of t) t.read.items l line →
+      numbers.target ≡ line.target → numbers.read.now ≡ take (line.end - line.start) (drop line.start t.read.items) →
+      IsNumbered t l numbers
+  line_numbered l line numbers is target read = record {
+    target = target ∙ number_told (target_of l) line.target is.target;
+    read = rw read is.reads;
+  }
+
+  -- each line of a script has its numbers
+  module _ (s : List Statement) (numbering : IsNumbering s t) where
+    pub covers : Covers s t
+    covers p lt x r = by_line (slice_get s p) refl r
+      where
+        by_line : (o : Option Statement) → slice_get s p ≡ o → reads_at o x ≡ true → has (names_of t) x ≡ true
+        by_line None e h = let bad : ⊥ = cc in absurd bad
+        by_line (Some l) e h =
+            let there = numbering p l e in
+            numbers_known (read_by l) (take (there.0.end - there.0.start) (drop there.0.start t.read.items)) there.2.reads x h
+
+    pub line_there : (p : ℕ) → p < length s → (l : Statement) × (slice_get s p ≡ Some l) × IsLineAt t l p
+    line_there p lt = elim (slice_get_cases s p).1 [
+      | inl w ↦ (w.0, w.2, numbering p w.0 w.2)
+      | inr w ↦ absurd (omega (arith, lt, w.0))
+    ]
+
+  -- the number of an operand of a simple line
+  pub operand_number : (l : Statement) (numbers : LineNumbers) (xs : List (List ℕ)) (i : ℕ) (x : List ℕ) → IsNumbered t l numbers →
+      simple_operands l ≡ Some xs → slice_get xs i ≡ Some x → slice_get numbers.read.now i ≡ number_of t x
+  operand_number l numbers xs i x are simple there = number_at (read_by l) numbers.read.now are.read i x
+      (ap (λ (ys : List (List ℕ)). slice_get ys i) (simple_reads l xs simple) ∙ there)

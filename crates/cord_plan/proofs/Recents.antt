@@ -3,19 +3,15 @@ use Rattle.std.proofs.Common.{◌≡◌, ◌⊎◌, ℕ, zero, suc, ◌+◌, ◌
 use Rattle.std.proofs.Common.{Option, Some, None, inl, inr, refl, sym, ap, ◌∙◌, arith}
 use Rattle.std.specs.Prelude.{slice_get, option_map, if◌then◌else◌, replicate}
 use Rattle.std.specs.Str.{bytes_eq}
-use Rattle.std.proofs.Math.Bool.{or-false}
 use Rattle.std.proofs.lemmas.Bool.{cases_eq}
 use Rattle.std.proofs.lemmas.Option.{slice_get-get_or, slice_get_past}
-use Rattle.cord_operands.specs.declared.operands.Number as numbers
-use Rattle.cord_operands.specs.declared.operands.Argument.{Argument}
-use Rattle.cord_operands.specs.declared.operands.Argument.TheVariants.{Number, Cord}
-use Rattle.cord_plan.specs.Operands.{has, cord_arguments, is_name}
+use Rattle.cord_plan.specs.Operands.{has, is_name}
 use Rattle.cord_plan.specs.inner.Numbering.{names_of, number_in, number_of}
 use Rattle.cord_plan.specs.inner.Recent.{Notes, Puts, entry_at, entry_of, noted}
 use Rattle.cord_plan.specs.declared.flow.numbering.Numbering.{Numbering}
 use Rattle.cord_plan.proofs.Named.{same_bytes, own_bytes}
-use Rattle.cord_plan.proofs.Numbers.{number_there, arguments_more}
-use Rattle.cord_plan.proofs.MarkedNames.{has_both, has_one, has_more}
+use Rattle.cord_plan.proofs.Numbers.{number_there}
+use Rattle.cord_plan.proofs.MarkedNames.{has_more}
 
 -- an element that was set, and the others
 pub set_there : {A : Type 0} (xs : List A) (n : ℕ) (v : A) → n < length xs → slice_get (set xs n v) n ≡ Some v
@@ -136,24 +132,6 @@ module _ (t : Numbering) (p : ℕ) where
   notes_more names i y old now new lt is one two = notes_same (λ x. has (take i names) x || bytes_eq x y)
       (λ x. has (take (i + 1) names) x) old new (λ x. has_more names i y x lt is)
       (notes_or (λ x. has (take i names) x) (λ x. bytes_eq x y) old now new one two)
-
-  -- an argument more: a number, or a cord
-  pub notes_number_more : (arguments : List Argument) (i : ℕ) (e : Argument) (n : numbers.Number) (old new : List (Option ℕ)) →
-      i < length arguments → e ≡ get_or arguments i e → e ≡ Number n → Notes t (λ x. has (cord_arguments (take i arguments)) x) p old new →
-      Notes t (λ x. has (cord_arguments (take (i + 1) arguments)) x) p old new
-  notes_number_more arguments i e n old new lt is c one = notes_same (λ x. has (cord_arguments (take i arguments)) x)
-      (λ x. has (cord_arguments (take (i + 1) arguments)) x) old new (λ x.
-      ap (λ (xs : List (List ℕ)). has xs x) (arguments_more arguments i e lt is) ∙ has_both (cord_arguments (take i arguments))
-      (cord_arguments (e ∷ [])) x ∙ rw c (or-false (has (cord_arguments (take i arguments)) x))) one
-
-  pub notes_cord_more : (arguments : List Argument) (i : ℕ) (e : Argument) (y : List ℕ) (old now new : List (Option ℕ)) →
-      i < length arguments → e ≡ get_or arguments i e → e ≡ Cord y → Notes t (λ x. has (cord_arguments (take i arguments)) x) p old now →
-      Notes t (λ x. bytes_eq x y) p now new → Notes t (λ x. has (cord_arguments (take (i + 1) arguments)) x) p old new
-  notes_cord_more arguments i e y old now new lt is c one two = notes_same (λ z. has (cord_arguments (take i arguments)) z || bytes_eq z y)
-      (λ x. has (cord_arguments (take (i + 1) arguments)) x) old new (λ x.
-      ap (λ (xs : List (List ℕ)). has xs x) (arguments_more arguments i e lt is) ∙ has_both (cord_arguments (take i arguments))
-      (cord_arguments (e ∷ [])) x ∙ rw (c, has_one y x) refl)
-      (notes_or (λ z. has (cord_arguments (take i arguments)) z) (λ z. bytes_eq z y) old now new one two)
 
 -- what a place has after a note, where it had the last one before
 pub last_then : (holds : Bool) (p : ℕ) (e : Option (Option ℕ)) (o last : Option ℕ) → option_map (λ q. noted holds p q) e ≡ Some o →

@@ -13,7 +13,7 @@ mod staying;
 ghost use Rattle.std.specs.Prelude.{◌≡◌, ℕ, Bool, List, IfOk, IsOkUnless, map};
 ghost use Rattle.cord_plan.specs.inner.Extensions.{AreExtending};
 ghost use Rattle.cord_plan.specs.inner.Liveness.{tells, AllTold, IsTold};
-ghost use Rattle.cord_plan.specs.inner.Numbering.{number_in};
+ghost use Rattle.cord_plan.specs.inner.Numbering.{IsNumbering, number_in};
 ghost use Rattle.cord_plan.specs.Meaning.{IsPlanOf};
 ghost use Rattle.cord_plan.specs.Operands.{target_of};
 ghost use Rattle.cord_plan.specs.Planned as plan;
@@ -50,7 +50,8 @@ fn operations_of(
     statements: &[Statement],
     later: &Later,
 ) -> Result<(Vec<Operation>, Vec<bool>), CordError>
-    requires { AllTold statements.now later.now }
+    requires told { AllTold statements.now later.now }
+    requires numbered { IsNumbering statements.now later.now.numbering }
     ensures made { IfOk result (λ p. map operation_view p.0.items ≡ plan.planned statements.now (tells later.now)) }
     ensures extending { IfOk result (λ p. AreExtending p.1.items (map operation_view p.0.items)) }
     ensures refused { IsOkUnless result CordError.NoMemory }
@@ -61,14 +62,14 @@ fn operations_of(
     let mut recent = Recent::of(alloc, later)?;
     let mut known = Known::of(alloc, later.numbering.count())?;
     for (place, statement) in statements.iter().enumerate() {
-        let target = later.numbering.target_of(statement);
+        let numbers = later.numbering.line(place);
         let next = next_expression(
             alloc,
             &mut interner,
             statements,
             place,
             statement,
-            target,
+            numbers,
             &recent,
             &mut known,
             &mut operations,
@@ -77,10 +78,10 @@ fn operations_of(
             expression,
             extends,
         } = next;
-        let dead = is_dead(statement, target, place, later);
+        let dead = is_dead(statement, numbers.target, place, later);
         operations.push_reserved(operation_of(statement, expression, dead)?);
         extending.push_reserved(extends);
-        recent.note(statement, target, place);
+        recent.note(statement, numbers, place);
     }
     Ok((operations, extending))
 }

@@ -6,9 +6,8 @@ use Rattle.cord_plan.specs.Operands.{assigns, has, reads, target_of}
 use Rattle.cord_plan.specs.inner.Choices.{simple_operands}
 use Rattle.cord_plan.specs.inner.Marks.{bit}
 use Rattle.cord_plan.specs.inner.Numbering.{names_of}
-use Rattle.cord_plan.specs.inner.Recent.{entry_at, entry_of}
+use Rattle.cord_plan.specs.inner.Recent.{entry_of}
 use Rattle.cord_plan.specs.declared.flow.numbering.Numbering.{Numbering}
-use Rattle.cord_plan.specs.declared.flow.ahead.Ahead.{Ahead}
 use Rattle.cord_plan.specs.declared.flow.ahead.LineLater.{LineLater}
 
 -- what the flow back over a line makes of a bit
@@ -25,19 +24,14 @@ abbrev pub is_noted : Option (Option ℕ) → Bool
 is_noted (Some (Some reader)) = true
 is_noted entry = false
 
-abbrev pub ahead_at : Ahead → Option ℕ → Bool
-ahead_at a number = is_noted (entry_at a.read.items number)
-
-abbrev pub ahead_of : Ahead → List ℕ → Bool
-ahead_of a x = is_noted (entry_of a.numbering.now a.read.items x)
-
 -- places, by the numbers of names, have a line for each name that these lines read before one assigns it, and for no other
 pub record AreAhead (ls : List Statement) (t : Numbering) (places : List (Option ℕ)) : Type 0 where
   pub known : (x : List ℕ) → is_some (entry_of t places x) ≡ has (names_of t) x
   pub told : (x : List ℕ) → is_noted (entry_of t places x) ≡ later_in ls x
 
-abbrev pub IsAhead : List Statement → Ahead → Type 0
-IsAhead ls a = AreAhead ls a.numbering.now a.read.items
+-- the bits of these names are those of which it holds, for the first of them
+abbrev pub AreBits : (List ℕ → Bool) → List (List ℕ) → ℕ → Type 0
+AreBits holds xs w = (i : ℕ) (x : List ℕ) → i < 16 → slice_get xs i ≡ Some x → bit w i ≡ holds x
 
 -- what is asked of a line: whether the name that it assigns is read later, and which of its first operands are
 pub record IsLineLater (l : Statement) (later : List ℕ → Bool) (line : LineLater) : Type 0 where

@@ -1,7 +1,9 @@
 -- Names with numbers: their places in the list of all names.
-use Rattle.std.specs.Prelude.{ℕ, List, length, Option}
+use Rattle.std.specs.Prelude.{◌≡◌, ℕ, ◌<◌, true, List, length, Option, slice_get}
 use Rattle.cord_syntax.specs.declared.statements.Statement.{Statement}
-use Rattle.cord_plan.specs.inner.Places.{CoversTo, place_in, place_of}
+use Rattle.cord_plan.specs.Operands.{has, reads_at}
+use Rattle.cord_plan.specs.inner.Places.{AreLines, HasNumbers, IsLineIn, place_in, place_of}
+use Rattle.cord_plan.specs.declared.flow.numbering.LineNumbers.{LineNumbers}
 use Rattle.cord_plan.specs.declared.flow.numbering.Numbering.{Numbering}
 
 abbrev pub names_of : Numbering → List (List ℕ)
@@ -14,6 +16,16 @@ number_of t x = place_of (names_of t) x
 abbrev pub number_in : Numbering → Option (List ℕ) → Option ℕ
 number_in t o = place_in (names_of t) o
 
+-- these are the numbers of the names of a line; they are kept for the line at a place, and for each line of a script
+abbrev pub IsNumbered : Numbering → Statement → LineNumbers → Type 0
+IsNumbered t l numbers = HasNumbers (names_of t) l numbers
+
+abbrev pub IsLineAt : Numbering → Statement → ℕ → Type 0
+IsLineAt t l p = IsLineIn (names_of t) t.read.items t.lines.items l p
+
+abbrev pub IsNumbering : List Statement → Numbering → Type 0
+IsNumbering s t = AreLines s (names_of t) t.read.items t.lines.items
+
 -- the names that the lines read have numbers
 abbrev pub Covers : List Statement → Numbering → Type 0
-Covers s t = CoversTo s (length s) (names_of t)
+Covers s t = (p : ℕ) → p < length s → (x : List ℕ) → reads_at (slice_get s p) x ≡ true → has (names_of t) x ≡ true

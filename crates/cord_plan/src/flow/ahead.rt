@@ -1,17 +1,16 @@
 // In a script without blocks, which names of each line are read later than the line.
-ghost use Rattle.std.specs.Prelude.{◌≡◌, ◌<◌, ◌==◌, ◌&&◌, [], ◌∷◌, ℕ, List, true, Some, IfOk, slice_get};
-ghost use Rattle.cord_syntax.specs.Readings.{operand_names};
-ghost use Rattle.cord_plan.specs.Operands.{has, reads, target_of};
-ghost use Rattle.cord_plan.specs.inner.Ahead.{ahead_at, ahead_of, AreToldFrom, IsAhead};
-ghost use Rattle.cord_plan.specs.inner.Choices.{simple_operands};
+ghost use Rattle.std.specs.Prelude.{◌≡◌, ◌<◌, ◌==◌, ◌&&◌, [], ◌∷◌, ℕ, List, Some, IfOk, slice_get};
+ghost use Rattle.cord_syntax.specs.declared.statements.Statement.{Statement};
+ghost use Rattle.cord_plan.specs.inner.Ahead.{AreAhead, AreBits, AreToldFrom, is_noted};
 ghost use Rattle.cord_plan.specs.inner.Marks.{bit};
-ghost use Rattle.cord_plan.specs.inner.Numbering.{Covers, names_of, number_in};
+ghost use Rattle.cord_plan.specs.inner.Numbering.{IsNumbered, IsNumbering, names_of};
+ghost use Rattle.cord_plan.specs.inner.Places.{AreNumbers};
+ghost use Rattle.cord_plan.specs.inner.Recent.{entry_at, entry_of};
+ghost use Rattle.cord_plan.specs.declared.flow.numbering.Numbering.{Numbering};
 
-use crate::flow::numbering::Numbering;
-use crate::flow::readings::operands_of;
-use crate::flow::recent::{entry_at, note_read, put};
-use cord_script::{Name, Statement};
-use cord_syntax::Operands;
+use crate::flow::numbering::{LineNumbers, Numbering};
+use crate::flow::recent::{entry_at, note_all, put};
+use cord_script::Statement;
 use std::alloc::{AllocError, Global};
 
 /// Of how many operands it is kept whether they are read later.
@@ -28,8 +27,7 @@ pub(crate) struct LineLater {
 /// On the way back over lines, by the numbers of names, the next line that reads each name, where none before that one
 /// assigns it.
 #[derive(Drop)]
-struct Ahead<'a> {
-    numbering: &'a Numbering,
+struct Ahead {
     read: Vec<Option<usize>>,
 }
 
@@ -69,20 +67,19 @@ fn operand_bit(index: usize, is_set: bool) -> u16
     if is_set { 1 << index } else { 0 }
 }
 
-impl<'a> Ahead<'a> {
+impl Ahead {
     // Behind the last line.
-    fn of(alloc: Global, numbering: &'a Numbering) -> Result<Self, AllocError>
-        ensures numbering { IfOk result (λ a. a.numbering.now ≡ numbering.now) }
-        ensures ahead { IfOk result (λ a. IsAhead [] a) }
+    fn of(alloc: Global, numbering: &Numbering) -> Result<Self, AllocError>
+        ensures { IfOk result (λ a. AreAhead [] numbering.now a.read.items) }
     {
         let count = numbering.count();
         let read = vec![in alloc; None; count]?;
-        Ok(Ahead { numbering, read })
+        Ok(Ahead { read })
     }
 
     // Whether the name of a number is read before it is assigned.
-    fn has_number(&self, number: Option<usize>) -> bool
-        ensures { result ≡ ahead_at self.now number }
+    fn has(&self, number: Option<usize>) -> bool
+        ensures { result ≡ is_noted (entry_at self.now.read.items number) }
     {
         match entry_at(&self.read, number) {
             Some(Some(_)) => true,
@@ -90,62 +87,28 @@ impl<'a> Ahead<'a> {
         }
     }
 
-    // The same of a name.
-    fn has_name(&self, name: &Name) -> bool
-        ensures { result ≡ ahead_of self.now name.now }
-    {
-        self.has_number(self.numbering.number_of(name))
-    }
-
-    // Which of a list of operands are ahead.
-    fn listed_bits(&self, names: &[Name]) -> u16
-        ensures { (i : ℕ) (x : List ℕ) → i < 16 → slice_get names.now i ≡ Some x → bit result i ≡ ahead_of self.now x }
+    // Which of the first of these numbers are those of names that are read before they are assigned.
+    fn operand_bits(&self, numbers: &[usize]) -> u16
+        ensures { (t : Numbering) (xs : List (List ℕ)) → AreNumbers (names_of t) xs numbers.now →
+            AreBits (λ x. is_noted (entry_of t self.now.read.items x)) xs result }
     {
         let mut bits = 0;
-        for (index, name) in names.iter().enumerate() {
+        for (index, number) in numbers.iter().enumerate() {
             if index >= OPERANDS {
                 return bits;
             }
-            bits |= operand_bit(index, self.has_name(name));
+            bits |= operand_bit(index, self.has(Some(*number)));
         }
         bits
     }
 
-    // Which operands are ahead, by their names.
-    fn named_bits(&self, operands: Operands) -> u16
-        ensures { (i : ℕ) (x : List ℕ) → i < 16 → slice_get (operand_names operands.entry) i ≡ Some x →
-            bit result i ≡ ahead_of self.now x }
+    // Goes back over the line before, whose names have these numbers.
+    fn go_back(&mut self, numbers: LineNumbers, place: usize)
+        ensures { (t : Numbering) (l : Statement) (ls : List Statement) → IsNumbered t l numbers.entry →
+            AreAhead ls t self.old.read.items → AreAhead (l ∷ ls) t self.new.read.items }
     {
-        match operands {
-            Operands::Nothing => 0,
-            Operands::One(operand) => operand_bit(0, self.has_name(operand)),
-            Operands::Two(left, right) => {
-                operand_bit(0, self.has_name(left)) | operand_bit(1, self.has_name(right))
-            }
-            Operands::Listed(names) => self.listed_bits(names),
-        }
-    }
-
-    // Which operands of a simple line are ahead.
-    fn operand_bits(&self, statement: &Statement) -> u16
-        ensures { (xs : List (List ℕ)) → simple_operands statement.now ≡ Some xs → (i : ℕ) (x : List ℕ) → i < 16 →
-            slice_get xs i ≡ Some x → bit result i ≡ ahead_of self.now x }
-    {
-        match operands_of(statement) {
-            Some(operands) => self.named_bits(operands),
-            None => 0,
-        }
-    }
-
-    // Goes back over the line before, which assigns the name of this number.
-    fn go_back(&mut self, statement: &Statement, target: Option<usize>, place: usize)
-        requires target { target ≡ number_in self.old.numbering.now (target_of statement.now) }
-        requires known { (x : List ℕ) → reads statement.now x ≡ true → has (names_of self.old.numbering.now) x ≡ true }
-        ensures numbering { self.new.numbering.now ≡ self.old.numbering.now }
-        ensures ahead { (ls : List Statement) → IsAhead ls self.old → IsAhead (statement.now ∷ ls) self.new }
-    {
-        put(&mut self.read, target, None);
-        note_read(self.numbering, &mut self.read, statement, place);
+        put(&mut self.read, numbers.target, None);
+        note_all(&mut self.read, numbers.read, place);
     }
 }
 
@@ -155,19 +118,18 @@ pub(crate) fn lines_later(
     statements: &[Statement],
     numbering: &Numbering,
 ) -> Result<Vec<LineLater>, AllocError>
-    requires { Covers statements.now numbering.now }
+    requires { IsNumbering statements.now numbering.now }
     ensures { IfOk result (λ v. AreToldFrom statements.now 0 v.items) }
 {
     let mut ahead = Ahead::of(alloc, numbering)?;
     let mut lines = vec![in alloc; LineLater::none(); statements.len()]?;
     for place in (0..statements.len()).rev() {
-        let statement = &statements[place];
-        let target = numbering.target_of(statement);
+        let numbers = numbering.line(place);
         lines[place] = LineLater {
-            target: ahead.has_number(target),
-            operands: ahead.operand_bits(statement),
+            target: ahead.has(numbers.target),
+            operands: ahead.operand_bits(numbers.read),
         };
-        ahead.go_back(statement, target, place);
+        ahead.go_back(numbers, place);
     }
     Ok(lines)
 }

@@ -6,7 +6,7 @@ ghost use Rattle.cord_syntax.specs.declared.statements.Statement.{Statement};
 ghost use Rattle.cord_plan.specs.Operands.{assigns_at, target_of};
 ghost use Rattle.cord_plan.specs.Unread.{IsLater, successors, some_of};
 ghost use Rattle.cord_plan.specs.inner.Marks.{bit, column, room, IsBit};
-ghost use Rattle.cord_plan.specs.inner.Numbering.{Covers, names_of, number_of};
+ghost use Rattle.cord_plan.specs.inner.Numbering.{IsNumbering, names_of, number_of};
 ghost use Rattle.cord_plan.specs.inner.Ahead.{flow, later_in};
 ghost use Rattle.cord_plan.specs.inner.Liveness.{places, places_at, ArePaths, at, tells, tells_of};
 ghost use Rattle.cord_plan.specs.inner.Liveness.{IsFound, IsTold, AllTold};
@@ -14,7 +14,7 @@ ghost use Rattle.cord_plan.specs.inner.Liveness.{AreAssigned, ArePartly, AreLive
 ghost use Rattle.cord_plan.specs.inner.Choices.{simple_operands};
 
 use crate::flow::ahead::{LineLater, OPERANDS, has_operand, line_at, lines_later};
-use crate::flow::marks::{GROUP, has_bit, mark_assigned, mark_read};
+use crate::flow::marks::{GROUP, has_bit, mark_all, mark_target};
 use crate::flow::numbering::Numbering;
 use crate::flow::readings::{assigns, reads};
 use crate::flow::successors::{Successors, has_blocks, successors_of};
@@ -88,6 +88,7 @@ fn flowed(word: u128, successors: u128, assigned: u128) -> u128
 impl Flow<'_> {
     // For each line the word of the names that it reads, and that of the name that it assigns.
     fn words(&self, alloc: Global) -> Result<(Vec<u128>, Vec<u128>), AllocError>
+        requires { IsNumbering self.now.statements.now self.now.numbering.now }
         ensures read { IfOk result (λ w. ArePartly self.now.statements.now self.now.numbering.now self.now.group
             w.0.items) }
         ensures assigned { IfOk result (λ w. AreAssigned self.now.statements.now self.now.numbering.now self.now.group
@@ -95,9 +96,10 @@ impl Flow<'_> {
     {
         let mut read = Vec::with_capacity(alloc, self.statements.len())?;
         let mut assigned = Vec::with_capacity(alloc, self.statements.len())?;
-        for statement in self.statements {
-            read.push_reserved(mark_read(self.numbering, self.group, statement));
-            assigned.push_reserved(mark_assigned(self.numbering, self.group, statement));
+        for place in 0..self.statements.len() {
+            let numbers = self.numbering.line(place);
+            read.push_reserved(mark_all(self.group, numbers.read));
+            assigned.push_reserved(mark_target(self.group, numbers.target));
         }
         Ok((read, assigned))
     }
@@ -154,7 +156,8 @@ impl Flow<'_> {
 
     // For each place the names of the group that a path from there reads before a line assigns them.
     fn live_words(&self, alloc: Global) -> Result<Vec<u128>, AllocError>
-        requires { ArePaths (map shape_of self.now.statements.now) self.now.successors.now }
+        requires numbered { IsNumbering self.now.statements.now self.now.numbering.now }
+        requires paths { ArePaths (map shape_of self.now.statements.now) self.now.successors.now }
         ensures { IfOk result (λ v. AreLive self.now.statements.now self.now.numbering.now self.now.group v.items) }
     {
         let (mut words, assigned) = self.words(alloc)?;
@@ -170,7 +173,8 @@ fn groups_of(
     successors: &[Successors],
     numbering: &Numbering,
 ) -> Result<Vec<Group>, AllocError>
-    requires { ArePaths (map shape_of statements.now) successors.now }
+    requires numbered { IsNumbering statements.now numbering.now }
+    requires paths { ArePaths (map shape_of statements.now) successors.now }
     ensures { IfOk result (λ v. AllLive statements.now numbering.now v.items) }
 {
     let mut groups = Vec::new(alloc);
@@ -248,7 +252,7 @@ impl Found {
         statements: &[Statement],
         numbering: &Numbering,
     ) -> Result<Self, AllocError>
-        requires { Covers statements.now numbering.now }
+        requires { IsNumbering statements.now numbering.now }
         ensures { IfOk result (λ found. IsFound statements.now numbering.now found) }
     {
         if !has_blocks(statements) {
@@ -265,6 +269,7 @@ impl<'a> Later<'a> {
     pub(crate) fn of(alloc: Global, statements: &'a [Statement]) -> Result<Self, AllocError>
         ensures later { IfOk result (λ t. IsLater statements.now (tells t)) }
         ensures told { IfOk result (λ t. AllTold statements.now t) }
+        ensures numbered { IfOk result (λ t. IsNumbering statements.now t.numbering) }
     {
         let numbering = Numbering::of(alloc, statements)?;
         let found = Found::of(alloc, statements, &numbering)?;

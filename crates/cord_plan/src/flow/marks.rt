@@ -1,14 +1,11 @@
 // Sets of names by words: bit i of a word of a group stands for the name whose number is 128 times the group and i.
-ghost use Rattle.std.specs.Prelude.{◌≡◌, ◌<◌, ℕ, List, Some};
+ghost use Rattle.std.specs.Prelude.{◌≡◌, ◌<◌, ℕ, List, Option, Some};
 ghost use Rattle.cord_plan.specs.inner.Marks.{bit, Marks};
-ghost use Rattle.cord_plan.specs.Operands.{reads, assigns};
+ghost use Rattle.cord_plan.specs.inner.Places.{AreNumbers};
+ghost use Rattle.cord_plan.specs.Operands.{has, is_name};
 ghost use Rattle.std.specs.Str.{bytes_eq};
 ghost use Rattle.cord_plan.specs.declared.flow.numbering.Numbering.{Numbering};
-ghost use Rattle.cord_plan.specs.inner.Numbering.{number_of};
-
-use crate::flow::numbering::Numbering;
-use crate::flow::readings::first_read;
-use cord_script::{Name, Statement};
+ghost use Rattle.cord_plan.specs.inner.Numbering.{names_of, number_in, number_of};
 
 /// How many names a word stands for.
 pub(crate) const GROUP: usize = 128;
@@ -32,35 +29,25 @@ pub(crate) fn mark_number(group: usize, number: usize) -> u128
     }
 }
 
-// The word of a name alone.
-fn mark(numbering: &Numbering, group: usize, name: &Name) -> u128
-    ensures { Marks numbering.now group (λ x. bytes_eq x name.now) result }
-{
-    match numbering.number_of(name) {
-        Some(number) => mark_number(group, number),
-        None => 0,
-    }
-}
-
-/// The word of the names whose bytes a line reads.
-pub(crate) fn mark_read(numbering: &Numbering, group: usize, statement: &Statement) -> u128
-    ensures { Marks numbering.now group (λ x. reads statement.now x) result }
+/// The word of the names of these numbers.
+pub(crate) fn mark_all(group: usize, numbers: &[usize]) -> u128
+    ensures { (t : Numbering) (xs : List (List ℕ)) → AreNumbers (names_of t) xs numbers.now →
+        Marks t group (λ x. has xs x) result }
 {
     let mut word = 0;
-    let mut left = statement.reading();
-    'names: while let Some((name, rest)) = first_read(left) {
-        word |= mark(numbering, group, name);
-        left = rest;
+    for number in numbers {
+        word |= mark_number(group, *number);
     }
     word
 }
 
-/// The word of the name that a line assigns.
-pub(crate) fn mark_assigned(numbering: &Numbering, group: usize, statement: &Statement) -> u128
-    ensures { Marks numbering.now group (λ x. assigns statement.now x) result }
+/// The word of the name of a number, where there is one.
+pub(crate) fn mark_target(group: usize, number: Option<usize>) -> u128
+    ensures { (t : Numbering) (o : Option (List ℕ)) → number ≡ number_in t o →
+        Marks t group (λ x. is_name o x) result }
 {
-    match statement.target() {
+    match number {
+        Some(number) => mark_number(group, number),
         None => 0,
-        Some(target) => mark(numbering, group, target),
     }
 }

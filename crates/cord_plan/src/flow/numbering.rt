@@ -1,105 +1,180 @@
-// Names with numbers.
-ghost use Rattle.std.specs.Prelude.{◌≡◌, [], ◌∷◌, false, All, IfOk, OnOk, length};
+// Names with numbers, and the numbers of the names of each line.
+ghost use Rattle.std.specs.Prelude.{◌≡◌, [], ◌∷◌, false, All, IfOk, OnOk, length, slice_get};
 ghost use Rattle.std.specs.List.{IsDistinct};
 ghost use Rattle.std.specs.Str.{bytes_eq};
 ghost use Rattle.std.proofs.Props.{props};
 ghost use Rattle.cord_syntax.specs.Readings.{read_names};
-ghost use Rattle.cord_plan.specs.Operands.{cord_arguments, read_by, target_of};
-ghost use Rattle.cord_plan.specs.inner.Places.{Adds, CoversTo, place_in, place_of};
+ghost use Rattle.cord_syntax.specs.declared.statements.Statement.{Statement};
+ghost use Rattle.cord_plan.specs.Operands.{cord_arguments};
+ghost use Rattle.cord_plan.specs.inner.Places.{Adds, AddsLine, AreLines, HasNumbers, IsLineIn, Takes, place_of};
 
 use cord_script::{Argument, Name, Statement};
 use cord_syntax::{Operands, Reading};
 use std::alloc::{AllocError, Global};
 
-/// The names of a script, each with a number: its place in the list.
+/// The names of a script, each with a number: its place in the list; and the numbers of the names of each line.
 #[derive(Drop)]
 pub(crate) struct Numbering {
     names: Vec<Name>,
+    read: Vec<usize>,
+    lines: Vec<NumberedLine>,
     ghost distinct: { IsDistinct bytes_eq names.items } by { Prim.hlevel props },
 }
 
-// Takes in a name where it isn't there.
+/// The number of the name that a line assigns, and where in the list of all the numbers of those stand that it reads.
+#[derive(Clone, Copy)]
+struct NumberedLine {
+    target: Option<usize>,
+    start: usize,
+    end: usize,
+}
+
+/// The number of the name that a line assigns, and those of the names that it reads, in their order.
+#[derive(Clone, Copy)]
+pub(crate) struct LineNumbers<'a> {
+    pub(crate) target: Option<usize>,
+    pub(crate) read: &'a [usize],
+}
+
+/// The number at an index, where there is one.
 #[inline(always)]
-fn add(names: &mut Vec<Name>, name: &Name) -> Result<(), AllocError>
-    ensures { OnOk result (Adds (name.now ∷ []) names.old.items names.new.items) }
+pub(crate) fn number_at(numbers: &[usize], index: usize) -> Option<usize>
+    ensures { result ≡ slice_get numbers.now index }
+{
+    match numbers.get(index) {
+        None => None,
+        Some(number) => Some(*number),
+    }
+}
+
+// The number of a name, which is taken in where it isn't there.
+#[inline(always)]
+fn number(names: &mut Vec<Name>, name: &Name) -> Result<usize, AllocError>
+    ensures { IfOk result (λ n. Takes name.now n names.old.items names.new.items) }
 {
     match name.place_in(names) {
-        Some(_) => Ok(()),
-        None => add_new(names, name),
+        Some(place) => Ok(place),
+        None => number_new(names, name),
     }
 }
 
-// Takes in a name that isn't there.
+// The number of a name that isn't there, and is taken in.
 #[cold]
 #[inline(never)]
-fn add_new(names: &mut Vec<Name>, name: &Name) -> Result<(), AllocError>
+fn number_new(names: &mut Vec<Name>, name: &Name) -> Result<usize, AllocError>
     requires { All (λ other. bytes_eq name.now other ≡ false) names.old.items }
-    ensures { OnOk result (Adds (name.now ∷ []) names.old.items names.new.items) }
+    ensures { IfOk result (λ n. Takes name.now n names.old.items names.new.items) }
 {
+    let number = names.len();
     names.push(name.clone()?)?;
+    Ok(number)
+}
+
+// Notes the number of a name.
+#[inline(always)]
+fn add(names: &mut Vec<Name>, read: &mut Vec<usize>, name: &Name) -> Result<(), AllocError>
+    ensures { OnOk result (Adds (name.now ∷ []) names.old.items names.new.items read.old.items read.new.items) }
+{
+    let number = number(names, name)?;
+    read.push(number)?;
     Ok(())
 }
 
-// Takes in these names.
-fn add_all(names: &mut Vec<Name>, others: &[Name]) -> Result<(), AllocError>
-    ensures { OnOk result (Adds others.now names.old.items names.new.items) }
+// Notes the numbers of two names.
+fn add_two(
+    names: &mut Vec<Name>,
+    read: &mut Vec<usize>,
+    left: &Name,
+    right: &Name,
+) -> Result<(), AllocError>
+    ensures { OnOk result (Adds (left.now ∷ right.now ∷ []) names.old.items names.new.items
+        read.old.items read.new.items) }
+{
+    add(names, read, left)?;
+    add(names, read, right)
+}
+
+// Notes the numbers of these names.
+fn add_all(names: &mut Vec<Name>, read: &mut Vec<usize>, others: &[Name]) -> Result<(), AllocError>
+    ensures { OnOk result (Adds others.now names.old.items names.new.items read.old.items read.new.items) }
 {
     for name in others {
-        add(names, name)?;
+        add(names, read, name)?;
     }
     Ok(())
 }
 
-// Takes in the cords among the arguments of a format.
-fn add_arguments(names: &mut Vec<Name>, arguments: &[Argument]) -> Result<(), AllocError>
-    ensures { OnOk result (Adds (cord_arguments arguments.now) names.old.items names.new.items) }
+// Notes the numbers of the cords among the arguments of a format.
+fn add_arguments(
+    names: &mut Vec<Name>,
+    read: &mut Vec<usize>,
+    arguments: &[Argument],
+) -> Result<(), AllocError>
+    ensures { OnOk result (Adds (cord_arguments arguments.now) names.old.items names.new.items
+        read.old.items read.new.items) }
 {
     for argument in arguments {
         match argument {
             Argument::Number(_) => {}
-            Argument::Cord(name) => add(names, name)?,
+            Argument::Cord(name) => add(names, read, name)?,
         }
     }
     Ok(())
 }
 
-// Takes in the names that a line reads.
-fn add_reading(names: &mut Vec<Name>, reading: Reading) -> Result<(), AllocError>
-    ensures { OnOk result (Adds (read_names reading.entry) names.old.items names.new.items) }
+// Notes the numbers of the names that a line reads.
+fn add_reading(
+    names: &mut Vec<Name>,
+    read: &mut Vec<usize>,
+    reading: Reading,
+) -> Result<(), AllocError>
+    ensures { OnOk result (Adds (read_names reading.entry) names.old.items names.new.items
+        read.old.items read.new.items) }
 {
     match reading {
         Reading::Operands(Operands::Nothing) => Ok(()),
-        Reading::Operands(Operands::One(operand)) => add(names, operand),
-        Reading::Operands(Operands::Two(left, right)) => {
-            add(names, left)?;
-            add(names, right)
-        }
-        Reading::Operands(Operands::Listed(operands)) => add_all(names, operands),
-        Reading::Printed(arguments) => add_arguments(names, arguments),
+        Reading::Operands(Operands::One(operand)) => add(names, read, operand),
+        Reading::Operands(Operands::Two(left, right)) => add_two(names, read, left, right),
+        Reading::Operands(Operands::Listed(operands)) => add_all(names, read, operands),
+        Reading::Printed(arguments) => add_arguments(names, read, arguments),
     }
 }
 
-// Takes in the names that a line reads, and the one that it assigns.
-fn add_line(names: &mut Vec<Name>, statement: &Statement) -> Result<(), AllocError>
-    ensures { OnOk result (Adds (read_by statement.now) names.old.items names.new.items) }
+// Notes the numbers of the names that a line reads, and answers them with that of the name that it assigns.
+fn add_line(
+    names: &mut Vec<Name>,
+    read: &mut Vec<usize>,
+    statement: &Statement,
+) -> Result<NumberedLine, AllocError>
+    ensures { IfOk result (AddsLine statement.now names.old.items names.new.items read.old.items read.new.items) }
 {
-    add_reading(names, statement.reading())?;
+    let start = read.len();
+    add_reading(names, read, statement.reading())?;
+    let end = read.len();
     match statement.target() {
-        None => Ok(()),
-        Some(target) => add(names, target),
+        None => Ok(NumberedLine {
+            target: None,
+            start,
+            end,
+        }),
+        Some(target) => {
+            let target = Some(number(names, target)?);
+            Ok(NumberedLine { target, start, end })
+        }
     }
 }
 
 impl Numbering {
     /// The names that the lines of a script read or assign, in the order in which they stand there first.
     pub(crate) fn of(alloc: Global, statements: &[Statement]) -> Result<Self, AllocError>
-        ensures { IfOk result (λ t. CoversTo statements.now (length statements.now) t.names.items) }
+        ensures { IfOk result (λ t. AreLines statements.now t.names.items t.read.items t.lines.items) }
     {
-        let mut names = Vec::new(alloc);
+        let (mut names, mut read) = (Vec::new(alloc), Vec::new(alloc));
+        let mut lines = Vec::with_capacity(alloc, statements.len())?;
         for statement in statements {
-            add_line(&mut names, statement)?;
+            lines.push(add_line(&mut names, &mut read, statement)?)?;
         }
-        Ok(Numbering { names })
+        Ok(Numbering { names, read, lines })
     }
 
     /// The names, by their numbers.
@@ -124,13 +199,17 @@ impl Numbering {
         name.place_in(&self.names)
     }
 
-    /// The number of the name that a line assigns.
-    pub(crate) fn target_of(&self, statement: &Statement) -> Option<usize>
-        ensures { result ≡ place_in self.now.names.items (target_of statement.now) }
+    /// The numbers of the names of the line at a place.
+    #[inline(always)]
+    pub(crate) fn line(&self, place: usize) -> LineNumbers<'_>
+        requires { (l : Statement) × IsLineIn self.now.names.items self.now.read.items self.now.lines.items l place }
+        ensures { (l : Statement) → IsLineIn self.now.names.items self.now.read.items self.now.lines.items l place →
+            HasNumbers self.now.names.items l result }
     {
-        match statement.target() {
-            None => None,
-            Some(target) => self.number_of(target),
+        let line = self.lines[place];
+        LineNumbers {
+            target: line.target,
+            read: &self.read[line.start..line.end],
         }
     }
 }

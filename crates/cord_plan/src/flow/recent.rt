@@ -1,20 +1,19 @@
 // The last lines so far that assign and read each name.
-ghost use Rattle.std.specs.Prelude.{◌≡◌, ◌+◌, ◌||◌, ℕ, List, Option, Some, IfOk, slice_get};
-ghost use Rattle.std.specs.Str.{bytes_eq};
+ghost use Rattle.std.specs.Prelude.{◌≡◌, ◌+◌, ℕ, List, Option, Some, IfOk, slice_get};
 ghost use Rattle.cord_syntax.specs.declared.statements.Statement.{Statement};
 ghost use Rattle.cord_meaning.specs.Statements.{shape_of};
 ghost use Rattle.cord_plan.specs.Forced.{is_block};
-ghost use Rattle.cord_plan.specs.Operands.{cord_arguments, has, is_name, reads, target_of};
+ghost use Rattle.cord_plan.specs.Operands.{has, is_name};
 ghost use Rattle.cord_plan.specs.declared.flow.numbering.Numbering.{Numbering};
-ghost use Rattle.cord_plan.specs.inner.Numbering.{number_in};
+ghost use Rattle.cord_plan.specs.inner.Numbering.{IsNumbered, names_of, number_in};
+ghost use Rattle.cord_plan.specs.inner.Places.{AreNumbers};
 ghost use Rattle.cord_plan.specs.inner.Recent.{IsRecent, Notes, Puts, entry_at, entry_of, is_before, is_after};
 ghost use Rattle.cord_plan.specs.inner.Recent.{noted, unless_after};
 
 use crate::flow::liveness::Later;
-use crate::flow::numbering::Numbering;
+use crate::flow::numbering::LineNumbers;
 use crate::flow::successors::is_block;
-use cord_script::{Argument, Name, Statement};
-use cord_syntax::{Operands, Reading};
+use cord_script::Statement;
 use std::alloc::{AllocError, Global};
 
 /// For each number of a name the last line so far that assigns the name, and the last one that reads its bytes; and the
@@ -90,70 +89,13 @@ pub(crate) fn put(places: &mut [Option<usize>], number: Option<usize>, entry: Op
     }
 }
 
-// Notes a place for a name.
-fn note(numbering: &Numbering, places: &mut [Option<usize>], name: &Name, place: usize)
-    ensures { Notes numbering.now (λ x. bytes_eq x name.now) place places.old places.new }
+/// Notes a place for the names of these numbers.
+pub(crate) fn note_all(places: &mut [Option<usize>], numbers: &[usize], place: usize)
+    ensures { (t : Numbering) (xs : List (List ℕ)) → AreNumbers (names_of t) xs numbers.now →
+        Notes t (λ x. has xs x) place places.old places.new }
 {
-    put(places, numbering.number_of(name), Some(place));
-}
-
-// Notes it for each of these names.
-fn note_all(numbering: &Numbering, places: &mut [Option<usize>], names: &[Name], place: usize)
-    ensures { Notes numbering.now (λ x. has names.now x) place places.old places.new }
-{
-    for name in names {
-        note(numbering, places, name, place);
-    }
-}
-
-// Notes it for each cord among the arguments of a format.
-fn note_arguments(
-    numbering: &Numbering,
-    places: &mut [Option<usize>],
-    arguments: &[Argument],
-    place: usize,
-)
-    ensures { Notes numbering.now (λ x. has (cord_arguments arguments.now) x) place places.old places.new }
-{
-    for argument in arguments {
-        match argument {
-            Argument::Number(_) => {}
-            Argument::Cord(name) => note(numbering, places, name, place),
-        }
-    }
-}
-
-// Notes it for two names.
-fn note_two(
-    numbering: &Numbering,
-    places: &mut [Option<usize>],
-    left: &Name,
-    right: &Name,
-    place: usize,
-)
-    ensures { Notes numbering.now (λ x. bytes_eq x left.now || bytes_eq x right.now) place places.old places.new }
-{
-    note(numbering, places, left, place);
-    note(numbering, places, right, place);
-}
-
-/// Notes it for the names that a line reads.
-pub(crate) fn note_read(
-    numbering: &Numbering,
-    places: &mut [Option<usize>],
-    statement: &Statement,
-    place: usize,
-)
-    ensures { Notes numbering.now (λ x. reads statement.now x) place places.old places.new }
-{
-    match statement.reading() {
-        Reading::Operands(Operands::Nothing) => {}
-        Reading::Operands(Operands::One(operand)) => note(numbering, places, operand, place),
-        Reading::Operands(Operands::Two(left, right)) => note_two(
-            numbering, places, left, right, place,
-        ),
-        Reading::Operands(Operands::Listed(parts)) => note_all(numbering, places, parts, place),
-        Reading::Printed(arguments) => note_arguments(numbering, places, arguments, place),
+    for number in numbers {
+        put(places, Some(*number), Some(place));
     }
 }
 
@@ -185,15 +127,15 @@ impl<'a> Recent<'a> {
         })
     }
 
-    /// Notes the next line, which assigns the name of this number.
-    pub(crate) fn note(&mut self, statement: &Statement, target: Option<usize>, place: usize)
-        requires { target ≡ number_in self.old.later.now.numbering (target_of statement.now) }
+    /// Notes the next line, whose names have these numbers.
+    pub(crate) fn note(&mut self, statement: &Statement, numbers: LineNumbers, place: usize)
+        requires { IsNumbered self.old.later.now.numbering statement.now numbers }
         ensures later { self.new.later.now ≡ self.old.later.now }
         ensures recent { (s : List Statement) → slice_get s place ≡ Some statement.now → IsRecent s place self.old →
             IsRecent s (place + 1) self.new }
     {
-        put(&mut self.assigned, target, Some(place));
-        note_read(&self.later.numbering, &mut self.read, statement, place);
+        put(&mut self.assigned, numbers.target, Some(place));
+        note_all(&mut self.read, numbers.read, place);
         self.block = block_after(self.block, statement, place);
     }
 }

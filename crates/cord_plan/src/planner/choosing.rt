@@ -12,13 +12,13 @@ ghost use Rattle.cord_plan.specs.inner.Choices.{choice_view, IsChoice, AreChoice
 ghost use Rattle.cord_syntax.specs.Readings.{operand_names};
 ghost use Rattle.cord_plan.specs.inner.Known.{IsFacts, IsKnown};
 ghost use Rattle.cord_plan.specs.inner.Liveness.{tells, IsTold};
-ghost use Rattle.cord_plan.specs.inner.Numbering.{number_of};
+ghost use Rattle.cord_plan.specs.inner.Numbering.{IsNumbered};
 ghost use Rattle.cord_plan.specs.inner.Recent.{IsRecent};
 ghost use Rattle.cord_plan.specs.inner.Steps.{is_cat, is_last, is_named, made_expression, operation_expression};
 ghost use Rattle.cord_plan.specs.Views.{expr_view, made_view, operation_view};
 ghost use Rattle.std.specs.Str.{bytes_eq};
 
-use crate::flow::{Recent, assigns};
+use crate::flow::{LineNumbers, Recent, assigns, number_at};
 use crate::planner::known::{Facts, Known};
 use crate::planner::parts::room_left;
 use crate::planner::staying::{nearest, stays};
@@ -34,7 +34,7 @@ pub(crate) enum Choice<'a> {
     Replaced(usize, &'a Expr),
 }
 
-/// A simple line of a script, with its place, its cord operands, the number of its target, and what the lines before it
+/// A simple line of a script, with its place, its cord operands, the numbers of its names, and what the lines before it
 /// assign and read.
 #[derive(Clone, Copy)]
 pub(crate) struct Line<'a> {
@@ -42,7 +42,7 @@ pub(crate) struct Line<'a> {
     pub(crate) place: usize,
     pub(crate) statement: &'a Statement,
     pub(crate) operands: Operands<'a>,
-    pub(crate) target: Option<usize>,
+    pub(crate) numbers: LineNumbers<'a>,
     pub(crate) recent: &'a Recent<'a>,
 }
 
@@ -211,17 +211,16 @@ fn stands(
     is_spare(line, operand, later) && stays(line, source, expression, facts)
 }
 
-/// What stands for the next operand of a line, which has this number, after those that were chosen for, where the lines
-/// before it have these operations.
+/// What stands for the next operand of a line, after those that were chosen for, where the lines before it have these
+/// operations.
 pub(crate) fn choose<'a>(
     line: &Line,
     known: &Known,
     operand: &'a Name,
-    number: Option<usize>,
     operations: &'a [Operation],
     chosen: &[Choice],
 ) -> Choice<'a>
-    requires number { number ≡ number_of line.now.recent.now.later.now.numbering operand.now }
+    requires numbers { IsNumbered line.now.recent.now.later.now.numbering line.now.statement.now line.now.numbers }
     requires known { IsKnown line.now.recent.now.later.now.numbering
         (map operation_expression (map operation_view operations.now)) known.now }
     requires place { line.now.place ≤ length line.now.statements.now }
@@ -235,6 +234,7 @@ pub(crate) fn choose<'a>(
         (map operation_expression (map operation_view operations.now))
         (map choice_view chosen.now) (choice_view result) }
 {
+    let number = number_at(line.numbers.read, chosen.len());
     match nearest(line, operand, number) {
         None => Choice::Named(operand),
         Some(source) => match expression_at(operations, source) {
@@ -303,6 +303,7 @@ pub(crate) fn choose_all<'a>(
     requires recent { IsRecent line.now.statements.now line.now.place line.now.recent.now }
     requires listed { operand_names line.now.operands ≡ operands.now }
     requires operands { simple_operands line.now.statement.now ≡ Some (operand_names line.now.operands) }
+    requires numbers { IsNumbered line.now.recent.now.later.now.numbering line.now.statement.now line.now.numbers }
     requires told { IsTold line.now.recent.now.later.now line.now.statement.now line.now.place }
     ensures { IfOk result (λ cs. AreChoices line.now.statements.now
         (tells line.now.recent.now.later.now) line.now.place line.now.statement.now
@@ -310,8 +311,7 @@ pub(crate) fn choose_all<'a>(
 {
     let mut chosen = Vec::with_capacity(alloc, operands.len())?;
     for operand in operands {
-        let number = line.recent.later.numbering.number_of(operand);
-        let choice = choose(line, known, operand, number, operations, &chosen);
+        let choice = choose(line, known, operand, operations, &chosen);
         chosen.push(choice)?;
     }
     Ok(chosen)

@@ -6,12 +6,13 @@ ghost use Rattle.cord_plan.specs.inner.Choices.{choice_view, simple_operands};
 ghost use Rattle.cord_syntax.specs.Readings.{operand_names};
 ghost use Rattle.cord_plan.specs.inner.Known.{IsKnown};
 ghost use Rattle.cord_plan.specs.inner.Liveness.{tells, IsTold};
+ghost use Rattle.cord_plan.specs.inner.Numbering.{IsNumbered};
 ghost use Rattle.cord_plan.specs.inner.Recent.{IsRecent};
 ghost use Rattle.cord_plan.specs.inner.Steps.{IsNext, IsStep, IsToldLonger, is_catc, is_last, is_named};
 ghost use Rattle.cord_plan.specs.inner.Steps.{operation_expression, sources_view};
 ghost use Rattle.cord_plan.specs.Views.{expr_view, operation_view};
 
-use crate::flow::{Recent, operands_of};
+use crate::flow::{LineNumbers, Recent, operands_of};
 use crate::planner::choosing::{Choice, Line, choose, choose_all, is_last, is_named};
 use crate::planner::interning::Interner;
 use crate::planner::joining::expression_with;
@@ -105,6 +106,7 @@ fn expression_over<'a>(
     requires place { line.now.place ≤ length line.now.statements.now }
     requires recent { IsRecent line.now.statements.now line.now.place line.now.recent.now }
     requires operands { simple_operands line.now.statement.now ≡ Some (operand_names line.now.operands) }
+    requires numbers { IsNumbered line.now.recent.now.later.now.numbering line.now.statement.now line.now.numbers }
     requires told { IsTold line.now.recent.now.later.now line.now.statement.now line.now.place }
     requires long { length operations.now ≡ line.now.place }
     requires known { IsKnown line.now.recent.now.later.now.numbering
@@ -120,21 +122,19 @@ fn expression_over<'a>(
         known.new) }
     ensures refused { IsOkUnless result CordError.NoMemory }
 {
-    let (statement, numbering) = (line.statement, &line.recent.later.numbering);
+    let statement = line.statement;
     match line.operands {
         Operands::Nothing => taking(alloc, interner, statement, &[], Sources::Nothing, false),
         Operands::One(operand) => {
-            let number = numbering.number_of(operand);
-            let choice = choose(line, known, operand, number, operations, &[]);
-            known.note_one(line, &choice, number);
+            let choice = choose(line, known, operand, operations, &[]);
+            known.note_one(line, &choice);
             let (sources, extends) = (Sources::One(source_of(&choice)), adds_byte(line, &choice));
             taking(alloc, interner, statement, &[choice], sources, extends)
         }
         Operands::Two(left, right) => {
-            let (one, two) = (numbering.number_of(left), numbering.number_of(right));
-            let first = choose(line, known, left, one, operations, &[]);
-            let second = choose(line, known, right, two, operations, &[first]);
-            known.note_two(line, &first, one, &second, two);
+            let first = choose(line, known, left, operations, &[]);
+            let second = choose(line, known, right, operations, &[first]);
+            known.note_two(line, &first, &second);
             let sources = Sources::Two(source_of(&first), source_of(&second));
             let extends = adds_name(line, &first, &second);
             taking(
@@ -162,13 +162,14 @@ pub(crate) fn next_expression(
     statements: &[Statement],
     place: usize,
     statement: &Statement,
-    target: Option<usize>,
+    numbers: LineNumbers,
     recent: &Recent,
     known: &mut Known,
     operations: &mut [Operation],
 ) -> Result<NextExpression, CordError>
     requires place { place ≤ length statements.now }
     requires recent { IsRecent statements.now place recent.now }
+    requires numbers { IsNumbered recent.now.later.now.numbering statement.now numbers }
     requires told { IsTold recent.now.later.now statement.now place }
     requires long { length operations.old ≡ place }
     requires known { IsKnown recent.now.later.now.numbering
@@ -193,7 +194,7 @@ pub(crate) fn next_expression(
         place,
         statement,
         operands,
-        target,
+        numbers,
         recent,
     };
     let LineExpression {

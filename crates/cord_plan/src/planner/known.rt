@@ -8,10 +8,10 @@ ghost use Rattle.cord_plan.specs.Forced.{expr_of, expr_with};
 ghost use Rattle.cord_plan.specs.declared.flow.numbering.Numbering.{Numbering};
 ghost use Rattle.cord_plan.specs.inner.Choices.{choice_view, expression_in, room_left, simple_operands};
 ghost use Rattle.cord_plan.specs.inner.Known.{HasFacts, IsFacts, IsFrom, IsKnown};
-ghost use Rattle.cord_plan.specs.inner.Numbering.{number_of};
+ghost use Rattle.cord_plan.specs.inner.Numbering.{IsNumbered, number_of};
 ghost use Rattle.cord_plan.specs.Exprs.{lacks};
 
-use crate::flow::{GROUP, has_bit, mark_number};
+use crate::flow::{GROUP, has_bit, mark_number, number_at};
 use crate::planner::choosing::{Choice, Line};
 use cord_script::{Number, Statement};
 use std::alloc::{AllocError, Global};
@@ -183,34 +183,33 @@ impl Known {
         }
     }
 
-    /// Notes the expression of a line, where this stands for its operand, whose name has this number.
-    pub(crate) fn note_one(&mut self, line: &Line, choice: &Choice, number: Option<usize>)
+    /// Notes the expression of a line, where this stands for its operand.
+    pub(crate) fn note_one(&mut self, line: &Line, choice: &Choice)
         ensures { (t : Numbering) (table : List (Option plain.Expr)) (x : List ℕ) → IsKnown t table self.old →
-            length table ≡ line.now.place → number ≡ number_of t x →
+            length table ≡ line.now.place → simple_operands line.now.statement.now ≡ Some (x ∷ []) →
+            IsNumbered t line.now.statement.now line.now.numbers →
             IsFrom table x (choice_view choice.now) → IsKnown t (table ++ expr_with line.now.statement.now
             (expr_of (choice_view choice.now) ∷ []) ∷ []) self.new }
     {
+        let number = number_at(line.numbers.read, 0);
         let facts = self.of_one(line.statement, choice, number);
-        self.note(line.target, line.place, facts);
+        self.note(line.numbers.target, line.place, facts);
     }
 
-    /// Notes the expression of a line, where these stand for its two operands, whose names have these numbers.
-    pub(crate) fn note_two(
-        &mut self,
-        line: &Line,
-        left: &Choice,
-        first: Option<usize>,
-        right: &Choice,
-        second: Option<usize>,
-    )
+    /// Notes the expression of a line, where these stand for its two operands.
+    pub(crate) fn note_two(&mut self, line: &Line, left: &Choice, right: &Choice)
         ensures { (t : Numbering) (table : List (Option plain.Expr)) (x y : List ℕ) → IsKnown t table self.old →
             length table ≡ line.now.place → simple_operands line.now.statement.now ≡ Some (x ∷ y ∷ []) →
-            first ≡ number_of t x → IsFrom table x (choice_view left.now) →
-            second ≡ number_of t y → IsFrom table y (choice_view right.now) →
+            IsNumbered t line.now.statement.now line.now.numbers →
+            IsFrom table x (choice_view left.now) → IsFrom table y (choice_view right.now) →
             IsKnown t (table ++ expr_with line.now.statement.now
             (expr_of (choice_view left.now) ∷ expr_of (choice_view right.now) ∷ []) ∷ []) self.new }
     {
+        let (first, second) = (
+            number_at(line.numbers.read, 0),
+            number_at(line.numbers.read, 1),
+        );
         let facts = self.of_two(left, first, right, second);
-        self.note(line.target, line.place, facts);
+        self.note(line.numbers.target, line.place, facts);
     }
 }

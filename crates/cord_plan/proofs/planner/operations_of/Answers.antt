@@ -4,7 +4,7 @@ use Rattle.std.proofs.lemmas.Option.{slice_get_read}
 use Rattle.std.proofs.lemmas.List.{length-map, map-append}
 use Rattle.cord_plan.specs.inner.Known.{IsKnown}
 use Rattle.cord_plan.specs.inner.Liveness.{tells, IsTold}
-use Rattle.cord_plan.specs.inner.Numbering.{number_in}
+use Rattle.cord_plan.specs.inner.Numbering.{IsNumbered}
 use Rattle.cord_plan.specs.inner.Steps.{IsStep, IsToldLonger, operation_expression}
 use Rattle.cord_plan.specs.Operands.{target_of}
 use Rattle.cord_plan.specs.Planned as plan
@@ -104,10 +104,40 @@ pub returns-clause-made : goal.returns-clause-made
 returns-clause-made c = all_begun c.args.statements.now (tells c.args.later.now) c.loop-place.place
     (map operation_view c.loop-place.operations.items) c.loop-place-test.false c.loop-place.invariant.begun
 
+pub line-numbers-requires : goal.line-numbers-requires
+line-numbers-requires c =
+    let s = c.args.statements.now in
+    let p = c.loop-place.place in
+    let l = c.index-statements-place.result in
+    (l, c.requires.numbered p l (slice_get_read s (length s) p l refl c.loop-place-test.true c.index-statements-place.is))
+
 pub note-requires : goal.note-requires
 note-requires c =
+    let s = c.args.statements.now in
+    let p = c.loop-place.place in
     let l = c.index-statements-place.result in
-    c.target_of-target.ensures ∙ ap (λ (later : Later). number_in later.numbering (target_of l)) (sym c.loop-place.invariant.later)
+    subst (λ (later : Later). IsNumbered later.numbering l c.line-numbers.result) (sym c.loop-place.invariant.later)
+    (c.line-numbers.ensures l (c.requires.numbered p l
+    (slice_get_read s (length s) p l refl c.loop-place-test.true c.index-statements-place.is)))
+
+pub next_expression-requires-clause-numbers : goal.next_expression-requires-clause-numbers
+next_expression-requires-clause-numbers c =
+    let s = c.args.statements.now in
+    let p = c.loop-place.place in
+    let l = c.index-statements-place.result in
+    subst (λ (later : Later). IsNumbered later.numbering l c.line-numbers.result) (sym c.loop-place.invariant.later)
+    (c.line-numbers.ensures l (c.requires.numbered p l
+    (slice_get_read s (length s) p l refl c.loop-place-test.true c.index-statements-place.is)))
+
+pub is_dead-dead-requires-clause-number : goal.is_dead-dead-requires-clause-number
+is_dead-dead-requires-clause-number c =
+    let s = c.args.statements.now in
+    let p = c.loop-place.place in
+    let l = c.index-statements-place.result in
+    let numbered : IsNumbered c.args.later.now.numbering l c.line-numbers.result =
+    c.line-numbers.ensures l (c.requires.numbered p l
+    (slice_get_read s (length s) p l refl c.loop-place-test.true c.index-statements-place.is)) in
+    numbered.target
 
 pub next_expression-requires-clause-long : goal.next_expression-requires-clause-long
 next_expression-requires-clause-long c =
@@ -124,7 +154,7 @@ pub is_dead-dead-requires-clause-told : goal.is_dead-dead-requires-clause-told
 is_dead-dead-requires-clause-told c =
     let s = c.args.statements.now in
     let l = c.index-statements-place.result in
-    c.requires c.loop-place.place l
+    c.requires.told c.loop-place.place l
     (slice_get_read s (length s) c.loop-place.place l refl c.loop-place-test.true c.index-statements-place.is)
 
 pub next_expression-requires-clause-told : goal.next_expression-requires-clause-told
@@ -133,4 +163,4 @@ next_expression-requires-clause-told c =
     let p = c.loop-place.place in
     let l = c.index-statements-place.result in
     subst (λ (later : Later). IsTold later l p) (sym c.loop-place.invariant.later)
-    (c.requires p l (slice_get_read s (length s) p l refl c.loop-place-test.true c.index-statements-place.is))
+    (c.requires.told p l (slice_get_read s (length s) p l refl c.loop-place-test.true c.index-statements-place.is))

@@ -1,6 +1,6 @@
-use Rattle.cord_plan.proofs.Numbers.{name_known}
+use Rattle.cord_plan.proofs.Numbers.{one_added}
 use Rattle.cord_plan.proofs.flow.numbering.add.Goals as goal
 
-pub returns-in-Some : goal.returns-in-Some
-returns-in-Some c = name_known c.args.name.now c.args.names.now.items c.in-Some.field-0
-    (rw c.deref.ensures.value at c.in-Some.ensures.some)
+pub returns : goal.returns
+returns c = one_added c.args.name.now c.in_ok-number.number c.args.names.now.items c.number.new.names.items
+    c.args.read.now.items c.push.new.self.items c.in_ok-number.ensures c.in_ok-push.ensures.items

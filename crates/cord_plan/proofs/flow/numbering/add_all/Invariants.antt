@@ -3,4 +3,4 @@ use Rattle.cord_plan.specs.inner.Places.{Adds}
 use Rattle.cord_plan.proofs.flow.numbering.add_all.Given as goal
 
 abbrev pub invariant-loop-name : goal.invariant-loop-name
-invariant-loop-name l = Adds (take l.name-index l.others) l.initial.names.items l.names.items
+invariant-loop-name l = Adds (take l.name-index l.others) l.initial.names.items l.names.items l.initial.read.items l.read.items

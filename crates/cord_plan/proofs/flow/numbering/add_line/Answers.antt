@@ -1,21 +1,27 @@
-use Rattle.std.proofs.Common.{◌≡◌, List, ℕ, [], ◌∷◌, subst}
-use Rattle.std.proofs.lemmas.Result.{on_ok_weaker}
+use Rattle.std.proofs.Common.{◌≡◌, List, ℕ, Some, Option, ap, ◌∙◌, subst}
+use Rattle.std.specs.Option.{option_map}
 use Rattle.cord_plan.specs.Operands.{read_by}
 use Rattle.cord_plan.specs.inner.Places.{Adds}
 use Rattle.cord_syntax.specs.Readings.{read_names}
-use Rattle.cord_plan.proofs.Numbers.{then_added}
+use Rattle.cord_plan.proofs.Numbers.{line_added, same_names}
 use Rattle.cord_plan.proofs.flow.numbering.add_line.Goals as goal
 
 pub returns-in-None : goal.returns-in-None
 returns-in-None c =
     let read : read_names c.reading.result ≡ read_by c.args.statement.now = c.reading.ensures in
-    subst (λ (xs : List (List ℕ)). Adds xs c.args.names.now.items c.add_reading.new.names.items) read c.in_ok-add_reading.ensures
+    let names = c.add_reading.new.names.items in
+    line_added c.args.statement.now c.args.names.now.items names names c.args.read.now.items c.add_reading.new.read.items _
+    (subst (λ (xs : List (List ℕ)). Adds xs c.args.names.now.items names c.args.read.now.items c.add_reading.new.read.items) read
+    c.in_ok-add_reading.ensures)
+    (same_names names) (ap (option_map Some) c.in-None.ensures) (c.len-start.ensures ∙ c.args.read.now.ok.0) (c.len-end.ensures ∙ c.add_reading.new.read.ok.0)
 
-pub returns-in-Some : goal.returns-in-Some
-returns-in-Some c =
+pub returns-in_ok-number-in-Some : goal.returns-in_ok-number-in-Some
+returns-in_ok-number-in-Some c =
     let read : read_names c.reading.result ≡ read_by c.args.statement.now = c.reading.ensures in
-    on_ok_weaker c.add.result
-    (λ more. subst (λ (xs : List (List ℕ)). Adds xs c.args.names.now.items c.add.new.names.items) read
-    (then_added (read_names c.reading.result) (c.in-Some.target.now ∷ []) c.args.names.now.items c.add_reading.new.names.items
-    c.add.new.names.items c.in_ok-add_reading.ensures more))
-    c.add.ensures
+    line_added c.args.statement.now c.args.names.now.items c.add_reading.new.names.items c.number.new.names.items
+    c.args.read.now.items c.add_reading.new.read.items _
+    (subst (λ (xs : List (List ℕ)). Adds xs c.args.names.now.items c.add_reading.new.names.items c.args.read.now.items
+    c.add_reading.new.read.items) read c.in_ok-add_reading.ensures)
+    c.in_ok-number-in-Some.ensures.grows
+    (ap (λ (o : Option (List ℕ)). Some o) c.in_ok-number-in-Some.ensures.is ∙ ap (option_map Some) c.in-Some.ensures)
+    (c.len-start.ensures ∙ c.args.read.now.ok.0) (c.len-end.ensures ∙ c.add_reading.new.read.ok.0)

@@ -1,7 +1,11 @@
-use Rattle.std.proofs.Common.{take}
+use Rattle.std.proofs.Common.{List, ℕ, take}
 use Rattle.cord_plan.specs.Operands.{has}
+use Rattle.cord_plan.specs.inner.Numbering.{names_of}
+use Rattle.cord_plan.specs.inner.Places.{AreNumbers}
 use Rattle.cord_plan.specs.inner.Recent.{Notes}
+use Rattle.cord_plan.specs.declared.flow.numbering.Numbering.{Numbering}
 use Rattle.cord_plan.proofs.flow.recent.note_all.Given as goal
 
-abbrev pub invariant-loop-name : goal.invariant-loop-name
-invariant-loop-name l = Notes l.numbering (λ x. has (take l.name-index l.names) x) l.place l.initial.places l.places
+abbrev pub invariant-loop-number : goal.invariant-loop-number
+invariant-loop-number l = (t : Numbering) (xs : List (List ℕ)) → AreNumbers (names_of t) xs l.numbers →
+    Notes t (λ x. has (take l.number-index xs) x) l.place l.initial.places l.places

@@ -7,6 +7,7 @@ use Rattle.cord_plan.specs.Views.{expr_view, operation_view}
 use Rattle.cord_plan.specs.inner.Choices.{choice_view, nearest, stands, expression_in}
 use Rattle.cord_syntax.specs.Readings.{operand_names}
 use Rattle.cord_plan.proofs.Choices.{simple_reads}
+use Rattle.cord_plan.proofs.Numbers.{operand_number}
 use Rattle.cord_plan.proofs.Nearest.{kept_far, kept_bare, by_tests, first_in}
 use Rattle.cord_plan.proofs.planner.choosing.choose.Goals as goal
 use Rattle.cord_plan.proofs.planner.choosing.choose.Goals.{else-stands-via-then-stands+else-stays_small, else-stands-via-else-stands}
@@ -90,3 +91,17 @@ returns-else-stands c =
     (operand_names line.operands) (simple_reads line.statement.now (operand_names line.operands) c.requires.operands)
     c.in-Some.source r near
     (sym (first_in (map operation_expression (map operation_view c.args.operations.now)) t c.in-Some.source has) ∙ sym there) false refused
+
+pub nearest-requires-clause-number : goal.nearest-requires-clause-number
+nearest-requires-clause-number c =
+    let line = c.args.line.now in
+    c.number_at-number.ensures
+    ∙ operand_number line.recent.now.later.now.numbering line.statement.now line.numbers (operand_names line.operands)
+    (length c.args.chosen.now) c.args.operand.now c.requires.numbers c.requires.operands c.requires.operand
+
+pub is_operand_later-later-requires-clause-number : goal.is_operand_later-later-requires-clause-number
+is_operand_later-later-requires-clause-number c =
+    let line = c.args.line.now in
+    c.number_at-number.ensures
+    ∙ operand_number line.recent.now.later.now.numbering line.statement.now line.numbers (operand_names line.operands)
+    (length c.args.chosen.now) c.args.operand.now c.requires.numbers c.requires.operands c.requires.operand

@@ -37,11 +37,13 @@ returns-in-One-clause-known c =
     let t = line.recent.now.later.now.numbering in
     let table = map operation_expression (map operation_view c.args.operations.now) in
     let x = c.in-One.operand.now in
+    let listed : operand_names line.operands ≡ x ∷ [] = ap operand_names c.in-One.is in
+    let simple : simple_operands line.statement.now ≡ Some (x ∷ []) = c.requires.operands ∙ ap Some listed in
     let from : IsFrom table x (choice_view c.choose-choice.result) = choice_from line.statements.now (tells line.recent.now.later.now) table
     line.place line.statement.now x (operand_names line.operands) [] (choice_view c.choose-choice.result) c.choose-choice.ensures in
     made_with c.taking-in-One.result _ (λ o. IsKnown t (table ++ o ∷ []) c.note_one.new.self)
     (c.note_one.ensures t table x c.requires.known (table_size c.args.operations.now line.place c.requires.long)
-    c.number_of-number.ensures from) c.taking-in-One.ensures.made
+    simple c.requires.numbers from) c.taking-in-One.ensures.made
 
 pub returns-in-Two-clause-known : goal.returns-in-Two-clause-known
 returns-in-Two-clause-known c =
@@ -59,7 +61,7 @@ returns-in-Two-clause-known c =
     (choice_view c.choose-first.result ∷ []) (choice_view c.choose-second.result) c.choose-second.ensures in
     made_with c.taking-in-Two.result _ (λ o. IsKnown t (table ++ o ∷ []) c.note_two.new.self)
     (c.note_two.ensures t table x y c.requires.known (table_size c.args.operations.now line.place c.requires.long) simple
-    c.number_of-one.ensures left c.number_of-two.ensures right) c.taking-in-Two.ensures.made
+    c.requires.numbers left right) c.taking-in-Two.ensures.made
 
 pub returns-in_ok-sources_of-in-Listed-clause-known : goal.returns-in_ok-sources_of-in-Listed-clause-known
 returns-in_ok-sources_of-in-Listed-clause-known c =

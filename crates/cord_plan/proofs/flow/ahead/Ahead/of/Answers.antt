@@ -4,8 +4,8 @@ use Rattle.cord_plan.specs.inner.Ahead.{AreAhead}
 use Rattle.cord_plan.proofs.Ahead.{none_ahead}
 use Rattle.cord_plan.proofs.flow.ahead.Ahead.of.Goals as goal
 
-pub returns-clause-ahead : goal.returns-clause-ahead
-returns-clause-ahead c =
+pub returns : goal.returns
+returns c =
     let none : c.in_ok-read.read.items ≡ replicate c.count-count.result None =
     c.in_ok-read.ensures.items_if_clones_equal (λ x h. search rules) in
     subst (λ (places : List (Option ℕ)). AreAhead [] c.args.numbering.now places)

@@ -1,60 +1,73 @@
-use Rattle.std.proofs.Common.{◌≤◌, Bool, List, length, map, ap, ◌∙◌, arith}
+use Rattle.std.proofs.Common.{◌≡◌, ◌≤◌, Bool, List, length, map, get_or, sym, ap, ◌∙◌, arith}
 use Rattle.std.proofs.lemmas.List.{take_all}
+use Rattle.std.proofs.lemmas.Option.{get_or_from_slice_get}
 use Rattle.cord_syntax.specs.declared.statements.Statement.{Statement}
-use Rattle.cord_plan.specs.Operands.{assigns, reads}
+use Rattle.cord_plan.specs.Operands.{assigns, read_by, reads, target_of}
 use Rattle.cord_plan.specs.inner.Liveness.{at}
 use Rattle.cord_plan.specs.inner.Marks.{column}
+use Rattle.cord_plan.specs.inner.Numbering.{IsNumbered}
+use Rattle.cord_plan.proofs.Numbers.{line_there}
 use Rattle.cord_plan.proofs.Words.{told_more, size_more}
 use Rattle.cord_plan.proofs.Sweeps.{assigned_at, readers_partly}
 use Rattle.cord_plan.proofs.flow.liveness.Flow.words.Goals as goal
 
-pub loop-statement-preserved : goal.loop-statement-preserved
-loop-statement-preserved c =
+pub loop-place-preserved : goal.loop-place-preserved
+loop-place-preserved c =
     let s = c.args.self.now.statements.now in
-    let k = c.loop-statement.statement-index in
-    let l = c.statement-item.result in
+    let k = c.loop-place.place in
+    let t = c.args.self.now.numbering.now in
+    let there = line_there t s c.requires k c.loop-place-test.true in
+    let l = there.0 in
+    let is : l ≡ get_or s k l = sym (get_or_from_slice_get s k l l there.1) in
+    let numbered : IsNumbered t l c.line-numbers.result = c.line-numbers.ensures l there.2 in
     record {
-      readers = rw c.push_reserved.ensures.items (size_more c.loop-statement.read.items c.mark_read.result k
-          c.loop-statement.invariant.readers);
-      setters = rw c.push_reserved-in-loop-statement.ensures.items (size_more c.loop-statement.assigned.items c.mark_assigned.result k
-          c.loop-statement.invariant.setters);
+      readers = rw c.push_reserved.ensures.items (size_more c.loop-place.read.items c.mark_all.result k
+          c.loop-place.invariant.readers);
+      setters = rw c.push_reserved-in-loop-place.ensures.items (size_more c.loop-place.assigned.items c.mark_target.result k
+          c.loop-place.invariant.setters);
       room_read = omega (
         arith,
-        c.loop-statement-test.true,
-        c.loop-statement.invariant.room_read,
+        c.loop-place-test.true,
+        c.loop-place.invariant.room_read,
         c.push_reserved.ensures.len,
         c.push_reserved.ensures.capacity,
       );
       room_assigned = omega (
         arith,
-        c.loop-statement-test.true,
-        c.loop-statement.invariant.room_assigned,
-        c.push_reserved-in-loop-statement.ensures.len,
-        c.push_reserved-in-loop-statement.ensures.capacity,
+        c.loop-place-test.true,
+        c.loop-place.invariant.room_assigned,
+        c.push_reserved-in-loop-place.ensures.len,
+        c.push_reserved-in-loop-place.ensures.capacity,
       );
-      read = λ x i b. rw c.push_reserved.ensures.items (told_more (λ m. reads m x) s k l c.loop-statement.read.items c.mark_read.result i
-          c.loop-statement-test.true c.statement-item.is (c.loop-statement.invariant.read x i b) (c.mark_read.ensures x i b));
-      assigned = λ x i b. rw c.push_reserved-in-loop-statement.ensures.items (told_more (λ m. assigns m x) s k l c.loop-statement.assigned.items
-          c.mark_assigned.result i c.loop-statement-test.true c.statement-item.is (c.loop-statement.invariant.assigned x i b)
-          (c.mark_assigned.ensures x i b));
+      read = λ x i b. rw c.push_reserved.ensures.items (told_more (λ m. reads m x) s k l c.loop-place.read.items c.mark_all.result i
+          c.loop-place-test.true is (c.loop-place.invariant.read x i b) (c.mark_all.ensures t (read_by l) numbered.read x i b));
+      assigned = λ x i b. rw c.push_reserved-in-loop-place.ensures.items (told_more (λ m. assigns m x) s k l c.loop-place.assigned.items
+          c.mark_target.result i c.loop-place-test.true is (c.loop-place.invariant.assigned x i b)
+          (c.mark_target.ensures t (target_of l) numbered.target x i b));
     }
 
 pub returns-clause-read : goal.returns-clause-read
 returns-clause-read c =
     let s = c.args.self.now.statements.now in
-    let over : length s ≤ c.loop-statement.statement-index = omega arith in
+    let over : length s ≤ c.loop-place.place = omega arith in
     record {
-      size = c.loop-statement.invariant.readers ∙ omega arith;
-      told = λ x i b. readers_partly s x (column c.loop-statement.read.items i) (c.loop-statement.invariant.read x i b
-          ∙ ap (λ (ls : List Statement). map (λ m. reads m x) ls) (take_all c.loop-statement.statement-index s over));
+      size = c.loop-place.invariant.readers ∙ omega arith;
+      told = λ x i b. readers_partly s x (column c.loop-place.read.items i) (c.loop-place.invariant.read x i b
+          ∙ ap (λ (ls : List Statement). map (λ m. reads m x) ls) (take_all c.loop-place.place s over));
     }
 
 pub returns-clause-assigned : goal.returns-clause-assigned
 returns-clause-assigned c =
     let s = c.args.self.now.statements.now in
-    let over : length s ≤ c.loop-statement.statement-index = omega arith in
+    let over : length s ≤ c.loop-place.place = omega arith in
     record {
-      size = c.loop-statement.invariant.setters ∙ omega arith;
-      told = λ x i b p. ap (λ (table : List Bool). at table p) (c.loop-statement.invariant.assigned x i b
-          ∙ ap (λ (ls : List Statement). map (λ m. assigns m x) ls) (take_all c.loop-statement.statement-index s over)) ∙ assigned_at s x p;
+      size = c.loop-place.invariant.setters ∙ omega arith;
+      told = λ x i b p. ap (λ (table : List Bool). at table p) (c.loop-place.invariant.assigned x i b
+          ∙ ap (λ (ls : List Statement). map (λ m. assigns m x) ls) (take_all c.loop-place.place s over)) ∙ assigned_at s x p;
     }
+
+pub line-numbers-requires : goal.line-numbers-requires
+line-numbers-requires c =
+    let there = line_there c.args.self.now.numbering.now c.args.self.now.statements.now c.requires c.loop-place.place
+    c.loop-place-test.true in
+    (there.0, there.2)

@@ -4,14 +4,14 @@ use Rattle.cord_plan.specs.Operands.{assigns, reads}
 use Rattle.cord_plan.specs.inner.Marks.{IsBit, column}
 use Rattle.cord_plan.proofs.flow.liveness.Flow.words.Given as goal
 
-abbrev pub invariant-loop-statement : goal.invariant-loop-statement
-invariant-loop-statement l = record {
-  readers : length l.read.items ≡ l.statement-index;
-  setters : length l.assigned.items ≡ l.statement-index;
-  room_read : vec_len l.read + (length l.self.statements.now - l.statement-index) ≤ vec_capacity l.read;
-  room_assigned : vec_len l.assigned + (length l.self.statements.now - l.statement-index) ≤ vec_capacity l.assigned;
+abbrev pub invariant-loop-place : goal.invariant-loop-place
+invariant-loop-place l = record {
+  readers : length l.read.items ≡ l.place;
+  setters : length l.assigned.items ≡ l.place;
+  room_read : vec_len l.read + (length l.self.statements.now - l.place) ≤ vec_capacity l.read;
+  room_assigned : vec_len l.assigned + (length l.self.statements.now - l.place) ≤ vec_capacity l.assigned;
   read : (x : List ℕ) (i : ℕ) → IsBit l.self.numbering.now l.self.group x i →
-      column l.read.items i ≡ map (λ m. reads m x) (take l.statement-index l.self.statements.now);
+      column l.read.items i ≡ map (λ m. reads m x) (take l.place l.self.statements.now);
   assigned : (x : List ℕ) (i : ℕ) → IsBit l.self.numbering.now l.self.group x i →
-      column l.assigned.items i ≡ map (λ m. assigns m x) (take l.statement-index l.self.statements.now);
+      column l.assigned.items i ≡ map (λ m. assigns m x) (take l.place l.self.statements.now);
 }

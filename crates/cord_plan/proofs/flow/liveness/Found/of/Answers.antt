@@ -2,6 +2,7 @@ use Rattle.std.proofs.Common.{◌≡◌, ◌+◌, Some, Global, Vec, drop, subst
 use Rattle.std.specs.Prelude.{slice_get}
 use Rattle.cord_plan.specs.inner.Ahead.{IsLineLater, later_in}
 use Rattle.cord_plan.specs.declared.flow.ahead.LineLater.{LineLater}
+use Rattle.cord_plan.proofs.Numbers.{covers}
 use Rattle.cord_plan.proofs.Onward.{lines_tell}
 use Rattle.cord_plan.proofs.Told.{tells_exactly}
 use Rattle.cord_plan.proofs.flow.liveness.Found.of.Goals as goal
@@ -20,6 +21,6 @@ returns-then-not-has_blocks c =
 pub returns : goal.returns
 returns c = record {
   later = tells_exactly c.args.statements.now c.args.numbering.now c.in_ok-successors.successors.items c.in_ok-groups.groups.items
-      c.in_ok-successors.ensures c.requires c.in_ok-groups.ensures;
+      c.in_ok-successors.ensures (covers c.args.numbering.now c.args.statements.now c.requires) c.in_ok-groups.ensures;
   told = λ p l e lines is. (let bad : ⊥ = cc in absurd bad);
 }
