@@ -9,13 +9,13 @@ returns-then-self-seam-clause-within c =
     let node = c.args.self.node.now in
     let place = c.args.self.place in
     let within : IsWithin node place c.in-Cat.left.value place =
-    within_left node place node place _ c.in-Cat.left.value _ c.in-Cat.right.value _ _ _ c.in-Cat.is
+    within_left node place node place _ c.in-Cat.left.value _ c.in-Cat.right.value _ _ _ _ c.in-Cat.is
     (within_self node place c.requires.0) in
     rw c.as_ref.ensures within
 
 pub returns-then-self-seam-clause-shorter : goal.returns-then-self-seam-clause-shorter
 returns-then-self-seam-clause-shorter c =
-    rw c.as_ref.ensures (left_shorter c.args.self.node.now _ c.in-Cat.left.value _ c.in-Cat.right.value _ _ _ c.in-Cat.is c.requires.0)
+    rw c.as_ref.ensures (left_shorter c.args.self.node.now _ c.in-Cat.left.value _ c.in-Cat.right.value _ _ _ _ c.in-Cat.is c.requires.0)
 
 pub returns-clause-within : goal.returns-clause-within
 returns-clause-within c =
@@ -25,10 +25,10 @@ returns-clause-within c =
     let seam : c.len-seam.result ≡ len_of c.in-Cat.left.value = c.len-seam.ensures.stored ∙ ap len_of c.deref.ensures in
     let behind : place ≡ len_of c.in-Cat.left.value + next = omega (arith, seam, c.if-self-seam.false) in
     let within : IsWithin node place c.in-Cat.right.value next =
-    within_right node place node place next _ c.in-Cat.left.value _ c.in-Cat.right.value _ _ _ c.in-Cat.is behind
+    within_right node place node place next _ c.in-Cat.left.value _ c.in-Cat.right.value _ _ _ _ c.in-Cat.is behind
     (within_self node place c.requires.0) in
     rw c.as_ref-2.ensures within
 
 pub returns-clause-shorter : goal.returns-clause-shorter
 returns-clause-shorter c =
-    rw c.as_ref-2.ensures (right_shorter c.args.self.node.now _ c.in-Cat.left.value _ c.in-Cat.right.value _ _ _ c.in-Cat.is c.requires.0)
+    rw c.as_ref-2.ensures (right_shorter c.args.self.node.now _ c.in-Cat.left.value _ c.in-Cat.right.value _ _ _ _ c.in-Cat.is c.requires.0)
