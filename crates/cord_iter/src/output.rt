@@ -16,10 +16,10 @@ use cord_io::{CordError, MAX_LEN, Sink, Source, SourceId};
 
 /// Hands a sink the text of a cord over a source, after `CORD_put` of `cord.h`: each leaf's slice is offered whole,
 /// after a short `put` the rest, a run in pieces of at most 512 bytes, a function part of more than 512 bytes in pieces
-/// of at most 4,096, and either by 65,536 bytes where it is that long. Refused with `ReadFailed` where a read failed
-/// and with `WriteFailed` where a `put` failed: then the sink has taken a prefix of the text. The text is that over the
-/// table of each folder that `src` keeps after the call, and as many bytes are taken whatever it keeps. It doesn't
-/// finish the sink.
+/// of at most 4,096, and either by 65,536 bytes where it is that long, a function part behind its first 512. Refused
+/// with `ReadFailed` where a read failed and with `WriteFailed` where a `put` failed: then the sink has taken a prefix
+/// of the text. The text is that over the table of each folder that `src` keeps after the call, and as many bytes are
+/// taken whatever it keeps. It doesn't finish the sink.
 ///
 /// Each function part lies inside an entry of `src`: so it is with every cord over no files, with those that `src` made
 /// where it is a `Sources`, and with what `cat`, `substr` and the others make of them.
