@@ -21,119 +21,100 @@ fn plan_of(rt: &(impl AllocGlobal + Abort), script: &[u8]) -> Plan {
     plan(rt.alloc(), &read(rt, script)).expect(rt, "no memory")
 }
 
+// The plan of a script that has each line as it stands.
+fn trivial_plan_of(rt: &(impl AllocGlobal + Abort), script: &[u8]) -> Plan {
+    Plan::trivial(rt.alloc(), &read(rt, script)).expect(rt, "no memory")
+}
+
 // What a plan shows.
-fn expect_shown(rt: &(impl AllocGlobal + Abort), plan: &Plan, shown: &[u8]) {
+fn expect_shown(rt: &(impl AllocGlobal + Abort), name: &str, plan: &Plan, shown: &[u8]) {
     let mut sink = MemSink::new(rt.alloc());
-    assert!(rt; plan.show(&mut sink) == Ok(()));
-    assert!(rt; sink.bytes() == shown);
+    let end = plan.show(&mut sink);
+    assert!(rt; end == Ok(()) && sink.bytes() == shown, "{name}");
 }
 
-// What the plan of a script shows.
-fn expect_planned(rt: &(impl AllocGlobal + Abort), script: &[u8], shown: &[u8]) {
-    expect_shown(rt, &plan_of(rt, script), shown);
-}
-
-// What its trivial plan shows.
-fn expect_unplanned(rt: &(impl AllocGlobal + Abort), script: &[u8], shown: &[u8]) {
-    let trivial = Plan::trivial(rt.alloc(), &read(rt, script)).expect(rt, "no memory");
-    expect_shown(rt, &trivial, shown);
-}
-
-#[test]
-fn both_plans_of_hello(rt: HostRuntime) {
-    let shown = b"1 build x literal(5)\n2 write x\n";
-    expect_planned(&rt, HELLO, shown);
-    expect_unplanned(&rt, HELLO, shown);
-}
-
-#[test]
-fn substr_over_seam(rt: HostRuntime) {
-    expect_planned(
-        &rt,
+// A name, a script, and what its plan shows.
+const PLANNED: &[(&str, &[u8], &[u8])] = &[
+    ("hello", HELLO, b"1 build x literal(5)\n2 write x\n"),
+    (
+        "substr-over-seam",
         SEAM,
         b"1 build a literal(3)\n2 build b literal(3)\n3 measure t cat(a b)\n4 measure z sub(cat(a b) 2 3)\n\
             5 write sub(cat(a b) 2 3)\n",
-    );
-    expect_unplanned(
-        &rt,
-        SEAM,
-        b"1 build a literal(3)\n2 build b literal(3)\n3 build t cat(a b)\n4 build z sub(t 2 3)\n5 write z\n",
-    );
-}
-
-#[test]
-fn loop_reads_next_turn(rt: HostRuntime) {
-    let script = b"let x \"\"\nrepeat 3\nput x\ncatc x x 65\nend\n";
-    let shown = b"1 build x literal(0)\n2 repeat 3\n3 write x\n4 build x cat(x run(65 1))\n5 end\n";
-    expect_planned(&rt, script, shown);
-    expect_unplanned(&rt, script, shown);
-}
-
-#[test]
-fn substr_of_unread_cat_too_long(rt: HostRuntime) {
-    expect_planned(
-        &rt,
+    ),
+    (
+        "loop-reads-next-turn",
+        b"let x \"\"\nrepeat 3\nput x\ncatc x x 65\nend\n",
+        b"1 build x literal(0)\n2 repeat 3\n3 write x\n4 build x cat(x run(65 1))\n5 end\n",
+    ),
+    (
+        "substr-of-unread-cat-too-long",
         b"chars a 0 1099511627775\nlet b \"b\"\ncat t a b\nsubstr z t 0 1\nput b\n",
         b"1 measure a run(0 1099511627775)\n2 build b literal(1)\n3 measure t cat(run(0 1099511627775) b)\n\
             4 measure z sub(cat(run(0 1099511627775) b) 0 1)\n5 write b\n",
-    );
-}
-
-#[test]
-fn operand_assigned_between(rt: HostRuntime) {
-    expect_planned(
-        &rt,
+    ),
+    (
+        "operand-assigned-between",
         b"let a \"a\"\nlet b \"b\"\ncat t a b\nlet a \"z\"\nsubstr z t 0 2\nput z\n",
         b"1 build a literal(1)\n2 build b literal(1)\n3 build t cat(a b)\n4 measure a literal(1)\n\
             5 measure z sub(t 0 2)\n6 write sub(t 0 2)\n",
-    );
-}
-
-#[test]
-fn eager_unread_planned(rt: HostRuntime) {
-    expect_planned(
-        &rt,
+    ),
+    (
+        "eager-unread-planned",
         b"eager x \"p\"\nlet y \"a\"\nput y\n",
         b"1 measure x eager(\"p\")\n2 build y literal(1)\n3 write y\n",
-    );
-}
-
-#[test]
-fn if_else_both_assign(rt: HostRuntime) {
-    expect_planned(
-        &rt,
+    ),
+    (
+        "if-else-both-assign",
         b"let x \"a\"\nlen n x\nif n eq 1\nlet x \"b\"\nelse\nlet x \"c\"\nend\nput x\n",
         b"1 measure x literal(1)\n2 number n len(x)\n3 if n eq 1\n4 build x literal(1)\n5 else\n\
             6 build x literal(1)\n7 end\n8 write x\n",
-    );
-}
-
-#[test]
-fn if_without_else_keeps(rt: HostRuntime) {
-    expect_planned(
-        &rt,
+    ),
+    (
+        "if-without-else-keeps",
         b"let x \"a\"\nlen n x\nif n gt 1\nlet x \"b\"\nend\nput x\n",
         b"1 build x literal(1)\n2 number n len(x)\n3 if n gt 1\n4 build x literal(1)\n5 end\n6 write x\n",
-    );
-}
+    ),
+    (
+        "paths-and-negative-numbers",
+        b"file f \"a\\\"\\\\\xc3\x88\"\nset n -9223372036854775808\nadd n -1 0\n",
+        b"1 measure f file(\"a\\x22\\x5c\\xc3\\x88\")\n2 number n set(-9223372036854775808)\n3 number n add(-1 0)\n",
+    ),
+];
 
-#[test]
-fn a_loop_and_a_branch(rt: HostRuntime) {
-    expect_unplanned(
-        &rt,
+// A name, a script, and what its trivial plan shows.
+const UNPLANNED: &[(&str, &[u8], &[u8])] = &[
+    ("hello", HELLO, b"1 build x literal(5)\n2 write x\n"),
+    (
+        "substr-over-seam",
+        SEAM,
+        b"1 build a literal(3)\n2 build b literal(3)\n3 build t cat(a b)\n4 build z sub(t 2 3)\n5 write z\n",
+    ),
+    (
+        "loop-reads-next-turn",
+        b"let x \"\"\nrepeat 3\nput x\ncatc x x 65\nend\n",
+        b"1 build x literal(0)\n2 repeat 3\n3 write x\n4 build x cat(x run(65 1))\n5 end\n",
+    ),
+    (
+        "a-loop-and-a-branch",
         b"let x \"a\"\nrepeat 3\nput x\ncatc x x 65\nend\nlen n x\nif n gt 1\nelse\nend\n",
         b"1 build x literal(1)\n2 repeat 3\n3 write x\n4 build x cat(x run(65 1))\n5 end\n6 number n len(x)\n\
             7 if n gt 1\n8 else\n9 end\n",
-    );
+    ),
+];
+
+#[test]
+fn plans_of_rows(rt: HostRuntime) {
+    for (name, script, shown) in PLANNED {
+        expect_shown(&rt, name, &plan_of(&rt, script), shown);
+    }
 }
 
 #[test]
-fn paths_and_negative_numbers(rt: HostRuntime) {
-    expect_planned(
-        &rt,
-        b"file f \"a\\\"\\\\\xc3\x88\"\nset n -9223372036854775808\nadd n -1 0\n",
-        b"1 measure f file(\"a\\x22\\x5c\\xc3\\x88\")\n2 number n set(-9223372036854775808)\n3 number n add(-1 0)\n",
-    );
+fn trivial_plans_of_rows(rt: HostRuntime) {
+    for (name, script, shown) in UNPLANNED {
+        expect_shown(&rt, name, &trivial_plan_of(&rt, script), shown);
+    }
 }
 
 // A sink that takes a byte a call and fails at the tenth call.

@@ -134,13 +134,9 @@ fn names(rt: &(impl AllocGlobal + Abort), count: u16) -> Vec<u8> {
 }
 
 #[test]
-fn lines_at_the_limit(rt: HostRuntime) {
+fn lines_and_names_at_the_limit(rt: HostRuntime) {
     let script = filled(&rt, b"", b'\n', 65_536);
     expect_end(&rt, "lines-at-the-limit", &script, End::Done, b"");
-}
-
-#[test]
-fn names_at_the_limit(rt: HostRuntime) {
     expect_end(&rt, "names-at-the-limit", &names(&rt, 256), End::Done, b"");
 }
 
@@ -157,8 +153,9 @@ fn names_of_one_slot(rt: HostRuntime) {
 }
 
 // Runs a script over a sink that passes so many calls of at most 3 bytes, by its plan or without one.
-fn expect_fused_way(
+fn expect_fused(
     rt: &(impl AllocGlobal + Abort),
+    name: &str,
     script: &[u8],
     passes: u64,
     is_planned: bool,
@@ -168,44 +165,44 @@ fn expect_fused_way(
     let files = MemFiles::new(rt.alloc());
     let mut sink = FuseSink::new(MemSink::new(rt.alloc()), passes, 3);
     let result = run_way(rt, script, files, &mut sink, is_planned).0;
-    assert!(rt; result == Ok(end));
-    assert!(rt; sink.inner().bytes() == written);
+    assert!(rt; result == Ok(end), "{name}");
+    assert!(rt; sink.inner().bytes() == written, "{name}");
 }
 
-// The same both ways.
-fn expect_fused(
-    rt: &(impl AllocGlobal + Abort),
-    script: &[u8],
-    passes: u64,
-    end: End,
-    written: &[u8],
-) {
-    expect_fused_way(rt, script, passes, true, end, written);
-    expect_fused_way(rt, script, passes, false, end, written);
-}
+// A name, a script, the calls that its sink passes, the end, and what is written. Where the finish fails after a fault,
+// that is the end.
+const FUSED: &[(&str, &[u8], u64, End, &[u8])] = &[
+    ("fuse-sink-short-put", HELLO, 1, End::WriteFailed(2), b"hel"),
+    ("fuse-sink-enough", HELLO, 3, End::Done, b"hello"),
+    (
+        "fuse-sink-finish-fails",
+        b"let x \"a\"\nput x\n",
+        1,
+        End::WriteFailed(0),
+        b"a",
+    ),
+    (
+        "fuse-sink-fault-and-finish-fails",
+        b"let x \"a\"\nput x\nfetch n x 1\n",
+        1,
+        End::WriteFailed(0),
+        b"a",
+    ),
+    (
+        "fuse-sink-fault",
+        b"let x \"a\"\nput x\nfetch n x 1\n",
+        2,
+        End::Fault(3, FaultKind::OutOfRange),
+        b"a",
+    ),
+];
 
 #[test]
-fn fuse_sink_short_put(rt: HostRuntime) {
-    expect_fused(&rt, HELLO, 1, End::WriteFailed(2), b"hel");
-}
-
-#[test]
-fn fuse_sink_enough(rt: HostRuntime) {
-    expect_fused(&rt, HELLO, 3, End::Done, b"hello");
-}
-
-#[test]
-fn fuse_sink_finish_fails(rt: HostRuntime) {
-    expect_fused(&rt, b"let x \"a\"\nput x\n", 1, End::WriteFailed(0), b"a");
-}
-
-// Where the finish fails after a fault, that is the end.
-#[test]
-fn fuse_sink_fault_and_finish_fails(rt: HostRuntime) {
-    let script = b"let x \"a\"\nput x\nfetch n x 1\n";
-    expect_fused(&rt, script, 1, End::WriteFailed(0), b"a");
-    let fault = End::Fault(3, FaultKind::OutOfRange);
-    expect_fused(&rt, script, 2, fault, b"a");
+fn rows_over_a_fuse(rt: HostRuntime) {
+    for &(name, script, passes, end, written) in FUSED {
+        expect_fused(&rt, name, script, passes, true, end, written);
+        expect_fused(&rt, name, script, passes, false, end, written);
+    }
 }
 
 // Where writing failed there is no finish.

@@ -22,28 +22,38 @@ fn expect_fault(rt: &(impl AllocGlobal + Abort), line: &str, kind: FaultKind) {
     expect_end(rt, line, &measuring(rt, line), End::Fault(2, kind), b"");
 }
 
+// A line, and the length of what it makes.
+const LENGTHS: &[(&str, &[u8])] = &[
+    ("cat z a a", b"6"),
+    ("let z \"hello\"", b"5"),
+    ("balance z a", b"3"),
+    ("substr z a 1 9", b"2"),
+    ("fn z digits 12", b"12"),
+    ("fn z bytes 0", b"0"),
+    ("sprintf z \"<%s>\" a", b"5"),
+    ("sprintf z \"%04d\" 7", b"4"),
+];
+
+// A line, and its fault.
+const FAULTS: &[(&str, FaultKind)] = &[
+    ("fn z digits -1", FaultKind::Negative),
+    ("fn z bytes 1099511627776", FaultKind::TooLong),
+    ("sprintf z \"%u\" -1", FaultKind::Negative),
+    ("sprintf z \"%c\" 256", FaultKind::BadByte),
+];
+
 #[test]
-fn texts_of_names(rt: HostRuntime) {
-    expect_length(&rt, "cat z a a", b"6");
-    expect_length(&rt, "let z \"hello\"", b"5");
-    expect_length(&rt, "balance z a", b"3");
-    expect_length(&rt, "substr z a 1 9", b"2");
+fn lengths_of_definitions(rt: HostRuntime) {
+    for (line, len) in LENGTHS {
+        expect_length(&rt, line, len);
+    }
 }
 
 #[test]
-fn starts_of_functions(rt: HostRuntime) {
-    expect_length(&rt, "fn z digits 12", b"12");
-    expect_length(&rt, "fn z bytes 0", b"0");
-    expect_fault(&rt, "fn z digits -1", FaultKind::Negative);
-    expect_fault(&rt, "fn z bytes 1099511627776", FaultKind::TooLong);
-}
-
-#[test]
-fn prints(rt: HostRuntime) {
-    expect_length(&rt, "sprintf z \"<%s>\" a", b"5");
-    expect_length(&rt, "sprintf z \"%04d\" 7", b"4");
-    expect_fault(&rt, "sprintf z \"%u\" -1", FaultKind::Negative);
-    expect_fault(&rt, "sprintf z \"%c\" 256", FaultKind::BadByte);
+fn faults_of_definitions(rt: HostRuntime) {
+    for (line, kind) in FAULTS {
+        expect_fault(&rt, line, *kind);
+    }
 }
 
 // That a part of the texts "abc" and "def", one after the other, is put so.
@@ -57,11 +67,13 @@ fn expect_part(rt: &(impl AllocGlobal + Abort), part: &str, written: &[u8]) {
 
 // Some bytes of two texts, one after the other: each gets its own start and count, and one that gets no byte isn't
 // touched.
+const PARTS: &[(&str, &[u8])] = &[("2 3", b"cde"), ("3 9", b"def"), ("6 9", b"")];
+
 #[test]
 fn parts_of_two_texts(rt: HostRuntime) {
-    expect_part(&rt, "2 3", b"cde");
-    expect_part(&rt, "3 9", b"def");
-    expect_part(&rt, "6 9", b"");
+    for (part, written) in PARTS {
+        expect_part(&rt, part, written);
+    }
 }
 
 // A file of so many bytes at the path `p`.
@@ -108,9 +120,9 @@ fn expect_found(rt: &(impl AllocGlobal + Abort), verb: &str) {
 
 #[test]
 fn files_by_path(rt: HostRuntime) {
-    expect_found(&rt, "file");
-    expect_found(&rt, "eager");
-    expect_found(&rt, "lazy");
+    for verb in ["file", "eager", "lazy"] {
+        expect_found(&rt, verb);
+    }
 }
 
 // How a run ends that makes `z` of a file of so many bytes, of which so many can be read.
@@ -126,15 +138,25 @@ fn expect_cut(
     assert!(rt; answer == Ok(end), "{line}");
 }
 
-// A file that is only measured isn't read, whatever it is; one that is built is read at once where it is eager, or has
-// at most 131,072 bytes.
+// A line, so many bytes of a file, those that can be read, whether it is run by its plan, and the end. A file that is
+// only measured isn't read, whatever it is; one that is built is read at once where it is eager, or has at most 131,072
+// bytes.
+const CUT: &[(&str, (usize, u64), bool, End)] = &[
+    ("eager z \"p\"", (5, 2), false, End::ReadFailed(2)),
+    ("lazy z \"p\"", (5, 2), false, End::Done),
+    ("file z \"p\"", (131_072, 131_071), true, End::Done),
+    (
+        "file z \"p\"",
+        (131_072, 131_071),
+        false,
+        End::ReadFailed(2),
+    ),
+    ("file z \"p\"", (131_073, 0), false, End::Done),
+];
+
 #[test]
 fn files_that_fail_where_they_are_read(rt: HostRuntime) {
-    let file = "file z \"p\"";
-    let failed = End::ReadFailed(2);
-    expect_cut(&rt, "eager z \"p\"", (5, 2), false, failed);
-    expect_cut(&rt, "lazy z \"p\"", (5, 2), false, End::Done);
-    expect_cut(&rt, file, (131_072, 131_071), true, End::Done);
-    expect_cut(&rt, file, (131_072, 131_071), false, failed);
-    expect_cut(&rt, file, (131_073, 0), false, End::Done);
+    for &(line, lens, is_planned, end) in CUT {
+        expect_cut(&rt, line, lens, is_planned, end);
+    }
 }

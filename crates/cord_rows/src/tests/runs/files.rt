@@ -1,85 +1,221 @@
 //! Rows of scripts over files: whole ones, ones that fail after some calls, and ones that give no byte after a place.
 use super::{add, lines, numbered, run_way};
-use cord_io::{CutFiles, Files, FuseFiles, MemFiles, MemSink};
+use cord_io::{CutFiles, FuseFiles, MemFiles, MemSink};
 use cord_run::{End, FaultKind};
-use cord_script::Refusal;
 use std::process::Abort;
 
-// How a script over files ended, by its plan or without one.
-fn ended<F: Files + Drop>(
-    rt: &(impl AllocGlobal + Abort),
-    script: &str,
-    files: F,
-    sink: &mut MemSink,
-    is_planned: bool,
-) -> Result<End, Refusal> {
-    run_way(rt, &lines(rt, script), files, sink, is_planned).0
+// The bytes of a file, or what is written.
+#[derive(Clone, Copy)]
+enum Bytes {
+    Text(&'static [u8]),
+    // So many numbered bytes.
+    Numbered(usize),
+    // The same twice.
+    Twice(usize),
+    // At most so many of them, the first ones.
+    Front(usize),
 }
 
-// That a script over files ends so, and writes this: by its plan or without one.
-fn expect_way<F: Files + Drop>(
-    rt: &(impl AllocGlobal + Abort),
-    script: &str,
-    files: F,
-    is_planned: bool,
-    end: End,
-    written: &[u8],
-) {
-    let mut sink = MemSink::new(rt.alloc());
-    let answer = ended(rt, script, files, &mut sink, is_planned);
-    assert!(rt; answer == Ok(end));
-    assert!(rt; sink.bytes() == written);
+use Bytes::{Front, Numbered, Text, Twice};
+
+// A file, how many calls pass, and the place from which on no byte is given.
+#[derive(Clone, Copy)]
+struct Device {
+    path: &'static str,
+    bytes: Bytes,
+    passes: u64,
+    cut: u64,
 }
 
-// That a script ends so, and writes this, by its plan over the first files and without one over the second.
-fn expect_both<F: Files + Drop>(
-    rt: &(impl AllocGlobal + Abort),
-    script: &str,
-    planned: F,
-    unplanned: F,
-    end: End,
-    written: &[u8],
-) {
-    expect_way(rt, script, planned, true, end, written);
-    expect_way(rt, script, unplanned, false, end, written);
+const LINE: Device = Device {
+    path: "p",
+    bytes: Text(b"line\n"),
+    passes: u64::MAX,
+    cut: u64::MAX,
+};
+
+const LINE_OF_ONE_CALL: Device = Device { passes: 1, ..LINE };
+
+const CUT: Device = Device {
+    path: "p",
+    bytes: Numbered(1_000),
+    passes: u64::MAX,
+    cut: 600,
+};
+
+// A file of 20 blocks.
+const LONG: Device = Device {
+    path: "f",
+    bytes: Numbered(10_000),
+    passes: 21,
+    cut: u64::MAX,
+};
+
+// Ways to run a script.
+const BOTH: &[bool] = &[true, false];
+
+const PLANNED: &[bool] = &[true];
+
+const UNPLANNED: &[bool] = &[false];
+
+// A name, a script, its files, whether it is run by its plan, the end, and what is written.
+type Row = (
+    &'static str,
+    &'static str,
+    Device,
+    &'static [bool],
+    End,
+    Bytes,
+);
+
+const ROWS: &[Row] = &[
+    (
+        "file-twice",
+        r#"file x "p" ; put x ; put x"#,
+        LINE,
+        BOTH,
+        End::Done,
+        Text(b"line\nline\n"),
+    ),
+    (
+        "eager-unread-planned",
+        r#"eager x "p" ; let y "a" ; put y"#,
+        LINE_OF_ONE_CALL,
+        PLANNED,
+        End::Done,
+        Text(b"a"),
+    ),
+    (
+        "eager-unread-unplanned",
+        r#"eager x "p" ; let y "a" ; put y"#,
+        LINE_OF_ONE_CALL,
+        UNPLANNED,
+        End::ReadFailed(1),
+        Text(b""),
+    ),
+    (
+        "lazy-block-fails",
+        r#"lazy x "f" ; put x"#,
+        Device {
+            bytes: Numbered(200_000),
+            passes: 2,
+            ..LONG
+        },
+        BOTH,
+        End::ReadFailed(2),
+        Front(512),
+    ),
+    (
+        "lazy-twice",
+        r#"lazy x "f" ; put x ; put x"#,
+        LONG,
+        BOTH,
+        End::Done,
+        Twice(10_000),
+    ),
+    (
+        "lazy-last-block-fails",
+        r#"lazy x "f" ; put x ; put x"#,
+        Device { passes: 20, ..LONG },
+        BOTH,
+        End::ReadFailed(2),
+        Front(9_728),
+    ),
+    (
+        "cut-lazy-whole",
+        r#"lazy x "p" ; put x"#,
+        CUT,
+        BOTH,
+        End::ReadFailed(2),
+        Front(512),
+    ),
+    (
+        "cut-lazy-first-block",
+        r#"lazy x "p" ; substr y x 0 512 ; put y"#,
+        CUT,
+        BOTH,
+        End::Done,
+        Numbered(512),
+    ),
+    (
+        "cut-eager",
+        r#"eager x "p" ; put x"#,
+        CUT,
+        BOTH,
+        End::ReadFailed(1),
+        Text(b""),
+    ),
+    (
+        "missing-file-is-a-fault",
+        r#"eager x "q" ; put x"#,
+        LINE,
+        BOTH,
+        End::Fault(1, FaultKind::NoFile),
+        Text(b""),
+    ),
+];
+
+// The bytes, or as many as there are at most.
+fn bytes_of(rt: &(impl AllocGlobal + Abort), bytes: Bytes) -> Vec<u8> {
+    match bytes {
+        Text(text) => Vec::from_slice(rt.alloc(), text).expect(rt, "no memory"),
+        Numbered(count) => numbered(rt, count),
+        Twice(count) => twice(rt, &numbered(rt, count)),
+        Front(most) => numbered(rt, most),
+    }
 }
 
-// That a read for line 2 of a script fails, when at most so many numbered bytes were written: by its plan or without
-// one.
-fn expect_cut_off<F: Files + Drop>(
-    rt: &(impl AllocGlobal + Abort),
-    script: &str,
-    files: F,
-    is_planned: bool,
-    most: usize,
-) {
-    let mut sink = MemSink::new(rt.alloc());
-    let answer = ended(rt, script, files, &mut sink, is_planned);
-    assert!(rt; answer == Ok(End::ReadFailed(2)));
-    assert!(rt; sink.bytes().len() <= most);
-    assert!(rt; numbered(rt, most).starts_with(sink.bytes()));
+fn twice(rt: &(impl AllocGlobal + Abort), bytes: &[u8]) -> Vec<u8> {
+    let mut all = Vec::from_slice(rt.alloc(), bytes).expect(rt, "no memory");
+    add(rt, &mut all, bytes);
+    all
 }
 
-// The same by its plan over the first files and without one over the second.
-fn expect_both_cut_off<F: Files + Drop>(
-    rt: &(impl AllocGlobal + Abort),
-    script: &str,
-    planned: F,
-    unplanned: F,
-    most: usize,
-) {
-    expect_cut_off(rt, script, planned, true, most);
-    expect_cut_off(rt, script, unplanned, false, most);
-}
-
-// A file of so many numbered bytes.
-fn file_of(rt: &(impl AllocGlobal + Abort), path: &str, count: usize) -> MemFiles {
+// Files in memory with one file.
+fn file_of(rt: &(impl AllocGlobal + Abort), path: &str, bytes: &[u8]) -> MemFiles {
     let alloc = rt.alloc();
     let mut files = MemFiles::new(alloc);
+    files.add(alloc, path, bytes).expect(rt, "no memory");
     files
-        .add(alloc, path, &numbered(rt, count))
-        .expect(rt, "no memory");
-    files
+}
+
+fn files_of(rt: &(impl AllocGlobal + Abort), device: &Device) -> CutFiles<FuseFiles<MemFiles>> {
+    let files = file_of(rt, device.path, &bytes_of(rt, device.bytes));
+    CutFiles::new(FuseFiles::new(files, device.passes), device.cut)
+}
+
+// Whether this is what was to be written.
+fn is_written(rt: &(impl AllocGlobal + Abort), wanted: Bytes, written: &[u8]) -> bool {
+    let bytes = bytes_of(rt, wanted);
+    match wanted {
+        Front(_) => bytes.starts_with(written),
+        _ => written == bytes.as_slice(),
+    }
+}
+
+fn expect_way(rt: &(impl AllocGlobal + Abort), row: &Row, is_planned: bool) {
+    let (name, shown, device, _, end, wanted) = row;
+    let script = lines(rt, shown);
+    let mut sink = MemSink::new(rt.alloc());
+    let answer = run_way(rt, &script, files_of(rt, device), &mut sink, is_planned).0;
+    assert!(rt; answer == Ok(*end), "{name}: the end");
+    assert!(rt;
+        is_written(rt, *wanted, sink.bytes()),
+        "{name}: what is written"
+    );
+}
+
+fn expect_row(rt: &(impl AllocGlobal + Abort), row: &Row) {
+    for is_planned in row.3 {
+        expect_way(rt, row, *is_planned);
+    }
+}
+
+#[test]
+fn rows_over_files(rt: HostRuntime) {
+    for row in ROWS {
+        expect_row(&rt, row);
+    }
 }
 
 // The files "a" and "b" of 600 bytes each.
@@ -93,127 +229,22 @@ fn two_long_files(rt: &(impl AllocGlobal + Abort)) -> MemFiles {
     files
 }
 
-// The file "p" of the text `line` and byte 10.
-fn one_line(rt: &(impl AllocGlobal + Abort)) -> MemFiles {
-    let alloc = rt.alloc();
-    let mut files = MemFiles::new(alloc);
-    files.add(alloc, "p", b"line\n").expect(rt, "no memory");
-    files
-}
+const TWO_FILES: &str =
+    r#"lazy x "a" ; lazy y "b" ; substr u x 550 10 ; substr v y 550 10 ; put u ; put v"#;
 
-// The file "f" of so many numbered bytes, which passes so many calls.
-fn fused(rt: &(impl AllocGlobal + Abort), count: usize, passes: u64) -> FuseFiles<MemFiles> {
-    FuseFiles::new(file_of(rt, "f", count), passes)
-}
-
-// The file "p" of one line, which passes one call.
-fn fused_line(rt: &(impl AllocGlobal + Abort)) -> FuseFiles<MemFiles> {
-    FuseFiles::new(one_line(rt), 1)
-}
-
-// The file "p" of 1,000 numbered bytes, which gives the first 600 alone.
-fn cut(rt: &(impl AllocGlobal + Abort)) -> CutFiles<MemFiles> {
-    CutFiles::new(file_of(rt, "p", 1_000), 600)
-}
-
-const TWO_PUTS: &str = r#"lazy x "f" ; put x ; put x"#;
-
-#[test]
-fn file_twice(rt: HostRuntime) {
-    let script = r#"file x "p" ; put x ; put x"#;
-    let written = b"line\nline\n";
-    expect_both(
-        &rt,
-        script,
-        one_line(&rt),
-        one_line(&rt),
-        End::Done,
-        written,
-    );
-}
-
-#[test]
-fn eager_unread_planned(rt: HostRuntime) {
-    let script = r#"eager x "p" ; let y "a" ; put y"#;
-    expect_way(&rt, script, fused_line(&rt), true, End::Done, b"a");
-}
-
-#[test]
-fn eager_unread_unplanned(rt: HostRuntime) {
-    let script = r#"eager x "p" ; let y "a" ; put y"#;
-    expect_way(&rt, script, fused_line(&rt), false, End::ReadFailed(1), b"");
-}
-
-#[test]
-fn lazy_block_fails(rt: HostRuntime) {
-    let script = r#"lazy x "f" ; put x"#;
-    let planned = fused(&rt, 200_000, 2);
-    expect_both_cut_off(&rt, script, planned, fused(&rt, 200_000, 2), 512);
-}
-
-// The file's 10,000 bytes, twice.
-fn twice_numbered(rt: &(impl AllocGlobal + Abort)) -> Vec<u8> {
-    let mut bytes = numbered(rt, 10_000);
-    bytes
-        .extend_from_slice(&numbered(rt, 10_000))
-        .expect(rt, "no memory");
-    bytes
-}
-
-#[test]
-fn lazy_twice(rt: HostRuntime) {
-    let written = twice_numbered(&rt);
-    let planned = fused(&rt, 10_000, 21);
-    let unplanned = fused(&rt, 10_000, 21);
-    expect_both(&rt, TWO_PUTS, planned, unplanned, End::Done, &written);
-}
-
-#[test]
-fn lazy_last_block_fails(rt: HostRuntime) {
-    let planned = fused(&rt, 10_000, 20);
-    expect_both_cut_off(&rt, TWO_PUTS, planned, fused(&rt, 10_000, 20), 9_728);
+// That ten bytes of each are written, by the plan or without one.
+fn expect_ten_of_each(rt: &(impl AllocGlobal + Abort), is_planned: bool) {
+    let mut sink = MemSink::new(rt.alloc());
+    let script = lines(rt, TWO_FILES);
+    let answer = run_way(rt, &script, two_long_files(rt), &mut sink, is_planned).0;
+    assert!(rt; answer == Ok(End::Done));
+    assert!(rt; sink.bytes() == b"aaaaaaaaaabbbbbbbbbb".as_slice());
 }
 
 #[test]
 fn blocks_by_entry(rt: HostRuntime) {
-    let script =
-        r#"lazy x "a" ; lazy y "b" ; substr u x 550 10 ; substr v y 550 10 ; put u ; put v"#;
-    let planned = two_long_files(&rt);
-    let written = b"aaaaaaaaaabbbbbbbbbb";
-    expect_both(
-        &rt,
-        script,
-        planned,
-        two_long_files(&rt),
-        End::Done,
-        written,
-    );
-}
-
-#[test]
-fn cut_lazy_whole(rt: HostRuntime) {
-    let script = r#"lazy x "p" ; put x"#;
-    expect_both_cut_off(&rt, script, cut(&rt), cut(&rt), 512);
-}
-
-#[test]
-fn cut_lazy_first_block(rt: HostRuntime) {
-    let script = r#"lazy x "p" ; substr y x 0 512 ; put y"#;
-    let written = numbered(&rt, 512);
-    expect_both(&rt, script, cut(&rt), cut(&rt), End::Done, &written);
-}
-
-#[test]
-fn cut_eager(rt: HostRuntime) {
-    let script = r#"eager x "p" ; put x"#;
-    expect_both(&rt, script, cut(&rt), cut(&rt), End::ReadFailed(1), b"");
-}
-
-#[test]
-fn missing_file_is_a_fault(rt: HostRuntime) {
-    let script = r#"eager x "q" ; put x"#;
-    let end = End::Fault(1, FaultKind::NoFile);
-    expect_both(&rt, script, one_line(&rt), one_line(&rt), end, b"");
+    expect_ten_of_each(&rt, true);
+    expect_ten_of_each(&rt, false);
 }
 
 // The files "p0", "p1" and so on, each of one byte: its number.

@@ -92,28 +92,39 @@ fn unknown_statement(rt: HostRuntime) {
     );
 }
 
-#[test]
-fn script_too_big(rt: HostRuntime) {
-    let script = filled(&rt, b"", b' ', 1_048_577);
-    expect_refused(&rt, "script-too-big", &script, 0, RefusalKind::TooBig);
-}
-
-#[test]
-fn too_many_lines(rt: HostRuntime) {
-    let script = filled(&rt, b"", b'\n', 65_537);
-    expect_refused(&rt, "too-many-lines", &script, 65_537, RefusalKind::TooBig);
-}
-
-#[test]
-fn literal_too_long(rt: HostRuntime) {
-    let script = filled(&rt, b"let x \"", b'a', 65_536);
-    expect_refused(
-        &rt,
+// A name, a text and so many copies of a byte after it, which are the script, and the line and the kind of its refusal.
+const SIZES: &[(&str, &[u8], u8, usize, u32, RefusalKind)] = &[
+    (
+        "script-too-big",
+        b"",
+        b' ',
+        1_048_577,
+        0,
+        RefusalKind::TooBig,
+    ),
+    (
+        "too-many-lines",
+        b"",
+        b'\n',
+        65_537,
+        65_537,
+        RefusalKind::TooBig,
+    ),
+    (
         "literal-too-long",
-        &script,
+        b"let x \"",
+        b'a',
+        65_536,
         1,
         RefusalKind::LiteralTooLong,
-    );
+    ),
+];
+
+#[test]
+fn sizes(rt: HostRuntime) {
+    for &(name, text, byte, count, line, kind) in SIZES {
+        expect_refused(&rt, name, &filled(&rt, text, byte, count), line, kind);
+    }
 }
 
 #[test]

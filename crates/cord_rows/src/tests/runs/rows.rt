@@ -414,28 +414,10 @@ fn empty_script(rt: HostRuntime) {
 }
 
 #[test]
-fn cords(rt: HostRuntime) {
-    expect_rows(&rt, CORDS);
-}
-
-#[test]
-fn searches(rt: HostRuntime) {
-    expect_rows(&rt, SEARCHES);
-}
-
-#[test]
-fn blocks(rt: HostRuntime) {
-    expect_rows(&rt, BLOCKS);
-}
-
-#[test]
-fn edits(rt: HostRuntime) {
-    expect_rows(&rt, EDITS);
-}
-
-#[test]
-fn faults(rt: HostRuntime) {
-    expect_rows(&rt, FAULTS);
+fn rows(rt: HostRuntime) {
+    for rows in [CORDS, SEARCHES, BLOCKS, EDITS, FAULTS] {
+        expect_rows(&rt, rows);
+    }
 }
 
 #[test]
