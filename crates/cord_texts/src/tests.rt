@@ -33,11 +33,24 @@ fn expect_made(rt: &impl Abort, alloc: Global, made: Result<Text, CordError>, wa
     expect_bytes(rt, alloc, &made.expect(rt, "no memory"), wanted);
 }
 
+// A text of so many times a byte.
+fn run_of(rt: &impl Abort, alloc: Global, byte: u8, count: u64) -> Text {
+    Text::repeat(alloc, byte, count).expect(rt, "no memory")
+}
+
+fn expect_done(rt: &impl Abort, answer: Result<(), CordError>) {
+    assert!(rt; answer.is_ok());
+}
+
+fn expect_too_long(rt: &impl Abort, answer: Result<Text, CordError>) {
+    assert!(rt; matches!(answer, Err(CordError::TooLong)));
+}
+
 // Three texts in a row: one, a run, and the first one with more bytes.
 fn three(rt: &impl Abort, alloc: Global, text: &Text) -> [Text; 3] {
     [
         text.share(alloc).expect(rt, "no memory"),
-        Text::repeat(alloc, b'-', 3).expect(rt, "no memory"),
+        run_of(rt, alloc, b'-', 3),
         text.append_bytes(alloc, b"!").expect(rt, "no memory"),
     ]
 }
@@ -54,8 +67,6 @@ fn texts_are_joined(rt: HostRuntime) {
         Text::catn(alloc, &three),
         b"hello world---hello world!",
     );
-    assert!(rt; text.len() == 11 && !text.is_empty());
-    assert!(rt; Text::empty().is_empty());
 }
 
 // What edits at a place make of "hello world", with ", new" as the new text.
@@ -160,74 +171,140 @@ fn balanced_texts_are_flat(rt: HostRuntime) {
     assert!(rt; flat.compare(&text) == Ordering::Equal);
 }
 
-fn found(rt: &impl Abort, alloc: Global, text: &Text, pattern: &[u8], start: u64) -> Option<u64> {
-    text.find(alloc, pattern, start).expect(rt, "no memory")
+// What is asked of a text, and the answer.
+#[derive(Clone, Copy)]
+enum Ask {
+    // How many bytes it has.
+    Len(u64),
+    // The byte at a place.
+    Byte(u64, Option<u8>),
+    // Where bytes stand first, from a place on.
+    Find(&'static [u8], u64, Option<u64>),
+    // Where a byte stands first, from a place on.
+    First(u8, u64, Option<u64>),
+    // Where a byte stands last, before a place.
+    Last(u8, u64, Option<u64>),
+    StartsWith(&'static [u8], bool),
+    EndsWith(&'static [u8], bool),
+    // How it compares with these bytes.
+    Order(&'static [u8], Ordering),
+    // How often a byte stands there.
+    Count(u8, u64),
+    // A line by its number.
+    Line(u64, Option<&'static [u8]>),
 }
 
-fn byte_at(text: &Text, place: u64) -> Option<u8> {
-    text.get(place)
+use Ask::{Byte, Count, EndsWith, Find, First, Last, Len, Line, Order, StartsWith};
+
+// Of "hello world".
+const OF_HELLO: &[Ask] = &[
+    Len(11),
+    Byte(4, Some(b'o')),
+    Byte(11, None),
+    Find(b"o w", 0, Some(4)),
+    Find(b"o", 5, Some(7)),
+    First(b'l', 4, Some(9)),
+    First(b'l', 11, None),
+    Last(b'o', 7, Some(4)),
+    Last(b'o', 99, Some(7)),
+    StartsWith(b"hello ", true),
+    StartsWith(b"hello world!", false),
+    EndsWith(b"o world", true),
+    EndsWith(b"word", false),
+    Order(b"hello world", Ordering::Equal),
+    Order(b"hello", Ordering::Greater),
+    Order(b"hello\x80", Ordering::Less),
+];
+
+// Of "hello world---hello world!".
+const COUNTS: &[Ask] = &[Count(b'l', 6), Count(b'-', 3), Count(b'?', 0)];
+
+// Of "one\n\ntwo\n".
+const OF_LINES: &[Ask] = &[
+    Line(0, Some(b"one")),
+    Line(1, Some(b"")),
+    Line(2, Some(b"two")),
+    Line(3, None),
+];
+
+fn is_found(
+    rt: &impl Abort,
+    alloc: Global,
+    text: &Text,
+    (pattern, start): (&[u8], u64),
+    wanted: Option<u64>,
+) -> bool {
+    text.find(alloc, pattern, start).expect(rt, "no memory") == wanted
 }
 
-fn first_byte(text: &Text, byte: u8, start: u64) -> Option<u64> {
-    text.find_byte(byte, start)
-}
-
-fn last_byte(text: &Text, byte: u8, end: u64) -> Option<u64> {
-    text.rfind_byte(byte, end)
-}
-
-#[test]
-fn places(rt: HostRuntime) {
-    let alloc = rt.alloc();
-    let text = hello(&rt, alloc);
-    assert!(rt; byte_at(&text, 4) == Some(b'o'));
-    assert!(rt; byte_at(&text, 11).is_none());
-    assert!(rt; found(&rt, alloc, &text, b"o w", 0) == Some(4));
-    assert!(rt; found(&rt, alloc, &text, b"o", 5) == Some(7));
-}
-
-#[test]
-fn places_of_bytes(rt: HostRuntime) {
-    let text = hello(&rt, rt.alloc());
-    assert!(rt; first_byte(&text, b'l', 4) == Some(9));
-    assert!(rt; first_byte(&text, b'l', 11).is_none());
-    assert!(rt; last_byte(&text, b'o', 7) == Some(4));
-    assert!(rt; last_byte(&text, b'o', 99) == Some(7));
-}
-
-#[test]
-fn ends(rt: HostRuntime) {
-    let alloc = rt.alloc();
-    let text = hello(&rt, alloc);
-    assert!(rt; text.starts_with(b"hello ") && !text.starts_with(b"hello world!"));
-    assert!(rt; text.ends_with(b"o world") && !text.ends_with(b"word"));
-}
-
-fn expect_order(rt: &impl Abort, alloc: Global, text: &Text, other: &[u8], order: Ordering) {
+fn is_order(rt: &impl Abort, alloc: Global, text: &Text, other: &[u8], order: Ordering) -> bool {
     let other = text_of(rt, alloc, other);
-    assert!(rt; text.compare(&other) == order && text.cmp(&other) == order);
-    assert!(rt; (*text == other) == order.is_eq() && (*text < other) == order.is_lt());
+    let named = text.compare(&other) == order && text.cmp(&other) == order;
+    named && (*text == other) == order.is_eq() && (*text < other) == order.is_lt()
+}
+
+fn is_line(rt: &impl Abort, alloc: Global, text: &Text, n: u64, wanted: Option<&[u8]>) -> bool {
+    match (text.nth_line(alloc, n).expect(rt, "no memory"), wanted) {
+        (Some(line), Some(wanted)) => line == text_of(rt, alloc, wanted),
+        (line, wanted) => line.is_none() && wanted.is_none(),
+    }
+}
+
+fn answers(rt: &impl Abort, alloc: Global, text: &Text, ask: Ask) -> bool {
+    match ask {
+        Len(wanted) => text.len() == wanted && text.is_empty() == (wanted == 0),
+        Byte(place, wanted) => text.get(place) == wanted,
+        Find(pattern, start, wanted) => is_found(rt, alloc, text, (pattern, start), wanted),
+        First(byte, start, wanted) => text.find_byte(byte, start) == wanted,
+        Last(byte, end, wanted) => text.rfind_byte(byte, end) == wanted,
+        StartsWith(bytes, wanted) => text.starts_with(bytes) == wanted,
+        EndsWith(bytes, wanted) => text.ends_with(bytes) == wanted,
+        Order(other, order) => is_order(rt, alloc, text, other, order),
+        Count(byte, wanted) => text.count_of(byte) == wanted,
+        Line(n, wanted) => is_line(rt, alloc, text, n, wanted),
+    }
+}
+
+fn expect_answers(rt: &impl Abort, alloc: Global, text: &Text, name: &str, asks: &[Ask]) {
+    for (number, ask) in asks.iter().enumerate() {
+        assert!(rt; answers(rt, alloc, text, *ask), "{name}: {number}");
+    }
 }
 
 #[test]
-fn orders(rt: HostRuntime) {
+fn answers_of_texts(rt: HostRuntime) {
     let alloc = rt.alloc();
-    let text = hello(&rt, alloc);
-    expect_order(&rt, alloc, &text, b"hello world", Ordering::Equal);
-    expect_order(&rt, alloc, &text, b"hello", Ordering::Greater);
-    expect_order(&rt, alloc, &text, b"hello\x80", Ordering::Less);
+    expect_answers(&rt, alloc, &hello(&rt, alloc), "hello", OF_HELLO);
+    let lines = text_of(&rt, alloc, b"one\n\ntwo\n");
+    expect_answers(&rt, alloc, &lines, "lines", OF_LINES);
+}
+
+#[test]
+fn counts(rt: HostRuntime) {
+    let alloc = rt.alloc();
+    expect_answers(&rt, alloc, &greeting(&rt, alloc), "greeting", COUNTS);
+    expect_answers(
+        &rt,
+        alloc,
+        &Text::empty(),
+        "nothing",
+        &[Len(0), Count(0, 0)],
+    );
 }
 
 #[test]
 fn too_long(rt: HostRuntime) {
     let alloc = rt.alloc();
     let text = hello(&rt, alloc);
-    let long = Text::repeat(alloc, 0, MAX_LEN - 10).expect(&rt, "no memory");
-    assert!(rt; matches!(Text::cat(alloc, &text, &long), Err(CordError::TooLong)));
-    let longest = long
-        .replace_range(alloc, 7, 1, &text)
-        .expect(&rt, "no memory");
-    assert!(rt; longest.len() == MAX_LEN);
+    let long = run_of(&rt, alloc, 0, MAX_LEN - 10);
+    expect_too_long(&rt, Text::cat(alloc, &text, &long));
+    expect_too_long(&rt, text.repeated(alloc, MAX_LEN));
+    expect_longest(&rt, alloc, long.replace_range(alloc, 7, 1, &text));
+}
+
+fn expect_longest(rt: &impl Abort, alloc: Global, made: Result<Text, CordError>) {
+    let longest = made.expect(rt, "no memory");
+    expect_answers(rt, alloc, &longest, "longest", &[Len(MAX_LEN)]);
 }
 
 #[test]
@@ -247,34 +324,45 @@ fn built(rt: &impl Abort, alloc: Global) -> (TextBuilder, Text) {
     (builder, text)
 }
 
+// That a builder has this text, and its length.
+fn expect_built(rt: &impl Abort, alloc: Global, builder: &mut TextBuilder, wanted: &[u8]) {
+    assert!(rt; builder.len() == wanted.len() as u64 && !builder.is_empty());
+    expect_made(rt, alloc, builder.to_text(alloc), wanted);
+}
+
 #[test]
 fn builder(rt: HostRuntime) {
     let alloc = rt.alloc();
     let (mut builder, front) = built(&rt, alloc);
     expect_bytes(&rt, alloc, &front, b"abc");
-    assert!(rt; builder.push_text(alloc, &front).is_ok());
-    assert!(rt; builder.len() == 6 && !builder.is_empty());
-    expect_made(&rt, alloc, builder.to_text(alloc), b"abcabc");
+    expect_done(&rt, builder.push_text(alloc, &front));
+    expect_built(&rt, alloc, &mut builder, b"abcabc");
 }
 
 // An editor of "hello world" in which "hello" is another word and "big " stands in front of "world".
 fn edited(rt: &impl Abort, alloc: Global) -> TextEditor {
     let mut editor = TextEditor::of(alloc, &hello(rt, alloc)).expect(rt, "no memory");
     let word = text_of(rt, alloc, b"goodbye");
-    assert!(rt; editor.replace_range(alloc, 0, 5, &word).is_ok());
-    assert!(rt; editor.insert_bytes(alloc, 8, b"big ").is_ok());
+    expect_done(rt, editor.replace_range(alloc, 0, 5, &word));
+    expect_done(rt, editor.insert_bytes(alloc, 8, b"big "));
     editor
+}
+
+// That an editor has this text, and its length.
+fn expect_edited(rt: &impl Abort, alloc: Global, editor: &mut TextEditor, wanted: &[u8]) {
+    assert!(rt; editor.len() == wanted.len() as u64 && !editor.is_empty());
+    expect_made(rt, alloc, editor.to_text(alloc), wanted);
 }
 
 #[test]
 fn editor(rt: HostRuntime) {
     let alloc = rt.alloc();
     let mut editor = edited(&rt, alloc);
-    expect_made(&rt, alloc, editor.to_text(alloc), b"goodbye big world");
-    assert!(rt; editor.remove(alloc, 11, 6).is_ok());
-    assert!(rt; editor.insert(alloc, 99, &text_of(&rt, alloc, b"!")).is_ok());
-    assert!(rt; editor.len() == 12 && !editor.is_empty());
-    expect_made(&rt, alloc, editor.to_text(alloc), b"goodbye big!");
+    expect_edited(&rt, alloc, &mut editor, b"goodbye big world");
+    expect_done(&rt, editor.remove(alloc, 11, 6));
+    let mark = text_of(&rt, alloc, b"!");
+    expect_done(&rt, editor.insert(alloc, 99, &mark));
+    expect_edited(&rt, alloc, &mut editor, b"goodbye big!");
 }
 
 fn expect_line(
@@ -366,6 +454,10 @@ fn expect_run(rt: &impl Abort, chunk: Option<Chunk<'_>>, wanted: u8, times: u64)
     );
 }
 
+fn expect_no_chunk(rt: &impl Abort, chunk: Option<Chunk<'_>>) {
+    assert!(rt; chunk.is_none());
+}
+
 // "hello world", three dashes, "hello world!".
 fn greeting(rt: &impl Abort, alloc: Global) -> Text {
     let three = three(rt, alloc, &hello(rt, alloc));
@@ -379,8 +471,8 @@ fn chunks(rt: HostRuntime) {
     expect_leaf(&rt, chunks.next(), b"hello world");
     expect_run(&rt, chunks.next(), b'-', 3);
     expect_leaf(&rt, chunks.next(), b"hello world!");
-    assert!(rt; chunks.next().is_none());
-    assert!(rt; Text::empty().chunks().next().is_none());
+    expect_no_chunk(&rt, chunks.next());
+    expect_no_chunk(&rt, Text::empty().chunks().next());
 }
 
 #[test]
@@ -389,8 +481,6 @@ fn texts_are_repeated(rt: HostRuntime) {
     let text = text_of(&rt, alloc, b"ab");
     expect_made(&rt, alloc, text.repeated(alloc, 5), b"ababababab");
     expect_made(&rt, alloc, text.repeated(alloc, 0), b"");
-    let refused = text.repeated(alloc, MAX_LEN);
-    assert!(rt; matches!(refused, Err(CordError::TooLong)));
 }
 
 fn expect_shown(rt: &impl Abort, shown: Result<String, AllocError>, wanted: &str) {
@@ -410,7 +500,7 @@ fn texts_are_shown(rt: HostRuntime) {
 #[test]
 fn long_texts_are_shown_by_their_beginning(rt: HostRuntime) {
     let alloc = rt.alloc();
-    let text = Text::repeat(alloc, b'\n', 33).expect(&rt, "no memory");
+    let text = run_of(&rt, alloc, b'\n', 33);
     let shown = format!(in alloc; "{text:?}");
     let front = r"\n\n\n\n\n\n\n\n\n\n\n\n\n\n\n\n\n\n\n\n\n\n\n\n\n\n\n\n\n\n\n\n";
     let wanted = format!(in alloc; "Text(33, b\"{front}\"..)").expect(&rt, "no memory");
@@ -420,7 +510,7 @@ fn long_texts_are_shown_by_their_beginning(rt: HostRuntime) {
 // A euro sign, of which each byte stands in a part of its own, and then other bytes.
 fn cut_euro(rt: &impl Abort, alloc: Global, rest: &[u8]) -> Text {
     let begun = text_of(rt, alloc, b"\xE2");
-    let middle = Text::repeat(alloc, 0x82, 1).expect(rt, "no memory");
+    let middle = run_of(rt, alloc, 0x82, 1);
     let cut = Text::cat(alloc, &begun, &middle).expect(rt, "no memory");
     cut.append_bytes(alloc, rest).expect(rt, "no memory")
 }
@@ -440,30 +530,6 @@ fn what_is_no_character_is_replaced(rt: HostRuntime) {
 }
 
 #[test]
-fn counts(rt: HostRuntime) {
-    let text = greeting(&rt, rt.alloc());
-    assert!(rt; text.count_of(b'l') == 6 && text.count_of(b'-') == 3);
-    assert!(rt; text.count_of(b'?') == 0 && Text::empty().count_of(0) == 0);
-}
-
-fn expect_nth_line(rt: &impl Abort, alloc: Global, text: &Text, n: u64, wanted: Option<&[u8]>) {
-    match (text.nth_line(alloc, n).expect(rt, "no memory"), wanted) {
-        (Some(line), Some(wanted)) => expect_bytes(rt, alloc, &line, wanted),
-        (line, wanted) => assert!(rt; line.is_none() && wanted.is_none(), "line {n}"),
-    }
-}
-
-#[test]
-fn lines_by_number(rt: HostRuntime) {
-    let alloc = rt.alloc();
-    let text = text_of(&rt, alloc, b"one\n\ntwo\n");
-    expect_nth_line(&rt, alloc, &text, 0, Some(b"one"));
-    expect_nth_line(&rt, alloc, &text, 1, Some(b""));
-    expect_nth_line(&rt, alloc, &text, 2, Some(b"two"));
-    expect_nth_line(&rt, alloc, &text, 3, None);
-}
-
-#[test]
 fn texts_are_read(rt: HostRuntime) {
     let alloc = rt.alloc();
     let text = greeting(&rt, alloc);
@@ -475,7 +541,7 @@ fn texts_are_read(rt: HostRuntime) {
 #[test]
 fn trees_are_shown(rt: HostRuntime) {
     let alloc = rt.alloc();
-    let long = Text::repeat(alloc, b'a', 100).expect(&rt, "no memory");
+    let long = run_of(&rt, alloc, b'a', 100);
     let text = long.append_bytes(alloc, b"!").expect(&rt, "no memory");
     let tree = "Text(101)\n  join of 101, depth 1\n    run of 100, byte 97\n    leaf of 1";
     expect_shown(&rt, format!(in alloc; "{text:#?}"), tree);
