@@ -1,4 +1,3 @@
-pub mod Edits
 pub mod Exprs
 pub mod Values
 pub mod Operands

@@ -5,7 +5,6 @@
 //! a plan as text. `laws`, `meaning` and their like state what holds of all plans.
 #![tactic(auto)]
 
-mod edits;
 mod expression_laws;
 mod expressions;
 mod flow;
@@ -20,7 +19,6 @@ mod plans;
 mod rows;
 mod shown;
 
-pub use edits::{Edit, OwnRange, Replacement};
 pub use expression_laws::{
     flattened_cats_mean_the_nested, measures_are_lengths, own_expressions_mean_their_lines,
     subs_over_cats_are_resolved_by_lengths,
