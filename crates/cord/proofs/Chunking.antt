@@ -42,11 +42,7 @@ module _ (c : Option Node) (p : IsPlain c) where
       (λ (le : text_len c ≤ i). ap (left_to c) (no_index c i le) ∙ take_all 0 (plain_bytes c) (omega (arith, e, le, p.len)))
       (cases_lt i (text_len c))
 
-  -- what a stretch is good for
-  pub stretch_some : (o : Option ℕ) (s : Stretch) → IsAheadOf c o (Some s) → 0 < stretch_len s
-  stretch_some None s a = cc
-  stretch_some (Some i) s a = a.some
-
+  -- no stretch lies in a file
   pub stretch_plain : (o : Option ℕ) (s : Stretch) → IsAheadOf c o (Some s) → StretchFitsIn no_lengths s
   stretch_plain None s a = cc
   stretch_plain (Some i) s a = a.fits no_lengths (p.over.fits no_lengths)
@@ -65,10 +61,6 @@ module _ (c : Option Node) (p : IsPlain c) where
         sym (take-append-drop (stretch_len s) left) ∙ ap (λ (xs : List ℕ). xs ++ drop (stretch_len s) left) (sym (e ∙ bytes_at i s a))
             ∙ ap (λ (n : ℕ). chunk_bytes chunk ++ drop n left) (sym len),
       )
-
-  pub none_ahead : (o : Option ℕ) → IsAheadOf c o None → left_from c o ≡ []
-  none_ahead None a = refl
-  none_ahead (Some i) a = absurd a
 
 -- what is left before a place
 pub left_before : (c : Option Node) (j : ℕ) → left_to c (prev_index (Some j)) ≡ take j (plain_bytes c)

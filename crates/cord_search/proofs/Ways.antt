@@ -1,13 +1,13 @@
 -- Ways from the root of a cord to a place of its text.
-use Rattle.std.proofs.Common.{◌≡◌, ℕ, zero, suc, ◌+◌, ◌-◌, ◌<◌, ◌≤◌, List, [], ◌∷◌, ◌++◌, length, take, Some, arith}
+use Rattle.std.proofs.Common.{◌≡◌, ℕ, zero, suc, ◌+◌, ◌-◌, ◌≤◌, List, [], ◌∷◌, ◌++◌, length, arith}
 use Rattle.std.specs.Prelude.{Option, IfSome, slice_get}
 use Rattle.cord_io.specs.declared.TheConstants.{MAX_DEPTH}
 use Rattle.cord_node.specs.declared.Node.{Node}
-use Rattle.cord_node.specs.Tree.{len_of, depth_of, IsSound}
+use Rattle.cord_node.specs.Tree.{len_of, depth_of}
 use Rattle.cord_pos.specs.Stretches.{stretch_len, IsStretchOf, IsStretchAt, EndsAt}
 use Rattle.cord_pos.specs.inner.Stretches.{IsWithin}
 use Rattle.cord_pos.specs.declared.stretch.Stretch.{Stretch}
-use Rattle.cord_pos.proofs.Within.{within_self, within_on, within_end, stretch_on, stretch_back}
+use Rattle.cord_pos.proofs.Within.{within_on, within_end, stretch_on, stretch_back}
 use Rattle.cord_search.specs.inner.Ahead.{IsSpot, AreOneSpot, IsSpotOf, IsStop, AreAlike}
 use Rattle.cord_search.specs.declared.ahead.Spot.{Spot}
 use Rattle.cord_search.specs.declared.ahead.Stop.{Stop}
@@ -25,16 +25,6 @@ moved n place m at i j e w = record {
 }
 
 module _ (c : Option Node) (at : ℕ) where
-  -- a node on the way that holds the place
-  pub stop_at : (k : ℕ) (stop : Stop) (s : Spot) → IsStop c k stop → stop.start ≤ at → s.node.now ≡ stop.node.now →
-      s.place ≡ at - stop.start → at - stop.start < len_of stop.node.now → IsSpotOf c at s
-  stop_at k stop s h low node place inside = record {
-    root = h.root;
-    is = h.is;
-    within = rw (node, place) (moved h.root stop.start stop.node.now 0 at (at - stop.start) (omega (arith, low)) h.within);
-    spot = (rw node h.within.sound, rw (node, place) inside);
-  }
-
   -- a node that holds the place is kept
   pub stop_kept : (k : ℕ) (stop : Stop) (s : Spot) → IsSpotOf c at s → stop.node.now ≡ s.node.now → stop.start ≡ at - s.place →
       k + depth_of s.node.now ≤ MAX_DEPTH → IsStop c k stop
@@ -53,15 +43,6 @@ module _ (c : Option Node) (at : ℕ) (s : Spot) where
     is = h.is;
     within = within_on h.root at s.node.now s.place side.node.now side.place h.within w;
     spot = spot;
-  }
-
-  -- the root of the cord
-  pub root_at : (n : Node) → c ≡ Some n → IsSound n → s.node.now ≡ n → s.place ≡ at → at < len_of n → IsSpotOf c at s
-  root_at n is sound node place inside = record {
-    root = n;
-    is = is;
-    within = rw (node, place) (within_self n at sound);
-    spot = (rw node sound, rw (node, place) inside);
   }
 
   -- what a part has is what the cord has
@@ -89,11 +70,3 @@ all_push P [] x h p zero = p
 all_push P [] x h p (suc k) = tt
 all_push P (y ∷ ys) x h p zero = h zero
 all_push P (y ∷ ys) x h p (suc k) = all_push (λ j. P (suc j)) ys x (λ j. h (suc j)) p k
-
--- and of the first items
-pub all_take : {A : Type 0} (P : ℕ → A → Type 0) (m : ℕ) (xs : List A) → ((k : ℕ) → IfSome (slice_get xs k) (P k)) → (k : ℕ) →
-    IfSome (slice_get (take m xs) k) (P k)
-all_take P zero xs h k = tt
-all_take P (suc m) [] h k = tt
-all_take P (suc m) (y ∷ ys) h zero = h zero
-all_take P (suc m) (y ∷ ys) h (suc k) = all_take (λ j. P (suc j)) m ys (λ j. h (suc j)) k
