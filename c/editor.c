@@ -16,7 +16,7 @@ enum { MOST_VERSIONS = 1000, LONGEST_LINE = 4096 };
 
 static zc_files files;                     /* zeros are no files */
 static zc_lazy versions[MOST_VERSIONS];    /* and cords of no bytes */
-static zc_lazy front, back, added, joined; /* the parts of the next version */
+static zc_lazy added; /* what is put into the next version */
 static int current = 0;
 
 static void must(int code) {
@@ -47,19 +47,13 @@ static void take(const char *text) {
 static void insert(uint64_t place, const char *text) {
     zc_lazy *next = next_version();
     take(text);
-    must(zc_lazy_substr(&versions[current], 0, place, &front));
-    must(zc_lazy_substr(&versions[current], place, ZC_MAX_LEN, &back));
-    must(zc_lazy_cat(&front, &added, &joined));
-    must(zc_lazy_cat(&joined, &back, next));
+    must(zc_lazy_insert(&versions[current], place, &added, next));
     current++;
 }
 
 static void delete(uint64_t place, uint64_t count) {
     zc_lazy *next = next_version();
-    uint64_t end = place < ZC_MAX_LEN && count < ZC_MAX_LEN - place ? place + count : ZC_MAX_LEN;
-    must(zc_lazy_substr(&versions[current], 0, place, &front));
-    must(zc_lazy_substr(&versions[current], end, ZC_MAX_LEN, &back));
-    must(zc_lazy_cat(&front, &back, next));
+    must(zc_lazy_remove(&versions[current], place, count, next));
     current++;
 }
 
@@ -108,10 +102,7 @@ int main(int words, char **word) {
         run(line);
     }
     for (int i = 0; i < MOST_VERSIONS; i++) zc_lazy_free(&versions[i]);
-    zc_lazy_free(&front);
-    zc_lazy_free(&back);
     zc_lazy_free(&added);
-    zc_lazy_free(&joined);
     zc_files_free(&files);
     return 0;
 }

@@ -530,23 +530,36 @@ static void make_lazily(size_t x, size_t out) {
 }
 
 static void edit_lazily(size_t x, size_t y, size_t out) {
+    static const text nothing;
     uint64_t start = place_in(&lazy_texts[x]), count = count_in(&lazy_texts[x]);
     made = lazy_texts[x];
-    switch (below(4)) {
+    switch (below(7)) {
     case 0:
         cut(&made, &lazy_texts[x], start, count);
         check_made_lazily(zc_lazy_substr(&lazies[x], start, count, &lazies[out]), out);
         break;
     case 1: check_made_lazily(zc_lazy_share(&lazies[x], &lazies[out]), out); break;
     case 2: check_made_lazily(zc_lazy_balance(&lazies[x], &lazies[out]), out); break;
+    case 3:
+        replace_part(&made, &lazy_texts[x], start, count, &nothing);
+        check_made_lazily(zc_lazy_remove(&lazies[x], start, count, &lazies[out]), out);
+        break;
     default:
         if (lazy_texts[x].count + lazy_texts[y].count > LONGEST) {
             cut(&made, &lazy_texts[x], LONGEST / 9, LONGEST / 3);
             check_made_lazily(zc_lazy_substr(&lazies[x], LONGEST / 9, LONGEST / 3, &lazies[out]), out);
             break;
         }
-        append(&made, lazy_texts[y].bytes, lazy_texts[y].count);
-        check_made_lazily(zc_lazy_cat(&lazies[x], &lazies[y], &lazies[out]), out);
+        if (below(2) == 0) {
+            append(&made, lazy_texts[y].bytes, lazy_texts[y].count);
+            check_made_lazily(zc_lazy_cat(&lazies[x], &lazies[y], &lazies[out]), out);
+        } else if (below(2) == 0) {
+            replace_part(&made, &lazy_texts[x], start, 0, &lazy_texts[y]);
+            check_made_lazily(zc_lazy_insert(&lazies[x], start, &lazies[y], &lazies[out]), out);
+        } else {
+            replace_part(&made, &lazy_texts[x], start, count % 200, &lazy_texts[y]);
+            check_made_lazily(zc_lazy_replace(&lazies[x], start, count % 200, &lazies[y], &lazies[out]), out);
+        }
     }
 }
 

@@ -63,8 +63,8 @@ static int write_bytes(int fd, const unsigned char *bytes, size_t count, uint64_
 
 /* What a put reads: a cord, or else a lazy one over files. */
 typedef struct source {
-    zc_cord *cord;
-    zc_lazy *lazy;
+    const zc_cord *cord;
+    const zc_lazy *lazy;
     zc_files *files;
 } source;
 
@@ -86,22 +86,22 @@ static int put(const source *x, uint64_t from, uint64_t to, int fd, uint64_t *do
     return ZC_OK;
 }
 
-int zc_put_range(zc_cord *x, uint64_t from, uint64_t to, int fd, uint64_t *done) {
+int zc_put_range(const zc_cord *x, uint64_t from, uint64_t to, int fd, uint64_t *done) {
     source read = {x, NULL, NULL};
     return x == NULL ? ZC_NULL : put(&read, from, to, fd, done);
 }
 
-int zc_put(zc_cord *x, int fd) {
+int zc_put(const zc_cord *x, int fd) {
     uint64_t done = 0;
     return zc_put_range(x, 0, ZC_MAX_LEN, fd, &done);
 }
 
-int zc_lazy_put_range(zc_files *files, zc_lazy *x, uint64_t from, uint64_t to, int fd, uint64_t *done) {
+int zc_lazy_put_range(zc_files *files, const zc_lazy *x, uint64_t from, uint64_t to, int fd, uint64_t *done) {
     source read = {NULL, x, files};
     return files == NULL || x == NULL ? ZC_NULL : put(&read, from, to, fd, done);
 }
 
-int zc_lazy_put(zc_files *files, zc_lazy *x, int fd) {
+int zc_lazy_put(zc_files *files, const zc_lazy *x, int fd) {
     uint64_t done = 0;
     return zc_lazy_put_range(files, x, 0, ZC_MAX_LEN, fd, &done);
 }
@@ -285,7 +285,7 @@ static ssize_t read_at(const zc_files *files, uint32_t file, uint64_t place, voi
     return got == 0 ? -1 : got;
 }
 
-int zc_lazy_read(zc_files *files, zc_lazy *x, uint64_t start, void *bytes, size_t count, size_t *got) {
+int zc_lazy_read(zc_files *files, const zc_lazy *x, uint64_t start, void *bytes, size_t count, size_t *got) {
     unsigned char *to = (unsigned char *)bytes;
     size_t done = 0, part = 0;
     if (files == NULL || x == NULL || got == NULL) return ZC_NULL;
@@ -304,7 +304,7 @@ int zc_lazy_read(zc_files *files, zc_lazy *x, uint64_t start, void *bytes, size_
     return ZC_OK;
 }
 
-int zc_lazy_fetch(zc_files *files, zc_lazy *x, uint64_t place, unsigned char *byte) {
+int zc_lazy_fetch(zc_files *files, const zc_lazy *x, uint64_t place, unsigned char *byte) {
     unsigned char found = 0;
     size_t got = 0;
     int code = byte == NULL ? ZC_NULL : zc_lazy_read(files, x, place, &found, 1, &got);
@@ -313,7 +313,7 @@ int zc_lazy_fetch(zc_files *files, zc_lazy *x, uint64_t place, unsigned char *by
     return code;
 }
 
-int zc_lazy_chr(zc_files *files, zc_lazy *x, uint64_t start, unsigned char byte, uint64_t *place) {
+int zc_lazy_chr(zc_files *files, const zc_lazy *x, uint64_t start, unsigned char byte, uint64_t *place) {
     unsigned char bytes[BLOCK], *found = NULL;
     size_t got = 0;
     if (place == NULL) return ZC_NULL;
@@ -328,7 +328,7 @@ int zc_lazy_chr(zc_files *files, zc_lazy *x, uint64_t start, unsigned char byte,
     return ZC_OK;
 }
 
-int zc_lazy_rchr(zc_files *files, zc_lazy *x, uint64_t end, unsigned char byte, uint64_t *place) {
+int zc_lazy_rchr(zc_files *files, const zc_lazy *x, uint64_t end, unsigned char byte, uint64_t *place) {
     unsigned char bytes[BLOCK];
     uint64_t at = smaller(zc_lazy_len(x), end), from = at;
     if (files == NULL || x == NULL || place == NULL) return ZC_NULL;
@@ -345,7 +345,7 @@ int zc_lazy_rchr(zc_files *files, zc_lazy *x, uint64_t end, unsigned char byte, 
     return ZC_OK;
 }
 
-int zc_lazy_cmp(zc_files *files, zc_lazy *x, zc_lazy *y, int32_t *order) {
+int zc_lazy_cmp(zc_files *files, const zc_lazy *x, const zc_lazy *y, int32_t *order) {
     unsigned char own[HALF_BLOCK], others[HALF_BLOCK];
     uint64_t start = 0;
     size_t got = 0, other = 0;
@@ -363,7 +363,7 @@ int zc_lazy_cmp(zc_files *files, zc_lazy *x, zc_lazy *y, int32_t *order) {
     return ZC_OK;
 }
 
-int zc_lazy_to_cord(zc_files *files, zc_lazy *x, zc_cord *out) {
+int zc_lazy_to_cord(zc_files *files, const zc_lazy *x, zc_cord *out) {
     unsigned char bytes[BLOCK];
     zc_ext all = ZC_EXT_EMPTY;
     size_t got = 0;
@@ -380,7 +380,8 @@ int zc_lazy_to_cord(zc_files *files, zc_lazy *x, zc_cord *out) {
 }
 
 /* Finds bytes, at least one, in one copy after the other of a part of the cord. */
-static int find_in_windows(zc_files *files, zc_lazy *x, uint64_t start, const void *bytes, size_t count, uint64_t *place) {
+static int find_in_windows(zc_files *files, const zc_lazy *x, uint64_t start, const void *bytes, size_t count,
+                           uint64_t *place) {
     zc_lazy window = ZC_LAZY_EMPTY;
     zc_cord copy = ZC_EMPTY;
     uint64_t found = ZC_NOT_FOUND, whole = WINDOW + (uint64_t)count, left = whole;
@@ -398,7 +399,7 @@ static int find_in_windows(zc_files *files, zc_lazy *x, uint64_t start, const vo
     return code;
 }
 
-int zc_lazy_find(zc_files *files, zc_lazy *x, uint64_t start, const void *bytes, size_t count, uint64_t *place) {
+int zc_lazy_find(zc_files *files, const zc_lazy *x, uint64_t start, const void *bytes, size_t count, uint64_t *place) {
     if (files == NULL || x == NULL || place == NULL) return ZC_NULL;
     if (count > 0) return find_in_windows(files, x, start, bytes, count, place);
     *place = start <= zc_lazy_len(x) ? start : ZC_NOT_FOUND;

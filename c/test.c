@@ -1016,6 +1016,14 @@ static void lazies(void) {
     DO(zc_lazy_cat(&b, &word, &c));
     EXPECT(zc_lazy_len(&c) == 19);
     EXPECT_LAZY(&files, &c, 0, "56789end<in memory>");
+    DO(zc_lazy_insert(&c, 5, &word, &b));
+    EXPECT_LAZY(&files, &b, 0, "56789<in memory>end<in memory>");
+    DO(zc_lazy_remove(&b, 5, 11, &b));
+    EXPECT_LAZY(&files, &b, 0, "56789end<in memory>");
+    DO(zc_lazy_replace(&c, 3, 6, &word, &b));
+    EXPECT_LAZY(&files, &b, 0, "567<in memory>in memory>");
+    DO(zc_lazy_remove(&c, 30, 5, &b));
+    EXPECT_LAZY(&files, &b, 0, "56789end<in memory>");
     DO(zc_lazy_cat(&a, &c, &b));
     EXPECT_LAZY(&files, &b, 200001, "nd\n56789end<in memory>");
     EXPECT(lazy_byte_place(&files, &b, 0, 'e') == 200000);
@@ -1300,6 +1308,10 @@ static void nulls_of_lazies(void) {
     EXPECT(zc_lazy_cat(none, &a, &b) == ZC_NULL && zc_lazy_cat(&a, none, &b) == ZC_NULL);
     EXPECT(zc_lazy_cat(&a, &b, none) == ZC_NULL);
     EXPECT(zc_lazy_substr(none, 0, 1, &a) == ZC_NULL && zc_lazy_substr(&a, 0, 1, none) == ZC_NULL);
+    EXPECT(zc_lazy_insert(none, 0, &a, &b) == ZC_NULL && zc_lazy_insert(&a, 0, none, &b) == ZC_NULL);
+    EXPECT(zc_lazy_insert(&a, 0, &b, none) == ZC_NULL && zc_lazy_remove(&a, 0, 1, none) == ZC_NULL);
+    EXPECT(zc_lazy_remove(none, 0, 1, &a) == ZC_NULL && zc_lazy_replace(none, 0, 1, &a, &b) == ZC_NULL);
+    EXPECT(zc_lazy_replace(&a, 0, 1, none, &b) == ZC_NULL && zc_lazy_replace(&a, 0, 1, &b, none) == ZC_NULL);
     EXPECT(zc_lazy_balance(none, &a) == ZC_NULL && zc_lazy_balance(&a, none) == ZC_NULL);
     EXPECT(zc_lazy_share(none, &a) == ZC_NULL && zc_lazy_share(&a, none) == ZC_NULL);
     EXPECT(zc_lazy_len(none) == 0 && zc_lazy_depth(none) == 0);

@@ -13,17 +13,23 @@
  *     zc_free(&both);
  *
  * Handles are owned one by one: a copy of the struct is the handle from then on, and the old one isn't used again.
- * Share the cord by zc_share to have two. One handle may be given twice in a call, and as its result too. A call
- * changes the handles that it reads while it runs, so they aren't const; they hold the same cord when it returns.
+ * Share the cord by zc_share to have two. One handle may be given twice in a call, and as its result too. What a call
+ * takes as const it doesn't write to.
  *
  * Calls that make a cord write it to *out, a handle that was begun. What it held is freed; where the call gives another
  * code than ZC_OK, it holds what it held. A null pointer to a handle or to a result is answered by ZC_NULL, or by
  * what is said at the call; a null pointer to bytes is fine where their number is 0. Any other pointer to what isn't
  * there is the caller's fault, as are two handles that own one cord.
  *
- * Every call is MT-Unsafe race:cord: cords that have parts in common count them together, so one thread at a time
- * uses them. Memory comes from malloc and realloc, and goes to free. No call ends the program where memory is
- * refused. A handle that owns a cord keeps its block of a few bytes for the next one; zc_free gives it back.
+ * Threads: cords that have parts in common count them together, and a comparison marks them. So a call is MT-Unsafe
+ * race:cord (attributes(7)), where "cord" is all cords that have parts in common: one thread at a time uses them. MT-Safe
+ * race:cord are the calls that only look at one cord: zc_len, zc_depth, zc_fetch, zc_chr, zc_rchr, zc_starts_with,
+ * zc_ends_with, zc_count, zc_to_bytes, zc_read, zc_put, zc_put_range, zc_pos_index, zc_pos_fetch, zc_ext_len,
+ * zc_edit_len, zc_lazy_len, zc_lazy_depth and zc_lazy_part. They write to nothing but their results, so many threads may
+ * make them at once, on one handle too, while none makes another call.
+ *
+ * Memory comes from malloc and realloc, and goes to free. No call ends the program where memory is refused. A handle that
+ * owns a cord keeps its block of a few bytes for the next one; zc_free gives it back.
  *
  * In costs, n is the length of a cord in bytes and d its depth, which is never more than 60.
  */
@@ -40,9 +46,9 @@ extern "C" {
 /* The version of this header. While the first number is 0, the second one changes where programs have to be compiled
    anew. */
 #define ZC_VERSION_MAJOR 0
-#define ZC_VERSION_MINOR 4
+#define ZC_VERSION_MINOR 5
 #define ZC_VERSION_PATCH 0
-#define ZC_VERSION "0.4.0"
+#define ZC_VERSION "0.5.0"
 
 /* The version of the library that was linked or loaded, as ZC_VERSION. */
 const char *zc_version(void);
@@ -91,52 +97,52 @@ int zc_chars(unsigned char byte, uint64_t count, zc_cord *out);
 
 /* The bytes of x and then those of y. ZC_TOO_LONG, ZC_NO_MEMORY.
    O(1); where the tree would be deeper than ZC_MAX_DEPTH, it is balanced first. */
-int zc_cat(zc_cord *x, zc_cord *y, zc_cord *out);
+int zc_cat(const zc_cord *x, const zc_cord *y, zc_cord *out);
 
 /* The bytes of all count cords at parts, in order. ZC_TOO_LONG, ZC_NO_MEMORY. O(count), and as so many calls of
    zc_cat. */
-int zc_catn(zc_cord *parts, size_t count, zc_cord *out);
+int zc_catn(const zc_cord *parts, size_t count, zc_cord *out);
 
 /* The bytes of x and then these, of which it takes a copy. ZC_TOO_LONG, ZC_NO_MEMORY. O(count), and as zc_cat. */
-int zc_cat_bytes(zc_cord *x, const void *bytes, size_t count, zc_cord *out);
+int zc_cat_bytes(const zc_cord *x, const void *bytes, size_t count, zc_cord *out);
 
 /* The bytes of x and then one more. ZC_TOO_LONG, ZC_NO_MEMORY. As zc_cat. */
-int zc_cat_char(zc_cord *x, unsigned char byte, zc_cord *out);
+int zc_cat_char(const zc_cord *x, unsigned char byte, zc_cord *out);
 
 /* The bytes of x from start on, at most count of them: none where start is at or past the end. ZC_NO_MEMORY. O(d). */
-int zc_substr(zc_cord *x, uint64_t start, uint64_t count, zc_cord *out);
+int zc_substr(const zc_cord *x, uint64_t start, uint64_t count, zc_cord *out);
 
 /* x with the bytes of y in front of its byte start: at its end where it has no such byte. ZC_TOO_LONG, ZC_NO_MEMORY.
    O(d). */
-int zc_insert(zc_cord *x, uint64_t start, zc_cord *y, zc_cord *out);
+int zc_insert(const zc_cord *x, uint64_t start, const zc_cord *y, zc_cord *out);
 
 /* x without at most count of its bytes from start on. ZC_NO_MEMORY. O(d). */
-int zc_remove(zc_cord *x, uint64_t start, uint64_t count, zc_cord *out);
+int zc_remove(const zc_cord *x, uint64_t start, uint64_t count, zc_cord *out);
 
 /* x with the bytes of y in place of at most count of its bytes from start on. ZC_TOO_LONG, ZC_NO_MEMORY. O(d). */
-int zc_replace(zc_cord *x, uint64_t start, uint64_t count, zc_cord *y, zc_cord *out);
+int zc_replace(const zc_cord *x, uint64_t start, uint64_t count, const zc_cord *y, zc_cord *out);
 
 /* Adds the bytes of y at the end of x. ZC_TOO_LONG, ZC_NO_MEMORY: x stays. As zc_cat. */
-int zc_append(zc_cord *x, zc_cord *y);
+int zc_append(zc_cord *x, const zc_cord *y);
 
 /* Puts the bytes of y in place of at most count of those of x from start on. ZC_TOO_LONG, ZC_NO_MEMORY: x stays. As
    zc_replace. */
-int zc_splice(zc_cord *x, uint64_t start, uint64_t count, zc_cord *y);
+int zc_splice(zc_cord *x, uint64_t start, uint64_t count, const zc_cord *y);
 
 /* The bytes of x, so many times. It takes two nodes at most for each binary digit of times. ZC_TOO_LONG,
    ZC_NO_MEMORY. */
-int zc_repeat(zc_cord *x, uint64_t times, zc_cord *out);
+int zc_repeat(const zc_cord *x, uint64_t times, zc_cord *out);
 
 /* Line number of x, from 0, without its end. A line ends with the byte 10, which the last one may lack.
    ZC_PAST_END where x has no more lines than that, ZC_NO_MEMORY. O(n), and O(d) for each line before it. */
-int zc_nth_line(zc_cord *x, uint64_t number, zc_cord *out);
+int zc_nth_line(const zc_cord *x, uint64_t number, zc_cord *out);
 
 /* The bytes of x in a tree no deeper than about 1.44 times the binary logarithm of their number. ZC_NO_MEMORY.
    As many steps as x has parts that differ. */
-int zc_balance(zc_cord *x, zc_cord *out);
+int zc_balance(const zc_cord *x, zc_cord *out);
 
 /* The same cord once more. ZC_NO_MEMORY. O(1). */
-int zc_share(zc_cord *x, zc_cord *out);
+int zc_share(const zc_cord *x, zc_cord *out);
 
 /* Frees what x owns; x is then ZC_EMPTY, and may be used or freed again. Null is fine. */
 void zc_free(zc_cord *x);
@@ -144,55 +150,55 @@ void zc_free(zc_cord *x);
 /* ---- asking cords ---- */
 
 /* The number of bytes; 0 of null. O(1). */
-uint64_t zc_len(zc_cord *x);
+uint64_t zc_len(const zc_cord *x);
 
 /* The depth of the tree: 0 for one part and for no bytes, and of null. O(1). */
-uint32_t zc_depth(zc_cord *x);
+uint32_t zc_depth(const zc_cord *x);
 
 /* Writes the byte at place to *byte. ZC_PAST_END at or past the end: *byte stays. O(d). */
-int zc_fetch(zc_cord *x, uint64_t place, unsigned char *byte);
+int zc_fetch(const zc_cord *x, uint64_t place, unsigned char *byte);
 
 /* Writes the first place from start on that has the byte to *place, or ZC_NOT_FOUND. It takes no memory. O(n). */
-int zc_chr(zc_cord *x, uint64_t start, unsigned char byte, uint64_t *place);
+int zc_chr(const zc_cord *x, uint64_t start, unsigned char byte, uint64_t *place);
 
 /* Writes the last place before end that has the byte to *place, or ZC_NOT_FOUND. It takes no memory. O(n). */
-int zc_rchr(zc_cord *x, uint64_t end, unsigned char byte, uint64_t *place);
+int zc_rchr(const zc_cord *x, uint64_t end, unsigned char byte, uint64_t *place);
 
 /* Writes the first place of x from start on where the bytes of y stand to *place, or ZC_NOT_FOUND. No bytes stand at
-   each place up to the end. ZC_NO_MEMORY: *place stays. O(n) in both texts. */
-int zc_str(zc_cord *x, uint64_t start, zc_cord *y, uint64_t *place);
+   each place up to the end. It takes no memory. O(n) in both texts. */
+int zc_str(const zc_cord *x, uint64_t start, const zc_cord *y, uint64_t *place);
 
-/* As zc_str, of these bytes. Up to 16,384 of them take no memory. */
-int zc_find(zc_cord *x, uint64_t start, const void *bytes, size_t count, uint64_t *place);
+/* As zc_str, of these bytes. Up to 16,384 of them take no memory; of more, ZC_NO_MEMORY: *place stays. */
+int zc_find(const zc_cord *x, uint64_t start, const void *bytes, size_t count, uint64_t *place);
 
 /* Writes the order of x and y to *order: -1 where x comes first, 0 where both have the same bytes, 1 where y comes
-   first: by the first bytes that differ, and a text that another one begins with comes first. ZC_NO_MEMORY: *order
-   stays. O(n) at most; parts in common are passed. */
-int zc_cmp(zc_cord *x, zc_cord *y, int32_t *order);
+   first: by the first bytes that differ, and a text that another one begins with comes first. It takes no memory.
+   O(n) at most; parts in common are passed. */
+int zc_cmp(const zc_cord *x, const zc_cord *y, int32_t *order);
 
 /* As zc_cmp, of at most count bytes of x from i on and of y from j on: none where i or j is at or past the end.
    ZC_NO_MEMORY: *order stays. O(count + d) at most. */
-int zc_ncmp(zc_cord *x, uint64_t i, zc_cord *y, uint64_t j, uint64_t count, int32_t *order);
+int zc_ncmp(const zc_cord *x, uint64_t i, const zc_cord *y, uint64_t j, uint64_t count, int32_t *order);
 
-/* Writes 1 to *equal where x and y have the same bytes, else 0. ZC_NO_MEMORY: *equal stays. O(1) where the lengths
-   differ, else as zc_cmp. */
-int zc_equal(zc_cord *x, zc_cord *y, int32_t *equal);
+/* Writes 1 to *equal where x and y have the same bytes, else 0. It takes no memory. O(1) where the lengths differ, else
+   as zc_cmp. */
+int zc_equal(const zc_cord *x, const zc_cord *y, int32_t *equal);
 
 /* Whether x begins, or ends, with these bytes: 1, or 0, also of null. It takes no memory. O(count), and O(d) for
    each. */
-int32_t zc_starts_with(zc_cord *x, const void *bytes, size_t count);
-int32_t zc_ends_with(zc_cord *x, const void *bytes, size_t count);
+int32_t zc_starts_with(const zc_cord *x, const void *bytes, size_t count);
+int32_t zc_ends_with(const zc_cord *x, const void *bytes, size_t count);
 
 /* How many bytes of x are this one; 0 of null. O(n), and O(d) for each part. */
-uint64_t zc_count(zc_cord *x, unsigned char byte);
+uint64_t zc_count(const zc_cord *x, unsigned char byte);
 
 /* Copies count bytes of x from start on to bytes. ZC_PAST_END where x has fewer: then bytes stays. It takes no memory.
    O(count + d). */
-int zc_to_bytes(zc_cord *x, uint64_t start, void *bytes, size_t count);
+int zc_to_bytes(const zc_cord *x, uint64_t start, void *bytes, size_t count);
 
 /* Copies bytes of x from start on to bytes, as many as there are and at most count, and writes their number to *got:
    0 at or past the end. The rest of bytes stays. It takes no memory. O(count + d). */
-int zc_read(zc_cord *x, uint64_t start, void *bytes, size_t count, size_t *got);
+int zc_read(const zc_cord *x, uint64_t start, void *bytes, size_t count, size_t *got);
 
 /* ---- extensible cords ---- */
 
@@ -217,14 +223,14 @@ int zc_ext_bytes(zc_ext *x, const void *bytes, size_t count);
 
 /* Adds the bytes of y at the end, whose tree is shared. ZC_TOO_LONG, ZC_NO_MEMORY: x stays. As zc_cat_bytes of those
    that are gathered, and as zc_cat. */
-int zc_ext_cord(zc_ext *x, zc_cord *y);
+int zc_ext_cord(zc_ext *x, const zc_cord *y);
 
 /* The bytes of x as a cord, whose tree is shared. x stays, and may grow further. ZC_NO_MEMORY. As zc_cat_bytes of those
    that are gathered. */
 int zc_ext_to_cord(zc_ext *x, zc_cord *out);
 
 /* The number of bytes; 0 of null. O(1). */
-uint64_t zc_ext_len(zc_ext *x);
+uint64_t zc_ext_len(const zc_ext *x);
 
 /* Frees what x owns; x is then empty, and may be used or freed again. Null is fine. */
 void zc_ext_free(zc_ext *x);
@@ -241,7 +247,7 @@ typedef struct zc_edit {
 #define ZC_EDIT_EMPTY {0}
 
 /* Edits the bytes of x from now on, in place of what was. Its tree is shared. ZC_NO_MEMORY: edit stays. O(1). */
-int zc_edit_set(zc_cord *x, zc_edit *edit);
+int zc_edit_set(const zc_cord *x, zc_edit *edit);
 
 /* Puts these bytes, of which it takes a copy, in front of the byte at: at the end where there is no such byte.
    ZC_TOO_LONG, ZC_NO_MEMORY: the text stays. O(count) beside the last edit, elsewhere O(count + d). */
@@ -249,7 +255,7 @@ int zc_edit_bytes(zc_edit *edit, uint64_t at, const void *bytes, size_t count);
 
 /* Puts the bytes of y, whose tree is shared, in place of at most count of the bytes from start on: at the end where
    there are none. ZC_TOO_LONG, ZC_NO_MEMORY: the text stays. O(d). */
-int zc_edit_cord(zc_edit *edit, uint64_t start, uint64_t count, zc_cord *y);
+int zc_edit_cord(zc_edit *edit, uint64_t start, uint64_t count, const zc_cord *y);
 
 /* Takes out at most count of the bytes from start on. ZC_NO_MEMORY: the text stays. O(1) beside the last edit,
    elsewhere O(d). */
@@ -260,7 +266,7 @@ int zc_edit_remove(zc_edit *edit, uint64_t start, uint64_t count);
 int zc_edit_to_cord(zc_edit *edit, zc_cord *out);
 
 /* The number of bytes; 0 of null. O(1). */
-uint64_t zc_edit_len(zc_edit *edit);
+uint64_t zc_edit_len(const zc_edit *edit);
 
 /* Frees what edit owns; it is then ZC_EDIT_EMPTY, and may be used or freed again. Null is fine. */
 void zc_edit_free(zc_edit *edit);
@@ -278,13 +284,13 @@ typedef struct zc_pos {
 #define ZC_POS_NOWHERE {ZC_EMPTY, 0, 0}
 
 /* Sets a position to the byte index of x, or nowhere where x has no such byte. ZC_NO_MEMORY: it stays. O(1). */
-int zc_pos_set(zc_cord *x, uint64_t index, zc_pos *position);
+int zc_pos_set(const zc_cord *x, uint64_t index, zc_pos *position);
 
 /* The index where it stands; ZC_NOT_FOUND where it stands nowhere, and of null. O(1). */
-uint64_t zc_pos_index(zc_pos *position);
+uint64_t zc_pos_index(const zc_pos *position);
 
 /* Writes the byte where it stands to *byte. ZC_PAST_END where it stands nowhere: *byte stays. O(d). */
-int zc_pos_fetch(zc_pos *position, unsigned char *byte);
+int zc_pos_fetch(const zc_pos *position, unsigned char *byte);
 
 /* Goes to the next byte, from the last one nowhere. Nowhere it stays. O(1). */
 void zc_pos_next(zc_pos *position);
@@ -316,7 +322,7 @@ typedef struct zc_chunks {
 
 /* Goes over the bytes of x from start on from now on: none where start is at or past the end. There is no chunk yet.
    ZC_NO_MEMORY: chunks stays. O(1). */
-int zc_chunks_set(zc_cord *x, uint64_t start, zc_chunks *chunks);
+int zc_chunks_set(const zc_cord *x, uint64_t start, zc_chunks *chunks);
 
 /* Goes to the next chunk, of at most 4,096 bytes, and gives its count: 0 at the end, and of null. It takes no memory.
    O(count + d). */
@@ -347,7 +353,7 @@ typedef struct zc_arg {
    ZC_WRONG_ARGUMENTS where the format takes others. ZC_BAD_VALUE where a number is negative or no byte and may not be:
    then *at is the number of the first such argument, from 0. ZC_TOO_LONG, ZC_NO_MEMORY. With other codes *at stays.
    O(format_count + count), and O(d) for each cord. */
-int zc_sprintf(const void *format, size_t format_count, zc_arg *args, size_t count, zc_cord *out, uint64_t *at);
+int zc_sprintf(const void *format, size_t format_count, const zc_arg *args, size_t count, zc_cord *out, uint64_t *at);
 
 /* ---- cords over files ---- */
 
@@ -364,30 +370,41 @@ typedef struct zc_lazy {
 int zc_lazy_of_file(uint32_t file, uint64_t length, zc_lazy *out);
 
 /* The bytes of x, whose tree is shared. ZC_NO_MEMORY. O(1). */
-int zc_lazy_from_cord(zc_cord *x, zc_lazy *out);
+int zc_lazy_from_cord(const zc_cord *x, zc_lazy *out);
 
 /* The bytes of x and then those of y. ZC_TOO_LONG, ZC_NO_MEMORY. As zc_cat. */
-int zc_lazy_cat(zc_lazy *x, zc_lazy *y, zc_lazy *out);
+int zc_lazy_cat(const zc_lazy *x, const zc_lazy *y, zc_lazy *out);
 
 /* The bytes of x from start on, at most count of them: none where start is at or past the end. ZC_NO_MEMORY. O(d). */
-int zc_lazy_substr(zc_lazy *x, uint64_t start, uint64_t count, zc_lazy *out);
+int zc_lazy_substr(const zc_lazy *x, uint64_t start, uint64_t count, zc_lazy *out);
+
+/* x with the bytes of y in front of its byte start: at its end where it has no such byte. ZC_TOO_LONG, ZC_NO_MEMORY.
+   O(d). */
+int zc_lazy_insert(const zc_lazy *x, uint64_t start, const zc_lazy *y, zc_lazy *out);
+
+/* x without at most count of its bytes from start on. ZC_NO_MEMORY. O(d). */
+int zc_lazy_remove(const zc_lazy *x, uint64_t start, uint64_t count, zc_lazy *out);
+
+/* x with the bytes of y in place of at most count of its bytes from start on. ZC_TOO_LONG, ZC_NO_MEMORY. O(d). */
+int zc_lazy_replace(const zc_lazy *x, uint64_t start, uint64_t count, const zc_lazy *y, zc_lazy *out);
 
 /* The bytes of x in a tree that isn't deep, as zc_balance. ZC_NO_MEMORY. */
-int zc_lazy_balance(zc_lazy *x, zc_lazy *out);
+int zc_lazy_balance(const zc_lazy *x, zc_lazy *out);
 
 /* The same cord once more. ZC_NO_MEMORY. O(1). */
-int zc_lazy_share(zc_lazy *x, zc_lazy *out);
+int zc_lazy_share(const zc_lazy *x, zc_lazy *out);
 
 /* The number of bytes; 0 of null. O(1). */
-uint64_t zc_lazy_len(zc_lazy *x);
+uint64_t zc_lazy_len(const zc_lazy *x);
 
 /* The depth of the tree: 0 for one part and for no bytes, and of null. O(1). */
-uint32_t zc_lazy_depth(zc_lazy *x);
+uint32_t zc_lazy_depth(const zc_lazy *x);
 
 /* The part of x at start, of at most count bytes: writes how many to *got, 0 at or past the end, and the bytes to
    bytes. ZC_IN_FILE where they are those of a file: then its number goes to *file and their place in it to *place,
    and bytes stays. It takes no memory. O(count + d). */
-int zc_lazy_part(zc_lazy *x, uint64_t start, void *bytes, size_t count, size_t *got, uint32_t *file, uint64_t *place);
+int zc_lazy_part(const zc_lazy *x, uint64_t start, void *bytes, size_t count, size_t *got, uint32_t *file,
+                 uint64_t *place);
 
 /* Frees what x owns; x is then ZC_LAZY_EMPTY, and may be used or freed again. Null is fine. */
 void zc_lazy_free(zc_lazy *x);
@@ -398,12 +415,12 @@ void zc_lazy_free(zc_lazy *x);
    call of the system that a signal interrupts is made again. */
 
 /* Writes all bytes of x to the descriptor fd. As zc_put_range, which says how many were written. */
-int zc_put(zc_cord *x, int fd);
+int zc_put(const zc_cord *x, int fd);
 
 /* Writes the bytes of x from one place up to another to the descriptor fd, as many as there are, and their number to
    *done. ZC_WRITE_FAILED, ZC_WOULD_BLOCK: then *done of them are written, and a call from the place from + *done on
    goes on. It takes no memory. O(n), and O(d) for each 16,384 bytes. */
-int zc_put_range(zc_cord *x, uint64_t from, uint64_t to, int fd, uint64_t *done);
+int zc_put_range(const zc_cord *x, uint64_t from, uint64_t to, int fd, uint64_t *done);
 
 /* The bytes that the descriptor fd gives, to its end. ZC_READ_FAILED, ZC_WOULD_BLOCK: then *out has the bytes that came
    before. ZC_TOO_LONG, ZC_NO_MEMORY: *out stays, and what was read is gone. As zc_ext_bytes of them, up to 16,384 at a
@@ -456,36 +473,36 @@ int zc_lazy_by_length(zc_files *files, const char *path, zc_lazy *out);
 /* Copies bytes of x from start on to bytes, as many as there are and at most count, and writes their number to *got:
    0 at or past the end. ZC_READ_FAILED: then *got stays, and what bytes has is open. It takes no memory, and moves no
    offset of a descriptor. O(count), and O(d) for each part. */
-int zc_lazy_read(zc_files *files, zc_lazy *x, uint64_t start, void *bytes, size_t count, size_t *got);
+int zc_lazy_read(zc_files *files, const zc_lazy *x, uint64_t start, void *bytes, size_t count, size_t *got);
 
 /* Writes all bytes of x to the descriptor fd. As zc_lazy_put_range. */
-int zc_lazy_put(zc_files *files, zc_lazy *x, int fd);
+int zc_lazy_put(zc_files *files, const zc_lazy *x, int fd);
 
 /* As zc_put_range, of a lazy cord. ZC_READ_FAILED too. */
-int zc_lazy_put_range(zc_files *files, zc_lazy *x, uint64_t from, uint64_t to, int fd, uint64_t *done);
+int zc_lazy_put_range(zc_files *files, const zc_lazy *x, uint64_t from, uint64_t to, int fd, uint64_t *done);
 
 /* Writes the byte of x at place to *byte. ZC_PAST_END at or past the end, ZC_READ_FAILED: *byte stays. O(d). */
-int zc_lazy_fetch(zc_files *files, zc_lazy *x, uint64_t place, unsigned char *byte);
+int zc_lazy_fetch(zc_files *files, const zc_lazy *x, uint64_t place, unsigned char *byte);
 
 /* Writes the first place of x from start on that has the byte to *place, or ZC_NOT_FOUND. ZC_READ_FAILED: *place stays.
    O(n). */
-int zc_lazy_chr(zc_files *files, zc_lazy *x, uint64_t start, unsigned char byte, uint64_t *place);
+int zc_lazy_chr(zc_files *files, const zc_lazy *x, uint64_t start, unsigned char byte, uint64_t *place);
 
 /* Writes the last place of x before end that has the byte to *place, or ZC_NOT_FOUND. ZC_READ_FAILED: *place stays.
    O(n). */
-int zc_lazy_rchr(zc_files *files, zc_lazy *x, uint64_t end, unsigned char byte, uint64_t *place);
+int zc_lazy_rchr(zc_files *files, const zc_lazy *x, uint64_t end, unsigned char byte, uint64_t *place);
 
 /* Writes the first place of x from start on where these bytes stand to *place, or ZC_NOT_FOUND. No bytes stand at each
    place up to the end. ZC_READ_FAILED, ZC_NO_MEMORY: *place stays. It copies 65,536 + count bytes at a time, so it takes
    O(n) for a count of up to 65,536, and count / 65,536 times as long beyond. */
-int zc_lazy_find(zc_files *files, zc_lazy *x, uint64_t start, const void *bytes, size_t count, uint64_t *place);
+int zc_lazy_find(zc_files *files, const zc_lazy *x, uint64_t start, const void *bytes, size_t count, uint64_t *place);
 
 /* Writes the order of x and y, which lie in the same files, to *order, as zc_cmp. ZC_READ_FAILED: *order stays. It
    takes no memory. O(n) at most: it reads both up to where they differ, and in parts in common too. */
-int zc_lazy_cmp(zc_files *files, zc_lazy *x, zc_lazy *y, int32_t *order);
+int zc_lazy_cmp(zc_files *files, const zc_lazy *x, const zc_lazy *y, int32_t *order);
 
 /* The bytes of x as a cord in memory. ZC_READ_FAILED, ZC_NO_MEMORY. O(n). */
-int zc_lazy_to_cord(zc_files *files, zc_lazy *x, zc_cord *out);
+int zc_lazy_to_cord(zc_files *files, const zc_lazy *x, zc_cord *out);
 
 #ifdef __cplusplus
 }

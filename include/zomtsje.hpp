@@ -184,7 +184,7 @@ public:
     }
 
     cord &append(const cord &more) {
-        detail::check(zc_append(raw(), more.raw()));
+        detail::check(zc_append(&handle_, more.raw()));
         return *this;
     }
     cord &append(std::string_view more) {
@@ -202,7 +202,7 @@ public:
 
     cord &insert(size_type place, const cord &more) {
         if (place > size()) detail::check(ZC_PAST_END);
-        detail::check(zc_splice(raw(), place, 0, more.raw()));
+        detail::check(zc_splice(&handle_, place, 0, more.raw()));
         return *this;
     }
     cord &erase(size_type place = 0, size_type count = npos) {
@@ -212,7 +212,7 @@ public:
     }
     cord &replace(size_type place, size_type count, const cord &more) {
         if (place > size()) detail::check(ZC_PAST_END);
-        detail::check(zc_splice(raw(), place, count, more.raw()));
+        detail::check(zc_splice(&handle_, place, count, more.raw()));
         return *this;
     }
 
@@ -272,8 +272,9 @@ public:
     const_iterator cbegin() const;
     const_iterator cend() const;
 
-    // The handle, for the calls of zomtsje.h: they leave the cord as it is, and move the handle while they run.
-    zc_cord *raw() const noexcept { return &handle_; }
+    // The handle, for the calls of zomtsje.h.
+    const zc_cord *raw() const noexcept { return &handle_; }
+    zc_cord *raw() noexcept { return &handle_; }
 
 private:
     std::int32_t order(size_type start, const cord &other, size_type count) const {
@@ -281,7 +282,7 @@ private:
         detail::check(zc_ncmp(raw(), start, other.raw(), 0, count, &found));
         return found;
     }
-    mutable zc_cord handle_ ZC_EMPTY;
+    zc_cord handle_ ZC_EMPTY;
 };
 
 // Bytes in both directions and by offsets; a byte is read from a block around it.
@@ -515,10 +516,9 @@ public:
     }
     // With the bytes of another cord in place of some.
     lazy_cord &replace(std::uint64_t place, std::uint64_t count, const cord &more) {
-        lazy_cord next = substr(0, place), back = place > size() || count > size() - place ? lazy_cord(*files_) : substr(place + count);
-        next += lazy_cord(*files_, more);
-        next += back;
-        return *this = std::move(next);
+        const lazy_cord with(*files_, more);
+        detail::check(zc_lazy_replace(&handle_, place, count, &with.handle_, &handle_));
+        return *this;
     }
     std::uint64_t find(std::string_view bytes, std::uint64_t start = 0) const {
         std::uint64_t place = cord::npos;
@@ -547,7 +547,7 @@ private:
     friend class file_set;
     explicit lazy_cord(file_set &files) : files_(&files) {}
     file_set *files_;
-    mutable zc_lazy handle_ ZC_LAZY_EMPTY;
+    zc_lazy handle_ ZC_LAZY_EMPTY;
 };
 
 inline lazy_cord file_set::open(const std::string &path, bool is_short_read) {

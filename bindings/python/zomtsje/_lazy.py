@@ -78,18 +78,24 @@ class LazyCord:
     def __add__(self, other: LazyCord | Cord | Bytes) -> LazyCord:
         handle, more = LazyHandle(), other
         if not isinstance(more, LazyCord):
-            more = LazyCord(self._files, LazyHandle())
-            zc.zc_lazy_from_cord(as_cord(other)._handle, more._handle)
+            more = self._in_memory(other)
         if more._files is not self._files:
             raise ValueError("the two cords are over different files")
         zc.zc_lazy_cat(self._handle, more._handle, handle)
         return LazyCord(self._files, handle)
 
+    def _in_memory(self, text: Cord | Bytes) -> LazyCord:
+        made = LazyCord(self._files, LazyHandle())
+        zc.zc_lazy_from_cord(as_cord(text)._handle, made._handle)
+        return made
+
     def replace_range(self, start: int, stop: int, more: Cord | Bytes) -> LazyCord:
         """With other bytes in place of those from one place up to another."""
         if not 0 <= start <= stop <= len(self):
             raise IndexError("place out of range")
-        return self[:start] + more + self[stop:]
+        handle, added = LazyHandle(), self._in_memory(more)
+        zc.zc_lazy_replace(self._handle, start, stop - start, added._handle, handle)
+        return LazyCord(self._files, handle)
 
     def insert(self, place: int, more: Cord | Bytes) -> LazyCord:
         """With more bytes in front of the one at a place."""

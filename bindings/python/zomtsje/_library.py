@@ -7,7 +7,7 @@ import os
 from collections.abc import Callable
 from ctypes import POINTER, c_char_p, c_int, c_int32, c_size_t, c_ubyte, c_uint32, c_uint64, c_void_p
 
-NAME = "libzomtsje.so.0.4"
+NAME = "libzomtsje.so.0.5"
 NOT_FOUND = 2**64 - 1
 MAX_LEN = 2**40 - 1
 
@@ -67,6 +67,7 @@ CODED: dict[str, list[type]] = {
     "zc_lazy_from_cord": [CORD, LAZY],
     "zc_lazy_cat": [LAZY, LAZY, LAZY],
     "zc_lazy_substr": [LAZY, U64, U64, LAZY],
+    "zc_lazy_replace": [LAZY, U64, U64, LAZY, LAZY],
     "zc_lazy_read": [FILES, LAZY, U64, c_void_p, c_size_t, SIZE],
     "zc_lazy_find": [FILES, LAZY, U64, c_char_p, c_size_t, PLACE],
     "zc_lazy_rchr": [FILES, LAZY, U64, c_ubyte, PLACE],

@@ -1,2 +1,3 @@
-pub mod Referent
+pub mod Loans
 pub mod Prints
+pub mod Referent

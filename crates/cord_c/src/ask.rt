@@ -1,6 +1,6 @@
 // What a text has.
 ghost use Rattle.std.specs.Prelude.{◌≡◌, ◌≢◌, ◌⊎◌, ◌-◌, ◌<◌, ◌≤◌, ◌==◌, [], ◌∷◌, length, take, drop, min, Some};
-ghost use Rattle.std.specs.Prelude.{None, slice_get, IfOk, OnErr, IsTrue, pos, ◌↔◌};
+ghost use Rattle.std.specs.Prelude.{None, slice_get, IsTrue, pos, ◌↔◌};
 ghost use Rattle.std.specs.List.{count_by};
 ghost use Rattle.std.specs.Ordering.{nat_cmp};
 ghost use Rattle.std.specs.Cmp.Lexicographic.{slice_cmp};
@@ -15,13 +15,13 @@ use crate::Handle;
 use crate::code::{NO_MEMORY, NOT_FOUND, NULL_POINTER, OK, PAST_END};
 use crate::copy::copy_from;
 use crate::pointer::missing;
-use cord::{CordError, MAX_DEPTH, MOST_BYTES, Text};
+use cord::{MAX_DEPTH, MOST_BYTES, Text};
 use std::alloc::Global;
 use std::cmp::Ordering;
 
 /// The number of bytes.
 #[unsafe(no_mangle)]
-pub extern "C" fn zc_len(alloc: Global, x: &mut Handle) -> u64
+pub extern "C" fn zc_len(x: &mut Handle) -> u64
     requires places { Testable (as_mut_ptr x) }
     ensures len { result ≡ length x.old.text }
     ensures x { x.new.text ≡ x.old.text }
@@ -29,15 +29,12 @@ pub extern "C" fn zc_len(alloc: Global, x: &mut Handle) -> u64
     if missing(x) {
         return 0;
     }
-    let text = x.lift(alloc);
-    let answer = text.text().len();
-    x.lower(alloc, text);
-    answer
+    x.text(&Text::empty()).len()
 }
 
 /// The depth of the tree: 0 for one part and for no bytes.
 #[unsafe(no_mangle)]
-pub extern "C" fn zc_depth(alloc: Global, x: &mut Handle) -> u32
+pub extern "C" fn zc_depth(x: &mut Handle) -> u32
     requires places { Testable (as_mut_ptr x) }
     ensures limit { result ≤ MAX_DEPTH }
     ensures x { x.new.text ≡ x.old.text }
@@ -45,15 +42,12 @@ pub extern "C" fn zc_depth(alloc: Global, x: &mut Handle) -> u32
     if missing(x) {
         return 0;
     }
-    let text = x.lift(alloc);
-    let answer = text.text().as_cord().depth();
-    x.lower(alloc, text);
-    answer
+    x.text(&Text::empty()).as_cord().depth()
 }
 
 /// Writes the byte of `x` at `place` to `byte`: `PAST_END` at or past the end, and `byte` stays.
 #[unsafe(no_mangle)]
-pub extern "C" fn zc_fetch(alloc: Global, x: &mut Handle, place: u64, byte: &mut u8) -> i32
+pub extern "C" fn zc_fetch(x: &mut Handle, place: u64, byte: &mut u8) -> i32
     requires places { Testable (as_mut_ptr x) × Testable (as_mut_ptr byte) }
     ensures byte { result ≡ OK → slice_get x.old.text place ≡ Some byte.new }
     ensures past { result ≡ PAST_END → slice_get x.old.text place ≡ None }
@@ -64,7 +58,7 @@ pub extern "C" fn zc_fetch(alloc: Global, x: &mut Handle, place: u64, byte: &mut
     if missing(x) || missing(byte) {
         return NULL_POINTER;
     }
-    let Some(found) = x.get(alloc, place) else {
+    let Some(found) = x.text(&Text::empty()).get(place) else {
         return PAST_END;
     };
     *byte = found;
@@ -73,13 +67,7 @@ pub extern "C" fn zc_fetch(alloc: Global, x: &mut Handle, place: u64, byte: &mut
 
 /// Writes the first place of `x` from `start` on that has this byte to `place`.
 #[unsafe(no_mangle)]
-pub extern "C" fn zc_chr(
-    alloc: Global,
-    x: &mut Handle,
-    start: u64,
-    byte: u8,
-    place: &mut u64,
-) -> i32
+pub extern "C" fn zc_chr(x: &mut Handle, start: u64, byte: u8, place: &mut u64) -> i32
     requires places { Testable (as_mut_ptr x) × Testable (as_mut_ptr place) }
     ensures first { result ≡ OK → place.new ≡ place_or_none (first x.old.text start (byte ∷ [])) }
     ensures code { result ≡ OK }
@@ -88,16 +76,16 @@ pub extern "C" fn zc_chr(
     if missing(x) || missing(place) {
         return NULL_POINTER;
     }
-    let text = x.lift(alloc);
-    let found = text.text().find_byte(byte, start).unwrap_or(NOT_FOUND);
-    x.lower(alloc, text);
-    *place = found;
+    *place = x
+        .text(&Text::empty())
+        .find_byte(byte, start)
+        .unwrap_or(NOT_FOUND);
     OK
 }
 
 /// Writes the last place of `x` before `end` that has this byte to `place`.
 #[unsafe(no_mangle)]
-pub extern "C" fn zc_rchr(alloc: Global, x: &mut Handle, end: u64, byte: u8, place: &mut u64) -> i32
+pub extern "C" fn zc_rchr(x: &mut Handle, end: u64, byte: u8, place: &mut u64) -> i32
     requires places { Testable (as_mut_ptr x) × Testable (as_mut_ptr place) }
     ensures last { result ≡ OK → place.new ≡ place_or_none (last_before x.old.text end byte) }
     ensures code { result ≡ OK }
@@ -106,40 +94,31 @@ pub extern "C" fn zc_rchr(alloc: Global, x: &mut Handle, end: u64, byte: u8, pla
     if missing(x) || missing(place) {
         return NULL_POINTER;
     }
-    let text = x.lift(alloc);
-    let found = text.text().rfind_byte(byte, end).unwrap_or(NOT_FOUND);
-    x.lower(alloc, text);
-    *place = found;
+    *place = x
+        .text(&Text::empty())
+        .rfind_byte(byte, end)
+        .unwrap_or(NOT_FOUND);
     OK
 }
 
 /// Writes the first place of `x` from `start` on where the bytes of `y` stand to `place`. No bytes stand at each place
 /// up to the end.
 #[unsafe(no_mangle)]
-pub extern "C" fn zc_str(
-    alloc: Global,
-    x: &mut Handle,
-    start: u64,
-    y: &mut Handle,
-    place: &mut u64,
-) -> i32
+pub extern "C" fn zc_str(x: &mut Handle, start: u64, y: &mut Handle, place: &mut u64) -> i32
     requires places { Testable (as_mut_ptr x) × Testable (as_mut_ptr y) × Testable (as_mut_ptr place) }
     ensures first { result ≡ OK → place.new ≡ place_or_none (first x.old.text start y.old.text) }
-    ensures kept { (result ≡ OK) ⊎ (place.new ≡ place.old) }
-    ensures code { MayLackMemory result }
+    ensures code { result ≡ OK }
     ensures x { x.new.text ≡ x.old.text }
     ensures y { y.new.text ≡ y.old.text }
 {
     if missing(x) || missing(y) || missing(place) {
         return NULL_POINTER;
     }
-    match x.read_with(alloc, y) {
-        Ok((left, right)) => {
-            *place = left.find_text(&right, start).unwrap_or(NOT_FOUND);
-            OK
-        }
-        Err(_) => NO_MEMORY,
-    }
+    let found = x
+        .text(&Text::empty())
+        .find_text(y.text(&Text::empty()), start);
+    *place = found.unwrap_or(NOT_FOUND);
+    OK
 }
 
 /// Writes the first place of `x` from `start` on where these bytes stand to `place`. No bytes stand at each place up to
@@ -162,10 +141,7 @@ pub extern "C" fn zc_find(
     if missing(x) || missing(place) {
         return NULL_POINTER;
     }
-    let text = x.lift(alloc);
-    let found = text.text().find(alloc, bytes, start);
-    x.lower(alloc, text);
-    let Ok(found) = found else {
+    let Ok(found) = x.text(&Text::empty()).find(alloc, bytes, start) else {
         return NO_MEMORY;
     };
     *place = found.unwrap_or(NOT_FOUND);
@@ -174,7 +150,7 @@ pub extern "C" fn zc_find(
 
 /// Whether `x` begins with these bytes: 1, else 0.
 #[unsafe(no_mangle)]
-pub extern "C" fn zc_starts_with(alloc: Global, x: &mut Handle, bytes: &[u8]) -> i32
+pub extern "C" fn zc_starts_with(x: &mut Handle, bytes: &[u8]) -> i32
     requires places { Testable (as_mut_ptr x) }
     ensures answer { (result ≡ pos 1) ↔ BeginsWith x.old.text bytes.now }
     ensures number { (result ≡ pos 0) ⊎ (result ≡ pos 1) }
@@ -183,15 +159,12 @@ pub extern "C" fn zc_starts_with(alloc: Global, x: &mut Handle, bytes: &[u8]) ->
     if missing(x) {
         return 0;
     }
-    let text = x.lift(alloc);
-    let answer = text.text().starts_with(bytes);
-    x.lower(alloc, text);
-    truth(answer)
+    truth(x.text(&Text::empty()).starts_with(bytes))
 }
 
 /// Whether `x` ends with these bytes: 1, else 0.
 #[unsafe(no_mangle)]
-pub extern "C" fn zc_ends_with(alloc: Global, x: &mut Handle, bytes: &[u8]) -> i32
+pub extern "C" fn zc_ends_with(x: &mut Handle, bytes: &[u8]) -> i32
     requires places { Testable (as_mut_ptr x) }
     ensures answer { (result ≡ pos 1) ↔ EndsWith x.old.text bytes.now }
     ensures number { (result ≡ pos 0) ⊎ (result ≡ pos 1) }
@@ -200,10 +173,7 @@ pub extern "C" fn zc_ends_with(alloc: Global, x: &mut Handle, bytes: &[u8]) -> i
     if missing(x) {
         return 0;
     }
-    let text = x.lift(alloc);
-    let answer = text.text().ends_with(bytes);
-    x.lower(alloc, text);
-    truth(answer)
+    truth(x.text(&Text::empty()).ends_with(bytes))
 }
 
 // An answer as C is told it.
@@ -216,42 +186,36 @@ fn truth(answer: bool) -> i32
 
 /// Writes 1 to `equal` where both have the same bytes, else 0.
 #[unsafe(no_mangle)]
-pub extern "C" fn zc_equal(alloc: Global, x: &mut Handle, y: &mut Handle, equal: &mut i32) -> i32
+pub extern "C" fn zc_equal(x: &mut Handle, y: &mut Handle, equal: &mut i32) -> i32
     requires places { Testable (as_mut_ptr x) × Testable (as_mut_ptr y) × Testable (as_mut_ptr equal) }
     ensures equal { result ≡ OK → (equal.new ≡ pos 1) ↔ (x.old.text ≡ y.old.text) }
     ensures number { result ≡ OK → (equal.new ≡ pos 0) ⊎ (equal.new ≡ pos 1) }
-    ensures kept { (result ≡ OK) ⊎ (equal.new ≡ equal.old) }
-    ensures code { MayLackMemory result }
+    ensures code { result ≡ OK }
     ensures x { x.new.text ≡ x.old.text }
     ensures y { y.new.text ≡ y.old.text }
 {
     if missing(x) || missing(y) || missing(equal) {
         return NULL_POINTER;
     }
-    match x.read_with(alloc, y) {
-        Ok((left, right)) => {
-            *equal = truth(left == right);
-            OK
-        }
-        Err(_) => NO_MEMORY,
-    }
+    *equal = truth(x.text(&Text::empty()) == y.text(&Text::empty()));
+    OK
 }
 
 /// Writes the order of the two lists of bytes to `order`: -1 where `x` comes first, 0 where they are equal, 1 where `y`
 /// comes first.
 #[unsafe(no_mangle)]
-pub extern "C" fn zc_cmp(alloc: Global, x: &mut Handle, y: &mut Handle, order: &mut i32) -> i32
+pub extern "C" fn zc_cmp(x: &mut Handle, y: &mut Handle, order: &mut i32) -> i32
     requires places { Testable (as_mut_ptr x) × Testable (as_mut_ptr y) × Testable (as_mut_ptr order) }
     ensures order { result ≡ OK → order.new ≡ sign_of (slice_cmp nat_cmp x.old.text y.old.text) }
-    ensures kept { (result ≡ OK) ⊎ (order.new ≡ order.old) }
-    ensures code { MayLackMemory result }
+    ensures code { result ≡ OK }
     ensures x { x.new.text ≡ x.old.text }
     ensures y { y.new.text ≡ y.old.text }
 {
     if missing(x) || missing(y) || missing(order) {
         return NULL_POINTER;
     }
-    write_order(order, x.read_with(alloc, y))
+    *order = sign(x.text(&Text::empty()).compare(y.text(&Text::empty())));
+    OK
 }
 
 /// As `zc_cmp`, of at most `count` bytes of `x` from `i` on and of `y` from `j` on.
@@ -276,21 +240,14 @@ pub extern "C" fn zc_ncmp(
     if missing(x) || missing(y) || missing(order) {
         return NULL_POINTER;
     }
-    write_order(order, x.parts_with(alloc, i, y, j, count))
-}
-
-// Writes the order of two texts, where there was memory for them.
-fn write_order(order: &mut i32, texts: Result<(Text, Text), CordError>) -> i32
-    ensures order { IfOk texts (λ t. (result ≡ OK) × (order.new ≡ sign_of (slice_cmp nat_cmp t.0 t.1))) }
-    ensures refused { OnErr texts ((result ≡ NO_MEMORY) × (order.new ≡ order.old)) }
-{
-    match texts {
-        Ok((left, right)) => {
-            *order = sign(left.compare(&right));
-            OK
-        }
-        Err(_) => NO_MEMORY,
-    }
+    let Ok(left) = x.text(&Text::empty()).substr(alloc, i, count) else {
+        return NO_MEMORY;
+    };
+    let Ok(right) = y.text(&Text::empty()).substr(alloc, j, count) else {
+        return NO_MEMORY;
+    };
+    *order = sign(left.compare(&right));
+    OK
 }
 
 // An order as C is told it.
@@ -306,7 +263,7 @@ fn sign(ordering: Ordering) -> i32
 
 /// How many bytes of `x` are this one.
 #[unsafe(no_mangle)]
-pub extern "C" fn zc_count(alloc: Global, x: &mut Handle, byte: u8) -> u64
+pub extern "C" fn zc_count(x: &mut Handle, byte: u8) -> u64
     requires places { Testable (as_mut_ptr x) }
     ensures count { result ≡ count_by (λ own. own == byte) x.old.text }
     ensures x { x.new.text ≡ x.old.text }
@@ -314,16 +271,13 @@ pub extern "C" fn zc_count(alloc: Global, x: &mut Handle, byte: u8) -> u64
     if missing(x) {
         return 0;
     }
-    let text = x.lift(alloc);
-    let answer = text.text().count_of(byte);
-    x.lower(alloc, text);
-    answer
+    x.text(&Text::empty()).count_of(byte)
 }
 
 /// Copies as many bytes of `x` from `start` on as `bytes` has: `PAST_END` where there are fewer, and then `bytes`
 /// stays.
 #[unsafe(no_mangle)]
-pub extern "C" fn zc_to_bytes(alloc: Global, x: &mut Handle, start: u64, bytes: &mut [u8]) -> i32
+pub extern "C" fn zc_to_bytes(x: &mut Handle, start: u64, bytes: &mut [u8]) -> i32
     requires places { Testable (as_mut_ptr x) }
     ensures bytes { result ≡ OK → bytes.new ≡ take (length bytes.old) (drop start x.old.text) }
     ensures few { result ≡ PAST_END → length x.old.text - start < length bytes.old }
@@ -334,27 +288,18 @@ pub extern "C" fn zc_to_bytes(alloc: Global, x: &mut Handle, start: u64, bytes: 
     if missing(x) {
         return NULL_POINTER;
     }
-    let text = x.lift(alloc);
-    let left = text.text().len().saturating_sub(start);
-    let code = if left < bytes.len() as u64 {
-        PAST_END
-    } else {
-        copy_from(text.text(), start, bytes);
-        OK
-    };
-    x.lower(alloc, text);
-    code
+    let none = Text::empty();
+    let text = x.text(&none);
+    if text.len().saturating_sub(start) < bytes.len() as u64 {
+        return PAST_END;
+    }
+    copy_from(text, start, bytes);
+    OK
 }
 
 /// Copies bytes of `x` from `start` on, as many as there are and `bytes` has room for, and writes how many to `got`.
 #[unsafe(no_mangle)]
-pub extern "C" fn zc_read(
-    alloc: Global,
-    x: &mut Handle,
-    start: u64,
-    bytes: &mut [u8],
-    got: &mut usize,
-) -> i32
+pub extern "C" fn zc_read(x: &mut Handle, start: u64, bytes: &mut [u8], got: &mut usize) -> i32
     requires places { Testable (as_mut_ptr x) × Testable (as_mut_ptr got) }
     ensures got { result ≡ OK → got.new ≡ min (length bytes.old) (length x.old.text - start) }
     ensures bytes { result ≡ OK → take got.new bytes.new ≡ take (length bytes.old) (drop start x.old.text) }
@@ -366,9 +311,6 @@ pub extern "C" fn zc_read(
     if missing(x) || missing(got) {
         return NULL_POINTER;
     }
-    let text = x.lift(alloc);
-    let count = copy_from(text.text(), start, bytes);
-    x.lower(alloc, text);
-    *got = count;
+    *got = copy_from(x.text(&Text::empty()), start, bytes);
     OK
 }

@@ -6,7 +6,7 @@ ghost use denote.RawPtr.{Testable};
 ghost use Rattle.core.specs.Ptr.{as_mut_ptr};
 
 use crate::Handle;
-use crate::code::{NO_MEMORY, NULL_POINTER, OK, PAST_END, TOO_LONG, code_of};
+use crate::code::{NO_MEMORY, NULL_POINTER, OK, PAST_END, TOO_LONG};
 use crate::pointer::missing;
 use cord::{MAX_LEN, Text};
 use std::alloc::Global;
@@ -29,10 +29,8 @@ pub extern "C" fn zc_substr(
     if missing(x) || missing(out) {
         return NULL_POINTER;
     }
-    let Ok(text) = x.part(alloc, start, count) else {
-        return NO_MEMORY;
-    };
-    out.hold(alloc, text)
+    let made = x.text(&Text::empty()).substr(alloc, start, count);
+    out.hold_within(alloc, made)
 }
 
 /// The bytes of `x` in a tree that is not deep.
@@ -47,13 +45,8 @@ pub extern "C" fn zc_balance(alloc: Global, x: &mut Handle, out: &mut Handle) ->
     if missing(x) || missing(out) {
         return NULL_POINTER;
     }
-    let Ok(old) = x.read(alloc) else {
-        return NO_MEMORY;
-    };
-    match old.balance(alloc) {
-        Ok(text) => out.hold(alloc, text),
-        Err(_) => NO_MEMORY,
-    }
+    let made = x.text(&Text::empty()).balance(alloc);
+    out.hold_within(alloc, made)
 }
 
 /// `x` with the bytes of `y` in front of its byte `start`: at its end where it has no such byte.
@@ -77,13 +70,10 @@ pub extern "C" fn zc_insert(
     if missing(x) || missing(y) || missing(out) {
         return NULL_POINTER;
     }
-    match x.read_with(alloc, y) {
-        Ok((left, right)) => match left.insert(alloc, start, &right) {
-            Ok(text) => out.hold(alloc, text),
-            Err(refusal) => code_of(refusal),
-        },
-        Err(_) => NO_MEMORY,
-    }
+    let made = x
+        .text(&Text::empty())
+        .insert(alloc, start, y.text(&Text::empty()));
+    out.hold(alloc, made)
 }
 
 /// `x` without at most `count` of its bytes from `start` on.
@@ -104,13 +94,8 @@ pub extern "C" fn zc_remove(
     if missing(x) || missing(out) {
         return NULL_POINTER;
     }
-    let Ok(old) = x.read(alloc) else {
-        return NO_MEMORY;
-    };
-    match old.remove(alloc, start, count) {
-        Ok(text) => out.hold(alloc, text),
-        Err(_) => NO_MEMORY,
-    }
+    let made = x.text(&Text::empty()).remove(alloc, start, count);
+    out.hold_within(alloc, made)
 }
 
 /// `x` with the bytes of `y` in place of at most `count` of its bytes from `start` on.
@@ -138,13 +123,10 @@ pub extern "C" fn zc_replace(
     if missing(x) || missing(y) || missing(out) {
         return NULL_POINTER;
     }
-    match x.read_with(alloc, y) {
-        Ok((old, new)) => match old.replace_range(alloc, start, count, &new) {
-            Ok(text) => out.hold(alloc, text),
-            Err(refusal) => code_of(refusal),
-        },
-        Err(_) => NO_MEMORY,
-    }
+    let replaced = x
+        .text(&Text::empty())
+        .replace_range(alloc, start, count, y.text(&Text::empty()));
+    out.hold(alloc, replaced)
 }
 
 /// Puts the bytes of `y` in place of at most `count` of the bytes of `x` from `start` on.
@@ -170,13 +152,10 @@ pub extern "C" fn zc_splice(
     if missing(x) || missing(y) {
         return NULL_POINTER;
     }
-    match x.read_with(alloc, y) {
-        Ok((own, with)) => match own.replace_range(alloc, start, count, &with) {
-            Ok(text) => x.hold(alloc, text),
-            Err(refusal) => code_of(refusal),
-        },
-        Err(_) => NO_MEMORY,
-    }
+    let edited = x
+        .text(&Text::empty())
+        .replace_range(alloc, start, count, y.text(&Text::empty()));
+    x.hold(alloc, edited)
 }
 
 /// Line `number` of `x`, from 0, without its end: `PAST_END` where it has no more lines than that. A line ends with
@@ -193,11 +172,8 @@ pub extern "C" fn zc_nth_line(alloc: Global, x: &mut Handle, number: u64, out: &
     if missing(x) || missing(out) {
         return NULL_POINTER;
     }
-    let Ok(old) = x.read(alloc) else {
-        return NO_MEMORY;
-    };
-    match old.nth_line(alloc, number) {
-        Ok(Some(line)) => out.hold(alloc, line),
+    match x.text(&Text::empty()).nth_line(alloc, number) {
+        Ok(Some(line)) => out.hold_within(alloc, Ok(line)),
         Ok(None) => PAST_END,
         Err(_) => NO_MEMORY,
     }

@@ -8,7 +8,7 @@ ghost use Rattle.core.specs.Ptr.{as_mut_ptr};
 use crate::code::{NO_MEMORY, NULL_POINTER, OK, TOO_LONG, code_of};
 use crate::pointer::missing;
 use crate::{Editor, Handle};
-use cord::{MAX_LEN, TextEditor};
+use cord::{MAX_LEN, Text, TextEditor};
 use std::alloc::Global;
 
 /// The bytes of `x` are edited from now on, in place of what was. Its tree is shared.
@@ -23,10 +23,7 @@ pub extern "C" fn zc_edit_set(alloc: Global, x: &mut Handle, edit: &mut Editor) 
     if missing(x) || missing(edit) {
         return NULL_POINTER;
     }
-    let text = x.lift(alloc);
-    let made = TextEditor::of(alloc, text.text());
-    x.lower(alloc, text);
-    match made {
+    match TextEditor::of(alloc, x.text(&Text::empty())) {
         Ok(text) => edit.hold(alloc, text),
         Err(_) => NO_MEMORY,
     }
@@ -34,7 +31,7 @@ pub extern "C" fn zc_edit_set(alloc: Global, x: &mut Handle, edit: &mut Editor) 
 
 /// The number of bytes.
 #[unsafe(no_mangle)]
-pub extern "C" fn zc_edit_len(alloc: Global, edit: &mut Editor) -> u64
+pub extern "C" fn zc_edit_len(edit: &mut Editor) -> u64
     requires places { Testable (as_mut_ptr edit) }
     ensures len { result ≡ length (edited_of edit.old) }
     ensures edit { edited_of edit.new ≡ edited_of edit.old }
@@ -42,10 +39,10 @@ pub extern "C" fn zc_edit_len(alloc: Global, edit: &mut Editor) -> u64
     if missing(edit) {
         return 0;
     }
-    let held = edit.handle.lift(alloc);
-    let answer = held.edited_len();
-    edit.handle.lower(alloc, held);
-    answer
+    match edit.handle.lent() {
+        Some(referent) => referent.edited_len(),
+        None => 0,
+    }
 }
 
 /// Puts these bytes, of which it takes a copy, in front of the byte `at`: at the end where there is no such byte.
@@ -122,9 +119,9 @@ pub extern "C" fn zc_edit_cord(
     let Ok(mut taken) = edit.take(alloc) else {
         return NO_MEMORY;
     };
-    let text = y.lift(alloc);
-    let done = taken.text.replace_range(alloc, start, count, text.text());
-    y.lower(alloc, text);
+    let done = taken
+        .text
+        .replace_range(alloc, start, count, y.text(&Text::empty()));
     edit.put_back(alloc, taken);
     match done {
         Ok(()) => OK,
@@ -149,10 +146,7 @@ pub extern "C" fn zc_edit_to_cord(alloc: Global, edit: &mut Editor, out: &mut Ha
     };
     let made = taken.text.to_text(alloc);
     edit.put_back(alloc, taken);
-    match made {
-        Ok(text) => out.hold(alloc, text),
-        Err(_) => NO_MEMORY,
-    }
+    out.hold_within(alloc, made)
 }
 
 /// Frees what `edit` owns, which then has no bytes.

@@ -32,7 +32,7 @@ impl Editor {
         ensures unchanged { IsErr result → edited_of self.new ≡ edited_of self.old }
         ensures refused { IsOkUnless result CordError.NoMemory }
     {
-        let mut place = match self.handle.lift_box(alloc) {
+        let mut place = match self.handle.lift(alloc) {
             Some(place) => place,
             None => Box::new(alloc, Referent::Nothing)?,
         };
@@ -49,7 +49,7 @@ impl Editor {
     {
         let Taken { text, mut place } = taken;
         *place = Referent::Editor(text);
-        self.handle.lower_box(alloc, Some(place));
+        self.handle.lower(place);
     }
 
     /// Holds this text from now on, and frees the one that it held. Refused for want of memory alone, where the pointer

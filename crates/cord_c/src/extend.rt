@@ -7,9 +7,10 @@ ghost use Rattle.cord_c.specs.Grown.{grown};
 ghost use denote.RawPtr.{Testable};
 ghost use Rattle.core.specs.Ptr.{as_mut_ptr};
 
-use crate::code::{NO_MEMORY, NULL_POINTER, OK, TOO_LONG, code_of};
+use crate::code::{NULL_POINTER, OK, TOO_LONG, code_of};
 use crate::extensible::ROOM;
 use crate::pointer::missing;
+use crate::referent::Referent;
 use crate::{Extensible, Handle};
 use cord::{CordError, MAX_LEN, Text};
 use std::alloc::Global;
@@ -79,10 +80,7 @@ pub extern "C" fn zc_ext_cord(alloc: Global, x: &mut Extensible, y: &mut Handle)
     if missing(x) || missing(y) {
         return NULL_POINTER;
     }
-    let Ok(more) = y.read(alloc) else {
-        return NO_MEMORY;
-    };
-    match x.append_text(alloc, &more) {
+    match x.append_text(alloc, y.text(&Text::empty())) {
         Ok(()) => OK,
         Err(refusal) => code_of(refusal),
     }
@@ -100,10 +98,8 @@ pub extern "C" fn zc_ext_to_cord(alloc: Global, x: &mut Extensible, out: &mut Ha
     if missing(x) || missing(out) {
         return NULL_POINTER;
     }
-    match x.to_text(alloc) {
-        Ok(text) => out.hold(alloc, text),
-        Err(_) => NO_MEMORY,
-    }
+    let made = x.to_text(alloc);
+    out.hold_within(alloc, made)
 }
 
 /// Frees what `x` owns, which then has no bytes.
@@ -225,7 +221,7 @@ impl Extensible {
         ensures refused { IsOkUnless result CordError.NoMemory }
     {
         let len = whole.len();
-        if self.built.hold(alloc, whole) != OK {
+        if self.built.keep(alloc, Referent::Text(whole)) != OK {
             return Err(CordError::NoMemory);
         }
         self.count = 0;

@@ -1,18 +1,19 @@
 //! What a `zc_cord` of C is: a pointer to a text on the heap, or null for the text of no bytes.
-ghost use Rattle.std.specs.Prelude.{◌≡◌, ◌⊎◌, ℕ, List, take, drop, IfOk, IsOkUnless, MatchOption, slice_get};
+ghost use Rattle.std.specs.Prelude.{◌≡◌, ◌⊎◌, ◌-◌, ℕ, List, [], length, take, drop, min, MatchOption};
+ghost use Rattle.std.specs.Prelude.{Ok, Err, IfOk, IfErr, IsOkUnless};
 ghost use denote.RawPtr.{Testable};
-ghost use Rattle.cord_c.specs.Codes.{MayLackMemory};
+ghost use Rattle.cord_core.specs.Refusals.{IsRefusal};
+ghost use Rattle.cord_c.specs.Codes.{MayBeTooLong, MayLackMemory};
 ghost use Rattle.cord_c.specs.Handles.{handle_owns};
 ghost use Rattle.cord_c.specs.Referent.{text_by};
 ghost use Rattle.cord_c.specs.inner.Referent.{referent_in};
 ghost use Rattle.cord_c.specs.contracts.referent.Referent as row;
 ghost use Rattle.cord_c.specs.declared.referent.Referent.{Referent};
 
-use crate::code::{NO_MEMORY, OK};
-use crate::lifted::Lifted;
+use crate::code::{NO_MEMORY, OK, TOO_LONG, code_of};
+use crate::copy::copy_from;
 use crate::referent::Referent;
 use cord::{CordError, Text};
-use cord_core::Cord;
 use cord_raw::Raw;
 use std::alloc::Global;
 use std::marker::Model;
@@ -44,6 +45,9 @@ impl Drop for Handle {
 }
 
 impl Handle {
+    ghost use types.Logic.{sem};
+    ghost use Rattle.cord_c.specs.inner.Loans.{LendsReferent, KeepsText};
+
     /// The handle of the text of no bytes: null.
     pub(crate) fn empty(alloc: Global) -> Handle
         ensures { result.referent ≡ Referent.Nothing }
@@ -79,21 +83,50 @@ impl Handle {
         })
     }
 
-    /// Takes away what it holds, and leaves nothing.
-    pub(crate) fn lift(&mut self, alloc: Global) -> Lifted
-        ensures referent { referent_in result.held ≡ self.old.referent }
-        ensures text { text_by (referent_in result.held) ≡ self.old.text }
-        ensures left { self.new.referent ≡ Referent.Nothing }
+    /// What lies on the heap, where it lies: nothing where the pointer is null.
+    pub(crate) fn lent(&mut self) -> Option<&mut Referent>
+        ensures* given_back { sem 𝓛 (LendsReferent self.entry result) }
+        ensures value { MatchOption result (self.old.referent ≡ Referent.Nothing) (λ r. r.now ≡ self.old.referent) }
     {
-        Lifted {
-            held: self.lift_box(alloc),
-            no_text: Text::empty(),
-            no_cord: Cord::empty(),
+        let at = self.at;
+        if at.is_null() {
+            return None;
+        }
+        Some(unsafe { &mut *(at as *mut Referent) })
+    }
+
+    /// Its text, where it lies: `none` where there is none.
+    pub(crate) fn text<'a>(&'a mut self, none: &'a Text) -> &'a Text
+        requires none { none.now ≡ [] }
+        ensures* kept { sem 𝓛 (KeepsText self.entry) }
+        ensures text { result.now ≡ self.old.text }
+    {
+        match self.lent() {
+            Some(referent) => referent.text_or(none),
+            None => none,
         }
     }
 
-    /// As `lift`: nothing where the pointer is null.
-    pub(crate) fn lift_box(&mut self, alloc: Global) -> Option<Box<Referent, Global>>
+    /// Copies bytes of its text from `start` on, as many as there are and `bytes` has room for: how many.
+    pub(crate) fn copy_to(&mut self, start: u64, bytes: &mut [u8]) -> usize
+        ensures count { result ≡ min (length bytes.old) (length self.old.text - start) }
+        ensures bytes { take result bytes.new ≡ take (length bytes.old) (drop start self.old.text) }
+        ensures same { self.new.text ≡ self.old.text }
+    {
+        copy_from(self.text(&Text::empty()), start, bytes)
+    }
+
+    /// Its text once more, which shares its tree. Refused for want of memory alone.
+    pub(crate) fn read(&mut self, alloc: Global) -> Result<Text, CordError>
+        ensures text { IfOk result (λ t. t ≡ self.old.text) }
+        ensures same { self.new.text ≡ self.old.text }
+        ensures refused { IsOkUnless result CordError.NoMemory }
+    {
+        self.text(&Text::empty()).share(alloc)
+    }
+
+    /// Takes away what it holds, and leaves nothing: nothing where the pointer is null.
+    pub(crate) fn lift(&mut self, alloc: Global) -> Option<Box<Referent, Global>>
         ensures referent { referent_in result ≡ self.old.referent }
         ensures left { self.new.referent ≡ Referent.Nothing }
     {
@@ -104,23 +137,11 @@ impl Handle {
         }
     }
 
-    /// Holds what was lifted from now on.
-    pub(crate) fn lower(&mut self, alloc: Global, held: Lifted)
-        ensures referent { self.new.referent ≡ referent_in held.held }
-        ensures text { self.new.text ≡ text_by (referent_in held.held) }
+    /// Holds what was lifted from now on, and frees what it held.
+    pub(crate) fn lower(&mut self, held: Box<Referent, Global>)
+        ensures { self.new.referent ≡ held.value }
     {
-        let Lifted { held, .. } = held;
-        self.lower_box(alloc, held);
-    }
-
-    /// As `lower`: nothing makes the pointer null.
-    pub(crate) fn lower_box(&mut self, alloc: Global, held: Option<Box<Referent, Global>>)
-        ensures { self.new.referent ≡ referent_in held }
-    {
-        match held {
-            None => *self = Handle::empty(alloc),
-            Some(referent) => *self = Handle::of(Raw::of(referent)),
-        }
+        *self = Handle::of(Raw::of(held));
     }
 
     /// Holds this from now on, and frees what it held, whose place on the heap it takes. Refused for want of memory
@@ -130,98 +151,40 @@ impl Handle {
         ensures same { (result ≡ OK) ⊎ (self.new.referent ≡ self.old.referent) }
         ensures code { MayLackMemory result }
     {
-        let held = match self.lift_box(alloc) {
-            Some(mut held) => {
-                *held = referent;
-                held
-            }
-            None => match Box::new(alloc, referent) {
-                Ok(held) => held,
-                Err(_) => return NO_MEMORY,
-            },
-        };
-        self.lower_box(alloc, Some(held));
+        if let Some(held) = self.lent() {
+            *held = referent;
+            return OK;
+        }
+        match Box::new(alloc, referent) {
+            Ok(held) => self.lower(held),
+            Err(_) => return NO_MEMORY,
+        }
         OK
     }
 
-    /// Holds this text from now on, as `keep`.
-    pub(crate) fn hold(&mut self, alloc: Global, text: Text) -> i32
-        ensures held { result ≡ OK → self.new.text ≡ text }
+    /// Holds the text that was made, as `keep`. Where none was made, it stays.
+    pub(crate) fn hold(&mut self, alloc: Global, made: Result<Text, CordError>) -> i32
+        requires refused { IfErr made IsRefusal }
+        ensures held { result ≡ OK → made ≡ Ok self.new.text }
+        ensures kept { (result ≡ OK) ⊎ (self.new.text ≡ self.old.text) }
+        ensures too_long { result ≡ TOO_LONG → made ≡ Err CordError.TooLong }
+        ensures code { MayBeTooLong result }
+    {
+        match made {
+            Ok(text) => self.keep(alloc, Referent::Text(text)),
+            Err(refusal) => code_of(refusal),
+        }
+    }
+
+    /// As `hold`, of what only want of memory refuses.
+    pub(crate) fn hold_within(&mut self, alloc: Global, made: Result<Text, CordError>) -> i32
+        ensures held { result ≡ OK → made ≡ Ok self.new.text }
         ensures kept { (result ≡ OK) ⊎ (self.new.text ≡ self.old.text) }
         ensures code { MayLackMemory result }
     {
-        self.keep(alloc, Referent::Text(text))
-    }
-
-    /// At most `count` of its bytes from `start` on, as a text that shares its tree. Refused for want of memory alone.
-    pub(crate) fn part(&mut self, alloc: Global, start: u64, count: u64) -> Result<Text, CordError>
-        ensures text { IfOk result (λ t. t ≡ take count (drop start self.old.text)) }
-        ensures same { self.new.text ≡ self.old.text }
-        ensures refused { IsOkUnless result CordError.NoMemory }
-    {
-        let whole = self.lift(alloc);
-        let part = whole.text().substr(alloc, start, count);
-        self.lower(alloc, whole);
-        part
-    }
-
-    /// At most `count` of its bytes from `start` on and of those of another handle from `other_start` on, as two texts.
-    /// Refused for want of memory alone.
-    pub(crate) fn parts_with(
-        &mut self,
-        alloc: Global,
-        start: u64,
-        other: &mut Handle,
-        other_start: u64,
-        count: u64,
-    ) -> Result<(Text, Text), CordError>
-        ensures own { IfOk result (λ t. t.0 ≡ take count (drop start self.old.text)) }
-        ensures others { IfOk result (λ t. t.1 ≡ take count (drop other_start other.old.text)) }
-        ensures same { self.new.text ≡ self.old.text }
-        ensures other { other.new.text ≡ other.old.text }
-        ensures refused { IsOkUnless result CordError.NoMemory }
-    {
-        let own = self.part(alloc, start, count)?;
-        let others = other.part(alloc, other_start, count)?;
-        Ok((own, others))
-    }
-
-    /// Its byte at a place, nothing at or past the end.
-    pub(crate) fn get(&mut self, alloc: Global, place: u64) -> Option<u8>
-        ensures byte { result ≡ slice_get self.old.text place }
-        ensures same { self.new.text ≡ self.old.text }
-    {
-        let text = self.lift(alloc);
-        let found = text.text().get(place);
-        self.lower(alloc, text);
-        found
-    }
-
-    /// The text once more, which shares its tree. Refused for want of memory alone.
-    pub(crate) fn read(&mut self, alloc: Global) -> Result<Text, CordError>
-        ensures text { IfOk result (λ t. t ≡ self.old.text) }
-        ensures same { self.new.text ≡ self.old.text }
-        ensures refused { IsOkUnless result CordError.NoMemory }
-    {
-        let text = self.lift(alloc);
-        let shared = text.text().share(alloc);
-        self.lower(alloc, text);
-        shared
-    }
-
-    /// The text and that of another handle, once more. Refused for want of memory alone.
-    pub(crate) fn read_with(
-        &mut self,
-        alloc: Global,
-        other: &mut Handle,
-    ) -> Result<(Text, Text), CordError>
-        ensures texts { IfOk result (λ t. (t.0 ≡ self.old.text) × (t.1 ≡ other.old.text)) }
-        ensures same { self.new.text ≡ self.old.text }
-        ensures other { other.new.text ≡ other.old.text }
-        ensures refused { IsOkUnless result CordError.NoMemory }
-    {
-        let own = self.read(alloc)?;
-        let others = other.read(alloc)?;
-        Ok((own, others))
+        match made {
+            Ok(text) => self.keep(alloc, Referent::Text(text)),
+            Err(_) => NO_MEMORY,
+        }
     }
 }

@@ -1,10 +1,11 @@
 //! What a `zc_lazy` of C is: a cord that may have parts in files.
-ghost use Rattle.std.specs.Prelude.{◌≡◌, ◌⊎◌, IfOk, IsOkUnless};
-ghost use Rattle.cord_c.specs.Codes.{MayLackMemory};
+ghost use Rattle.std.specs.Prelude.{◌≡◌, ◌⊎◌, None, Ok, Err, IfErr};
+ghost use Rattle.cord_core.specs.Refusals.{IsRefusal};
+ghost use Rattle.cord_c.specs.Codes.{MayBeTooLong, MayLackMemory};
 ghost use Rattle.cord_c.specs.Lazy.{cord_of};
 
 use crate::Handle;
-use crate::code::OK;
+use crate::code::{NO_MEMORY, OK, TOO_LONG, code_of};
 use crate::referent::Referent;
 use cord::CordError;
 use cord_core::Cord;
@@ -18,41 +19,44 @@ pub struct LazyHandle {
 }
 
 impl LazyHandle {
-    /// The cord once more, which shares its tree. Refused for want of memory alone.
-    pub(crate) fn read(&mut self, alloc: Global) -> Result<Cord, CordError>
-        ensures cord { IfOk result (λ c. c ≡ cord_of self.old) }
-        ensures same { cord_of self.new ≡ cord_of self.old }
-        ensures refused { IsOkUnless result CordError.NoMemory }
+    ghost use types.Logic.{sem};
+    ghost use Rattle.cord_c.specs.inner.Loans.{KeepsCord};
+
+    /// Its cord, where it lies: `none` where there is none.
+    pub(crate) fn cord<'a>(&'a mut self, none: &'a Cord) -> &'a Cord
+        requires none { none.now ≡ None }
+        ensures* kept { sem 𝓛 (KeepsCord self.entry) }
+        ensures cord { result.now ≡ cord_of self.old }
     {
-        let held = self.handle.lift(alloc);
-        let shared = held.cord().share(alloc);
-        self.handle.lower(alloc, held);
-        shared
+        match self.handle.lent() {
+            Some(referent) => referent.cord_or(none),
+            None => none,
+        }
     }
 
-    /// The cord and that of another handle, once more. Refused for want of memory alone.
-    pub(crate) fn read_with(
-        &mut self,
-        alloc: Global,
-        other: &mut LazyHandle,
-    ) -> Result<(Cord, Cord), CordError>
-        ensures cords { IfOk result (λ c. (c.0 ≡ cord_of self.old) × (c.1 ≡ cord_of other.old)) }
-        ensures same { cord_of self.new ≡ cord_of self.old }
-        ensures other { cord_of other.new ≡ cord_of other.old }
-        ensures refused { IsOkUnless result CordError.NoMemory }
+    /// Holds the cord that was made from now on, and frees the one that it held. Where none was made, it stays.
+    pub(crate) fn hold(&mut self, alloc: Global, made: Result<Cord, CordError>) -> i32
+        requires refused { IfErr made IsRefusal }
+        ensures held { result ≡ OK → made ≡ Ok (cord_of self.new) }
+        ensures kept { (result ≡ OK) ⊎ (cord_of self.new ≡ cord_of self.old) }
+        ensures too_long { result ≡ TOO_LONG → made ≡ Err CordError.TooLong }
+        ensures code { MayBeTooLong result }
     {
-        let own = self.read(alloc)?;
-        let others = other.read(alloc)?;
-        Ok((own, others))
+        match made {
+            Ok(cord) => self.handle.keep(alloc, Referent::Cord(cord)),
+            Err(refusal) => code_of(refusal),
+        }
     }
 
-    /// Holds this cord from now on, and frees the one that it held. Refused for want of memory alone, where the pointer
-    /// is null: then it stays.
-    pub(crate) fn hold(&mut self, alloc: Global, cord: Cord) -> i32
-        ensures held { result ≡ OK → cord_of self.new ≡ cord }
+    /// As `hold`, of what only want of memory refuses.
+    pub(crate) fn hold_within(&mut self, alloc: Global, made: Result<Cord, CordError>) -> i32
+        ensures held { result ≡ OK → made ≡ Ok (cord_of self.new) }
         ensures kept { (result ≡ OK) ⊎ (cord_of self.new ≡ cord_of self.old) }
         ensures code { MayLackMemory result }
     {
-        self.handle.keep(alloc, Referent::Cord(cord))
+        match made {
+            Ok(cord) => self.handle.keep(alloc, Referent::Cord(cord)),
+            Err(_) => NO_MEMORY,
+        }
     }
 }

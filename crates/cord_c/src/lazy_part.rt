@@ -9,7 +9,7 @@ ghost use denote.RawPtr.{Testable};
 ghost use Rattle.core.specs.Ptr.{as_mut_ptr};
 
 use crate::LazyHandle;
-use crate::code::{IN_FILE, NO_MEMORY, NULL_POINTER, OK, TOO_LONG};
+use crate::code::{IN_FILE, NULL_POINTER, OK, TOO_LONG};
 use crate::pointer::missing;
 use cord::MAX_LEN;
 use cord_core::Cord;
@@ -33,17 +33,13 @@ pub extern "C" fn zc_lazy_of_file(alloc: Global, file: u32, len: u64, out: &mut 
     if len > MAX_LEN {
         return TOO_LONG;
     }
-    match Cord::from_fn(alloc, SourceId(file), 0, len) {
-        Ok(cord) => out.hold(alloc, cord),
-        Err(_) => NO_MEMORY,
-    }
+    out.hold_within(alloc, Cord::from_fn(alloc, SourceId(file), 0, len))
 }
 
 /// The part of `x` at `start`, at most as long as `bytes`: writes its length to `got`, and its bytes to `bytes`, or,
 /// with `IN_FILE`, which file has them from which place on. At or past the end the length is 0.
 #[unsafe(no_mangle)]
 pub extern "C" fn zc_lazy_part(
-    alloc: Global,
     x: &mut LazyHandle,
     start: u64,
     bytes: &mut [u8],
@@ -69,8 +65,8 @@ pub extern "C" fn zc_lazy_part(
     if missing(x) || missing(got) || missing(file) || missing(place) {
         return NULL_POINTER;
     }
-    let held = x.handle.lift(alloc);
-    let ahead = Position::set(held.cord(), start).ahead();
+    let none = Cord::empty();
+    let ahead = Position::set(x.cord(&none), start).ahead();
     let mut code = OK;
     *got = 0;
     if let Some(stretch) = ahead {
@@ -86,6 +82,5 @@ pub extern "C" fn zc_lazy_part(
             }
         }
     }
-    x.handle.lower(alloc, held);
     code
 }

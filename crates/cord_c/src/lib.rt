@@ -15,7 +15,6 @@ mod handle;
 mod lazy;
 mod lazy_make;
 mod lazy_part;
-mod lifted;
 mod limits;
 mod list;
 mod make;

@@ -7,7 +7,7 @@ ghost use denote.RawPtr.{Testable};
 ghost use Rattle.core.specs.Ptr.{as_mut_ptr};
 
 use crate::Handle;
-use crate::code::{NO_MEMORY, NULL_POINTER, OK, TOO_LONG, code_of};
+use crate::code::{NO_MEMORY, NULL_POINTER, OK, TOO_LONG};
 use crate::pointer::missing;
 use cord::{CordError, MAX_LEN, Text};
 use std::alloc::Global;
@@ -29,10 +29,7 @@ pub extern "C" fn zc_catn(alloc: Global, parts: &mut [Handle], out: &mut Handle)
     let Ok(texts) = shares(alloc, parts) else {
         return NO_MEMORY;
     };
-    match Text::catn(alloc, &texts) {
-        Ok(text) => out.hold(alloc, text),
-        Err(refusal) => code_of(refusal),
-    }
+    out.hold(alloc, Text::catn(alloc, &texts))
 }
 
 // The texts of handles once more, which share their trees. Refused for want of memory alone.

@@ -6,7 +6,7 @@ ghost use denote.RawPtr.{Testable};
 ghost use Rattle.core.specs.Ptr.{as_mut_ptr};
 
 use crate::Handle;
-use crate::code::{NO_MEMORY, NULL_POINTER, OK, TOO_LONG, code_of};
+use crate::code::{NULL_POINTER, OK, TOO_LONG};
 use crate::pointer::missing;
 use cord::{MAX_LEN, Text};
 use std::alloc::Global;
@@ -24,10 +24,7 @@ pub extern "C" fn zc_from_bytes(alloc: Global, bytes: &[u8], out: &mut Handle) -
     if missing(out) {
         return NULL_POINTER;
     }
-    match Text::from_bytes(alloc, bytes) {
-        Ok(text) => out.hold(alloc, text),
-        Err(refusal) => code_of(refusal),
-    }
+    out.hold(alloc, Text::from_bytes(alloc, bytes))
 }
 
 /// `count` times the byte `byte`.
@@ -43,10 +40,7 @@ pub extern "C" fn zc_chars(alloc: Global, byte: u8, count: u64, out: &mut Handle
     if missing(out) {
         return NULL_POINTER;
     }
-    match Text::repeat(alloc, byte, count) {
-        Ok(text) => out.hold(alloc, text),
-        Err(refusal) => code_of(refusal),
-    }
+    out.hold(alloc, Text::repeat(alloc, byte, count))
 }
 
 /// The bytes of `x` and then those of `y`.
@@ -64,13 +58,8 @@ pub extern "C" fn zc_cat(alloc: Global, x: &mut Handle, y: &mut Handle, out: &mu
     if missing(x) || missing(y) || missing(out) {
         return NULL_POINTER;
     }
-    match x.read_with(alloc, y) {
-        Ok((left, right)) => match Text::cat(alloc, &left, &right) {
-            Ok(text) => out.hold(alloc, text),
-            Err(refusal) => code_of(refusal),
-        },
-        Err(_) => NO_MEMORY,
-    }
+    let made = Text::cat(alloc, x.text(&Text::empty()), y.text(&Text::empty()));
+    out.hold(alloc, made)
 }
 
 /// The bytes of `x` and then these, of which it takes a copy.
@@ -87,13 +76,8 @@ pub extern "C" fn zc_cat_bytes(alloc: Global, x: &mut Handle, bytes: &[u8], out:
     if missing(x) || missing(out) {
         return NULL_POINTER;
     }
-    let old = x.lift(alloc);
-    let longer = old.text().append_bytes(alloc, bytes);
-    x.lower(alloc, old);
-    match longer {
-        Ok(text) => out.hold(alloc, text),
-        Err(refusal) => code_of(refusal),
-    }
+    let made = x.text(&Text::empty()).append_bytes(alloc, bytes);
+    out.hold(alloc, made)
 }
 
 /// The bytes of `x` and then the byte `byte`.
@@ -110,13 +94,8 @@ pub extern "C" fn zc_cat_char(alloc: Global, x: &mut Handle, byte: u8, out: &mut
     if missing(x) || missing(out) {
         return NULL_POINTER;
     }
-    let old = x.lift(alloc);
-    let longer = old.text().append_bytes(alloc, &[byte]);
-    x.lower(alloc, old);
-    match longer {
-        Ok(text) => out.hold(alloc, text),
-        Err(refusal) => code_of(refusal),
-    }
+    let made = x.text(&Text::empty()).append_bytes(alloc, &[byte]);
+    out.hold(alloc, made)
 }
 
 /// Adds the bytes of `y` at the end of `x`.
@@ -133,13 +112,8 @@ pub extern "C" fn zc_append(alloc: Global, x: &mut Handle, y: &mut Handle) -> i3
     if missing(x) || missing(y) {
         return NULL_POINTER;
     }
-    match x.read_with(alloc, y) {
-        Ok((own, more)) => match Text::cat(alloc, &own, &more) {
-            Ok(text) => x.hold(alloc, text),
-            Err(refusal) => code_of(refusal),
-        },
-        Err(_) => NO_MEMORY,
-    }
+    let longer = Text::cat(alloc, x.text(&Text::empty()), y.text(&Text::empty()));
+    x.hold(alloc, longer)
 }
 
 /// The bytes of `x`, `times` times.
@@ -156,13 +130,8 @@ pub extern "C" fn zc_repeat(alloc: Global, x: &mut Handle, times: u64, out: &mut
     if missing(x) || missing(out) {
         return NULL_POINTER;
     }
-    let Ok(once) = x.read(alloc) else {
-        return NO_MEMORY;
-    };
-    match once.repeated(alloc, times) {
-        Ok(text) => out.hold(alloc, text),
-        Err(refusal) => code_of(refusal),
-    }
+    let made = x.text(&Text::empty()).repeated(alloc, times);
+    out.hold(alloc, made)
 }
 
 /// The same text once more, which shares its tree.
@@ -177,10 +146,8 @@ pub extern "C" fn zc_share(alloc: Global, x: &mut Handle, out: &mut Handle) -> i
     if missing(x) || missing(out) {
         return NULL_POINTER;
     }
-    match x.read(alloc) {
-        Ok(text) => out.hold(alloc, text),
-        Err(_) => NO_MEMORY,
-    }
+    let made = x.text(&Text::empty()).share(alloc);
+    out.hold_within(alloc, made)
 }
 
 /// Frees the text of `x`, which then has no bytes.

@@ -47,7 +47,7 @@ pub extern "C" fn zc_sprintf(
         return NO_MEMORY;
     };
     match print(alloc, format, &args) {
-        Ok(text) => out.hold(alloc, text),
+        Ok(text) => out.hold_within(alloc, Ok(text)),
         Err(NoPrint::TooLong) => TOO_LONG,
         Err(NoPrint::NoMemory) => NO_MEMORY,
         Err(NoPrint::WrongArguments) => WRONG_ARGUMENTS,

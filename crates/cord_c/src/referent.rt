@@ -1,4 +1,7 @@
 //! What lies behind the pointers that C keeps.
+ghost use Rattle.std.specs.Prelude.{◌≡◌, [], None, length};
+ghost use Rattle.cord_core.specs.Cord.{IsCord};
+
 use cord::{Text, TextEditor};
 use cord_core::Cord;
 
@@ -13,4 +16,40 @@ pub enum Referent {
     Cord(Cord),
     /// A text that is edited in place.
     Editor(TextEditor),
+}
+
+impl Referent {
+    ghost use Rattle.cord_c.specs.Referent.{text_by, cord_by, edited_by};
+
+    /// The text, `none` where there is none.
+    pub(crate) fn text_or<'a>(&'a self, none: &'a Text) -> &'a Text
+        requires { none.now ≡ [] }
+        ensures { result.now ≡ text_by self.now }
+    {
+        match self {
+            Referent::Text(text) => text,
+            _ => none,
+        }
+    }
+
+    /// The cord, `none` where there is none.
+    pub(crate) fn cord_or<'a>(&'a self, none: &'a Cord) -> &'a Cord
+        requires { none.now ≡ None }
+        ensures { result.now ≡ cord_by self.now }
+    {
+        match self {
+            Referent::Cord(cord) => cord,
+            _ => none,
+        }
+    }
+
+    /// The number of bytes of the text that is edited, 0 where there is none.
+    pub(crate) fn edited_len(&self) -> u64
+        ensures { result ≡ length (edited_by self.now) }
+    {
+        match self {
+            Referent::Editor(text) => text.len(),
+            _ => 0,
+        }
+    }
 }

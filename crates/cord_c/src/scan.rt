@@ -6,8 +6,8 @@ ghost use denote.RawPtr.{Testable};
 ghost use Rattle.core.specs.Ptr.{as_mut_ptr};
 
 use crate::code::{NO_MEMORY, NULL_POINTER, OK};
-use crate::copy::copy_from;
 use crate::pointer::missing;
+use crate::referent::Referent;
 use crate::{Chunks, Handle};
 use std::alloc::Global;
 
@@ -34,7 +34,7 @@ pub extern "C" fn zc_chunks_set(
         return NO_MEMORY;
     };
     let len = text.len();
-    if chunks.text.hold(alloc, text) != OK {
+    if chunks.text.keep(alloc, Referent::Text(text)) != OK {
         return NO_MEMORY;
     }
     chunks.len = len;
@@ -45,7 +45,7 @@ pub extern "C" fn zc_chunks_set(
 
 /// Goes to the next chunk, and answers how many bytes it has: 0 where no bytes are left.
 #[unsafe(no_mangle)]
-pub extern "C" fn zc_chunks_next(alloc: Global, chunks: &mut Chunks) -> usize
+pub extern "C" fn zc_chunks_next(chunks: &mut Chunks) -> usize
     requires places { Testable (as_mut_ptr chunks) }
     ensures chunk { chunk_of chunks.new ++ left_of chunks.new ≡ left_of chunks.old }
     ensures count { result ≡ length (chunk_of chunks.new) }
@@ -54,9 +54,7 @@ pub extern "C" fn zc_chunks_next(alloc: Global, chunks: &mut Chunks) -> usize
     if missing(chunks) {
         return 0;
     }
-    let text = chunks.text.lift(alloc);
-    let count = copy_from(text.text(), chunks.next, &mut chunks.bytes);
-    chunks.text.lower(alloc, text);
+    let count = chunks.text.copy_to(chunks.next, &mut chunks.bytes);
     chunks.count = count;
     chunks.next += count as u64;
     count

@@ -10,6 +10,7 @@ ghost use Rattle.core.specs.Ptr.{as_mut_ptr};
 use crate::code::{NO_MEMORY, NOT_FOUND, NULL_POINTER, OK, PAST_END};
 use crate::pointer::missing;
 use crate::{Handle, Position};
+use cord::Text;
 use std::alloc::Global;
 
 /// Sets a position to the byte `index` of `x`, or nowhere where `x` has no such byte.
@@ -31,11 +32,9 @@ pub extern "C" fn zc_pos_set(
     if missing(x) || missing(position) {
         return NULL_POINTER;
     }
-    let Ok(text) = x.read(alloc) else {
-        return NO_MEMORY;
-    };
-    let len = text.len();
-    if position.text.hold(alloc, text) != OK {
+    let len = x.text(&Text::empty()).len();
+    let shared = x.text(&Text::empty()).share(alloc);
+    if position.text.hold_within(alloc, shared) != OK {
         return NO_MEMORY;
     }
     position.len = len;
@@ -59,7 +58,7 @@ pub extern "C" fn zc_pos_index(position: &mut Position) -> u64
 
 /// Writes the byte where a position stands to `byte`: `PAST_END` where it stands nowhere, and `byte` stays.
 #[unsafe(no_mangle)]
-pub extern "C" fn zc_pos_fetch(alloc: Global, position: &mut Position, byte: &mut u8) -> i32
+pub extern "C" fn zc_pos_fetch(position: &mut Position, byte: &mut u8) -> i32
     requires places { Testable (as_mut_ptr position) × Testable (as_mut_ptr byte) }
     ensures byte { result ≡ OK → byte_of position.old ≡ Some byte.new }
     ensures nowhere { result ≡ PAST_END → index_of position.old ≡ None }
@@ -72,7 +71,7 @@ pub extern "C" fn zc_pos_fetch(alloc: Global, position: &mut Position, byte: &mu
         return NULL_POINTER;
     }
     let index = position.index;
-    let Some(found) = position.text.get(alloc, index) else {
+    let Some(found) = position.text.text(&Text::empty()).get(index) else {
         return PAST_END;
     };
     *byte = found;

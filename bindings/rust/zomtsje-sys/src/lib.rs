@@ -97,44 +97,45 @@ extern "C" {
 
     pub fn zc_from_bytes(bytes: *const c_void, count: usize, out: *mut zc_cord) -> c_int;
     pub fn zc_chars(byte: u8, count: u64, out: *mut zc_cord) -> c_int;
-    pub fn zc_cat(x: *mut zc_cord, y: *mut zc_cord, out: *mut zc_cord) -> c_int;
-    pub fn zc_cat_bytes(x: *mut zc_cord, bytes: *const c_void, count: usize, out: *mut zc_cord) -> c_int;
-    pub fn zc_substr(x: *mut zc_cord, start: u64, count: u64, out: *mut zc_cord) -> c_int;
-    pub fn zc_append(x: *mut zc_cord, y: *mut zc_cord) -> c_int;
-    pub fn zc_splice(x: *mut zc_cord, start: u64, count: u64, y: *mut zc_cord) -> c_int;
-    pub fn zc_repeat(x: *mut zc_cord, times: u64, out: *mut zc_cord) -> c_int;
-    pub fn zc_balance(x: *mut zc_cord, out: *mut zc_cord) -> c_int;
-    pub fn zc_share(x: *mut zc_cord, out: *mut zc_cord) -> c_int;
+    pub fn zc_cat(x: *const zc_cord, y: *const zc_cord, out: *mut zc_cord) -> c_int;
+    pub fn zc_cat_bytes(x: *const zc_cord, bytes: *const c_void, count: usize, out: *mut zc_cord) -> c_int;
+    pub fn zc_substr(x: *const zc_cord, start: u64, count: u64, out: *mut zc_cord) -> c_int;
+    pub fn zc_append(x: *mut zc_cord, y: *const zc_cord) -> c_int;
+    pub fn zc_splice(x: *mut zc_cord, start: u64, count: u64, y: *const zc_cord) -> c_int;
+    pub fn zc_repeat(x: *const zc_cord, times: u64, out: *mut zc_cord) -> c_int;
+    pub fn zc_balance(x: *const zc_cord, out: *mut zc_cord) -> c_int;
+    pub fn zc_share(x: *const zc_cord, out: *mut zc_cord) -> c_int;
     pub fn zc_free(x: *mut zc_cord);
 
-    pub fn zc_len(x: *mut zc_cord) -> u64;
-    pub fn zc_depth(x: *mut zc_cord) -> u32;
-    pub fn zc_fetch(x: *mut zc_cord, place: u64, byte: *mut u8) -> c_int;
-    pub fn zc_chr(x: *mut zc_cord, start: u64, byte: u8, place: *mut u64) -> c_int;
-    pub fn zc_rchr(x: *mut zc_cord, end: u64, byte: u8, place: *mut u64) -> c_int;
-    pub fn zc_find(x: *mut zc_cord, start: u64, bytes: *const c_void, count: usize, place: *mut u64) -> c_int;
-    pub fn zc_equal(x: *mut zc_cord, y: *mut zc_cord, equal: *mut i32) -> c_int;
-    pub fn zc_cmp(x: *mut zc_cord, y: *mut zc_cord, order: *mut i32) -> c_int;
-    pub fn zc_ncmp(x: *mut zc_cord, i: u64, y: *mut zc_cord, j: u64, count: u64, order: *mut i32) -> c_int;
-    pub fn zc_count(x: *mut zc_cord, byte: u8) -> u64;
-    pub fn zc_read(x: *mut zc_cord, start: u64, bytes: *mut c_void, count: usize, got: *mut usize) -> c_int;
+    pub fn zc_len(x: *const zc_cord) -> u64;
+    pub fn zc_depth(x: *const zc_cord) -> u32;
+    pub fn zc_fetch(x: *const zc_cord, place: u64, byte: *mut u8) -> c_int;
+    pub fn zc_chr(x: *const zc_cord, start: u64, byte: u8, place: *mut u64) -> c_int;
+    pub fn zc_rchr(x: *const zc_cord, end: u64, byte: u8, place: *mut u64) -> c_int;
+    pub fn zc_find(x: *const zc_cord, start: u64, bytes: *const c_void, count: usize, place: *mut u64) -> c_int;
+    pub fn zc_equal(x: *const zc_cord, y: *const zc_cord, equal: *mut i32) -> c_int;
+    pub fn zc_cmp(x: *const zc_cord, y: *const zc_cord, order: *mut i32) -> c_int;
+    pub fn zc_ncmp(x: *const zc_cord, i: u64, y: *const zc_cord, j: u64, count: u64, order: *mut i32) -> c_int;
+    pub fn zc_count(x: *const zc_cord, byte: u8) -> u64;
+    pub fn zc_read(x: *const zc_cord, start: u64, bytes: *mut c_void, count: usize, got: *mut usize) -> c_int;
 
     pub fn zc_ext_bytes(x: *mut zc_ext, bytes: *const c_void, count: usize) -> c_int;
-    pub fn zc_ext_cord(x: *mut zc_ext, y: *mut zc_cord) -> c_int;
+    pub fn zc_ext_cord(x: *mut zc_ext, y: *const zc_cord) -> c_int;
     pub fn zc_ext_to_cord(x: *mut zc_ext, out: *mut zc_cord) -> c_int;
-    pub fn zc_ext_len(x: *mut zc_ext) -> u64;
+    pub fn zc_ext_len(x: *const zc_ext) -> u64;
     pub fn zc_ext_free(x: *mut zc_ext);
 
     pub fn zc_lazy_from_path(files: *mut zc_files, path: *const c_char, out: *mut zc_lazy) -> c_int;
-    pub fn zc_lazy_from_cord(x: *mut zc_cord, out: *mut zc_lazy) -> c_int;
-    pub fn zc_lazy_cat(x: *mut zc_lazy, y: *mut zc_lazy, out: *mut zc_lazy) -> c_int;
-    pub fn zc_lazy_substr(x: *mut zc_lazy, start: u64, count: u64, out: *mut zc_lazy) -> c_int;
-    pub fn zc_lazy_share(x: *mut zc_lazy, out: *mut zc_lazy) -> c_int;
-    pub fn zc_lazy_len(x: *mut zc_lazy) -> u64;
+    pub fn zc_lazy_from_cord(x: *const zc_cord, out: *mut zc_lazy) -> c_int;
+    pub fn zc_lazy_cat(x: *const zc_lazy, y: *const zc_lazy, out: *mut zc_lazy) -> c_int;
+    pub fn zc_lazy_substr(x: *const zc_lazy, start: u64, count: u64, out: *mut zc_lazy) -> c_int;
+    pub fn zc_lazy_replace(x: *const zc_lazy, start: u64, count: u64, y: *const zc_lazy, out: *mut zc_lazy) -> c_int;
+    pub fn zc_lazy_share(x: *const zc_lazy, out: *mut zc_lazy) -> c_int;
+    pub fn zc_lazy_len(x: *const zc_lazy) -> u64;
     pub fn zc_lazy_free(x: *mut zc_lazy);
     pub fn zc_lazy_read(
         files: *mut zc_files,
-        x: *mut zc_lazy,
+        x: *const zc_lazy,
         start: u64,
         bytes: *mut c_void,
         count: usize,
@@ -142,13 +143,13 @@ extern "C" {
     ) -> c_int;
     pub fn zc_lazy_find(
         files: *mut zc_files,
-        x: *mut zc_lazy,
+        x: *const zc_lazy,
         start: u64,
         bytes: *const c_void,
         count: usize,
         place: *mut u64,
     ) -> c_int;
-    pub fn zc_lazy_rchr(files: *mut zc_files, x: *mut zc_lazy, end: u64, byte: u8, place: *mut u64) -> c_int;
-    pub fn zc_lazy_to_cord(files: *mut zc_files, x: *mut zc_lazy, out: *mut zc_cord) -> c_int;
+    pub fn zc_lazy_rchr(files: *mut zc_files, x: *const zc_lazy, end: u64, byte: u8, place: *mut u64) -> c_int;
+    pub fn zc_lazy_to_cord(files: *mut zc_files, x: *const zc_lazy, out: *mut zc_cord) -> c_int;
     pub fn zc_files_free(files: *mut zc_files);
 }

@@ -1,7 +1,6 @@
 use crate::error::{checked, infallible};
 use crate::iter::{Bytes, Chunks, Lines, Reader};
 use crate::{CordBuilder, Error};
-use std::cell::UnsafeCell;
 use std::cmp::Ordering;
 use std::hash::{Hash, Hasher};
 use std::io::{self, Read, Write};
@@ -16,14 +15,13 @@ pub const MAX_LEN: u64 = sys::ZC_MAX_LEN;
 ///
 /// A clone shares all of them. Joins, slices and edits copy at most 64 bytes, whatever the lengths.
 pub struct Cord {
-    // a call changes the handle that it reads while it runs
-    handle: UnsafeCell<sys::zc_cord>,
+    handle: sys::zc_cord,
 }
 
 impl Cord {
     /// The cord of no bytes. It takes no memory.
     pub const fn new() -> Cord {
-        Cord { handle: UnsafeCell::new(sys::zc_cord::EMPTY) }
+        Cord { handle: sys::zc_cord::EMPTY }
     }
 
     /// So many times one byte, in a few bytes of memory.
@@ -54,14 +52,18 @@ impl Cord {
 
     // What a call writes to a handle.
     pub(crate) fn made(call: impl FnOnce(*mut sys::zc_cord) -> std::ffi::c_int) -> Result<Cord, Error> {
-        let made = Cord::new();
-        checked(call(made.raw()))?;
+        let mut made = Cord::new();
+        checked(call(made.raw_mut()))?;
         Ok(made)
     }
 
-    // The handle, which the calls of the library leave as it is, or give another cord where they write it.
-    pub(crate) fn raw(&self) -> *mut sys::zc_cord {
-        self.handle.get()
+    // The handle, for calls that read it, and for those that write it.
+    pub(crate) fn raw(&self) -> *const sys::zc_cord {
+        &self.handle
+    }
+
+    pub(crate) fn raw_mut(&mut self) -> *mut sys::zc_cord {
+        &mut self.handle
     }
 
     /// The number of bytes.
@@ -116,7 +118,7 @@ impl Cord {
     pub fn append(&mut self, more: impl Into<Cord>) {
         let more = more.into();
         // SAFETY: both are handles.
-        infallible(checked(unsafe { sys::zc_append(self.raw(), more.raw()) }));
+        infallible(checked(unsafe { sys::zc_append(self.raw_mut(), more.raw()) }));
     }
 
     /// Its bytes so many times. It shares its tree with itself.
@@ -157,7 +159,7 @@ impl Cord {
     /// As [`replace_range`](Cord::replace_range), where it may be refused.
     pub fn try_replace_range(&mut self, range: impl RangeBounds<u64>, with: &Cord) -> Result<(), Error> {
         let (start, end) = bounds(range, self.len());
-        checked(unsafe { sys::zc_splice(self.raw(), start, end - start, with.raw()) })
+        checked(unsafe { sys::zc_splice(self.raw_mut(), start, end - start, with.raw()) })
     }
 
     /// The first place where some bytes stand.
@@ -285,7 +287,7 @@ pub(crate) fn bounds(range: impl RangeBounds<u64>, len: u64) -> (u64, u64) {
 
 impl Drop for Cord {
     fn drop(&mut self) {
-        unsafe { sys::zc_free(self.raw()) }
+        unsafe { sys::zc_free(self.raw_mut()) }
     }
 }
 

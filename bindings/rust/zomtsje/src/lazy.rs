@@ -37,8 +37,8 @@ impl Files {
     /// The bytes of the file at a path, of which nothing is read now.
     pub fn open(&self, path: impl AsRef<Path>) -> io::Result<LazyCord> {
         let path = CString::new(path.as_ref().as_os_str().as_bytes())?;
-        let made = LazyCord::none(self.clone());
-        checked_io(unsafe { sys::zc_lazy_from_path(self.raw(), path.as_ptr(), made.raw()) })?;
+        let mut made = LazyCord::none(self.clone());
+        checked_io(unsafe { sys::zc_lazy_from_path(self.raw(), path.as_ptr(), &mut made.handle) })?;
         Ok(made)
     }
 
@@ -68,22 +68,22 @@ impl fmt::Debug for Files {
 /// A cord whose parts may lie in [`Files`]: slices, joins and edits read nothing.
 pub struct LazyCord {
     files: Files,
-    handle: UnsafeCell<sys::zc_lazy>,
+    handle: sys::zc_lazy,
 }
 
 impl LazyCord {
     fn none(files: Files) -> LazyCord {
-        LazyCord { files, handle: UnsafeCell::new(sys::zc_lazy::EMPTY) }
+        LazyCord { files, handle: sys::zc_lazy::EMPTY }
     }
 
     fn made(files: Files, call: impl FnOnce(*mut sys::zc_lazy) -> c_int) -> Result<LazyCord, Error> {
-        let made = LazyCord::none(files);
-        checked(call(made.raw()))?;
+        let mut made = LazyCord::none(files);
+        checked(call(&mut made.handle))?;
         Ok(made)
     }
 
-    fn raw(&self) -> *mut sys::zc_lazy {
-        self.handle.get()
+    fn raw(&self) -> *const sys::zc_lazy {
+        &self.handle
     }
 
     /// The number of bytes.
@@ -113,7 +113,8 @@ impl LazyCord {
     /// Where the other one is over other files.
     pub fn append(&mut self, more: &LazyCord) {
         assert!(Rc::ptr_eq(&self.files.open, &more.files.open), "lazy cords over different files");
-        infallible(checked(unsafe { sys::zc_lazy_cat(self.raw(), more.raw(), self.raw()) }));
+        let own: *mut sys::zc_lazy = &mut self.handle;
+        infallible(checked(unsafe { sys::zc_lazy_cat(own, more.raw(), own) }));
     }
 
     /// Puts bytes in front of the one at a place.
@@ -138,10 +139,9 @@ impl LazyCord {
     /// Where the range isn't inside the cord.
     pub fn replace_range(&mut self, range: impl RangeBounds<u64>, with: impl Into<Cord>) {
         let (start, end) = bounds(range, self.len());
-        let mut next = self.slice(..start);
-        next.append(&self.files.in_memory(with));
-        next.append(&self.slice(end..));
-        *self = next;
+        let with = self.files.in_memory(with);
+        let own: *mut sys::zc_lazy = &mut self.handle;
+        infallible(checked(unsafe { sys::zc_lazy_replace(own, start, end - start, with.raw(), own) }));
     }
 
     /// The first place from `start` on where some bytes stand.
@@ -174,8 +174,8 @@ impl LazyCord {
 
     /// Its bytes, read into memory.
     pub fn to_cord(&self) -> io::Result<Cord> {
-        let made = Cord::new();
-        checked_io(unsafe { sys::zc_lazy_to_cord(self.files.raw(), self.raw(), made.raw()) })?;
+        let mut made = Cord::new();
+        checked_io(unsafe { sys::zc_lazy_to_cord(self.files.raw(), self.raw(), made.raw_mut()) })?;
         Ok(made)
     }
 
@@ -187,7 +187,7 @@ impl LazyCord {
 
 impl Drop for LazyCord {
     fn drop(&mut self) {
-        unsafe { sys::zc_lazy_free(self.raw()) }
+        unsafe { sys::zc_lazy_free(&mut self.handle) }
     }
 }
 

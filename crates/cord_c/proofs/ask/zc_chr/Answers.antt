@@ -1,5 +1,0 @@
-use Rattle.std.proofs.Common.{rules}
-use Rattle.cord_c.proofs.ask.zc_chr.Goals as goal
-
-pub returns-clause-first : goal.returns-clause-first
-returns-clause-first c = search rules

@@ -1,5 +1,0 @@
-use Rattle.std.proofs.Common.{rules}
-use Rattle.cord_c.proofs.ask.zc_cmp.Goals as goal
-
-pub returns-clause-order : goal.returns-clause-order
-returns-clause-order c = search rules

@@ -1,5 +1,0 @@
-use Rattle.std.proofs.Common.{rules}
-use Rattle.cord_c.proofs.ask.zc_count.Goals as goal
-
-pub returns-clause-count : goal.returns-clause-count
-returns-clause-count c = search rules

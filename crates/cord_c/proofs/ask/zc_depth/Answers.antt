@@ -1,5 +1,0 @@
-use Rattle.std.proofs.Common.{rules}
-use Rattle.cord_c.proofs.ask.zc_depth.Goals as goal
-
-pub returns-clause-limit : goal.returns-clause-limit
-returns-clause-limit c = search rules
