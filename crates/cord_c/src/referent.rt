@@ -1,6 +1,5 @@
 //! What lies behind the pointers that C keeps.
 ghost use Rattle.std.specs.Prelude.{◌≡◌, [], None, length};
-ghost use Rattle.cord_core.specs.Cord.{IsCord};
 
 use cord::{Text, TextEditor};
 use cord_core::Cord;

@@ -1,4 +1,4 @@
-use Rattle.std.proofs.Common.{◌≡◌, ◌+◌, ◌++◌, ◌∙◌, ℕ, List, length, take, drop, ap}
+use Rattle.std.proofs.Common.{◌+◌, ◌++◌, ◌∙◌, ℕ, List, length, take, drop, ap}
 use Rattle.cord_c.specs.declared.chunks.Chunks.{Chunks}
 use Rattle.cord_c.specs.Chunks.{left_of}
 use Rattle.cord_c.proofs.Scanning.{next_chunk}
