@@ -1,5 +1,5 @@
 use Rattle.std.proofs.Common.{refl, sym}
-use Rattle.cord_line_rows.proofs.edit.Goals as goal
+use Rattle.tests_lines.proofs.edit.Goals as goal
 
 pub edited-requires : goal.edited-requires
 edited-requires c = record {
