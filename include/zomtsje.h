@@ -189,7 +189,7 @@ int zc_equal(const zc_cord *x, const zc_cord *y, int32_t *equal);
 int32_t zc_starts_with(const zc_cord *x, const void *bytes, size_t count);
 int32_t zc_ends_with(const zc_cord *x, const void *bytes, size_t count);
 
-/* How many bytes of x are this one; 0 of null. O(n), and O(d) for each part. */
+/* How many bytes of x are this one; 0 of null. O(n). */
 uint64_t zc_count(const zc_cord *x, unsigned char byte);
 
 /* Copies count bytes of x from start on to bytes. ZC_PAST_END where x has fewer: then bytes stays. It takes no memory.

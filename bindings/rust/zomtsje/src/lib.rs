@@ -20,7 +20,7 @@
 //!
 //! # Threads
 //!
-//! Cords that have parts in common count them together, without atomics, and a call moves the handle that it reads.
+//! Cords that have parts in common count them together, without atomics, and comparisons mark what two cords share.
 //! So no type here is `Send` or `Sync`: each cord, with all that share its parts, stays on its thread. Send its bytes
 //! instead.
 #![warn(missing_docs)]
