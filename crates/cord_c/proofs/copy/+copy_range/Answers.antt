@@ -2,11 +2,16 @@ use Rattle.std.proofs.Common.{◌≡◌, ◌+◌, ◌-◌, ◌≤◌, ◌∙◌,
 use Rattle.std.proofs.lemmas.List.{take-replicate, drop-replicate}
 use Rattle.cord_node.proofs.Ranges.{range_of_range, range_right, range_both}
 use Rattle.cord_node.specs.declared.Node.{Node}
-use Rattle.cord_node.specs.Tree.{len_of}
-use Rattle.cord_node.specs.Tables.{bytes_over}
-use Rattle.cord.specs.Plain.{no_table}
-use Rattle.cord.proofs.Chunking.{node_len}
+use Rattle.std.specs.Prelude.{Some}
+use Rattle.cord_node.specs.Tree.{len_of, IsSound}
+use Rattle.cord_node.specs.Tables.{bytes_over, FitsIn}
+use Rattle.cord_core.proofs.OverLemmas.{length-bytes}
+use Rattle.cord.specs.Plain.{no_table, no_lengths}
 use Rattle.cord_c.proofs.copy.+copy_range.Goals as goal
+
+-- a node over no files has as many bytes as it stores
+node_len : (n : Node) → IsSound n → FitsIn no_lengths n → len_of n ≡ length (bytes_over no_table n)
+node_len n s f = length-bytes no_table (Some n) s f
 
 pub returns-in-Leaf : goal.returns-in-Leaf
 returns-in-Leaf t c =
