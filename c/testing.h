@@ -1,5 +1,5 @@
 /* What the tests in C share: each row says what it expects, and the first that fails ends the program with status 1.
- * With an argument, want of memory is no failure: a call that is refused has to say so, leave its result as it was,
+ * With an argument, being out of memory is no failure: a call that is refused has to say so, leave its result as it was,
  * and work when it is made again, since one request alone is refused. */
 #ifndef ZOMTSJE_TESTING_H
 #define ZOMTSJE_TESTING_H

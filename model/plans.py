@@ -38,7 +38,7 @@ class Cat:
     members: tuple
 
 
-def own_expression(statement):
+def defining_expression(statement):
     """The own expression of a simple statement, or None."""
     word, values = statement.word, statement.values
     if word in ("cat", "catn"):
@@ -105,7 +105,7 @@ def reads(statement):
     return [] if statement.word == "len" else statement.cords()
 
 
-def is_unread(name, place, statements, after):
+def is_not_live(name, place, statements, after):
     """Whether no path from behind place comes to a reading of name before an assignment of it."""
     seen, waiting = set(), list(after[place])
     while waiting:
@@ -129,7 +129,7 @@ def earlier_of(name, place, statements, after, expressions):
     earlier, between = assigned[-1], statements[assigned[-1] + 1 : place]
     if any(line.word in BLOCK_WORDS or name in reads(line) for line in between):
         return None
-    if statement.target() != name and not is_unread(name, place, statements, after):
+    if statement.target() != name and not is_not_live(name, place, statements, after):
         return None
     changed = {line.target() for line in between} | {name}
     return None if names(expressions[earlier]) & changed else earlier
@@ -137,7 +137,7 @@ def earlier_of(name, place, statements, after, expressions):
 
 def replaced(place, statements, after, expressions, measured):
     """The expression of a simple line; each line that is put in the place of its name is measured."""
-    expression = own_expression(statements[place])
+    expression = defining_expression(statements[place])
     for name in statements[place].cords():
         earlier = earlier_of(name, place, statements, after, expressions)
         if earlier is None:
@@ -149,33 +149,33 @@ def replaced(place, statements, after, expressions, measured):
     return mapped(expression, lambda it: Name(it.name))
 
 
-def shown_path(path):
+def printed_path(path):
     return "".join(chr(byte) if 32 <= byte <= 126 and byte not in b'"\\' else f"\\x{byte:02x}" for byte in path)
 
 
-def shown_expression(expression):
+def printed_expression(expression):
     if isinstance(expression, Run):
         return f"run({expression.byte} {expression.count})"
     if isinstance(expression, Sub):
-        return f"sub({shown_expression(expression.whole)} {expression.start} {expression.count})"
+        return f"sub({printed_expression(expression.whole)} {expression.start} {expression.count})"
     if isinstance(expression, Cat):
-        return f"cat({' '.join(map(shown_expression, expression.members))})"
+        return f"cat({' '.join(map(printed_expression, expression.members))})"
     return expression.name
 
 
-def shown_maker(statement):
+def printed_maker(statement):
     """What a statement makes that is no simple one."""
     word, values = statement.word, statement.values
     if word == "let":
         return f"literal({len(values[1])})"
     if word in ("file", "eager", "lazy"):
-        return f'{word}("{shown_path(values[1])}")'
+        return f'{word}("{printed_path(values[1])}")'
     if word == "sprintf":
         return f"sprintf({' '.join(map(str, [len(values[1]), *values[2:]]))})"
     return f"{word}({' '.join(map(str, values[1:]))})"
 
 
-def shown_kept(statement):
+def printed_kept(statement):
     """A statement that is kept as it is."""
     word, values = statement.word, statement.values
     if word in BLOCK_WORDS:
@@ -189,31 +189,31 @@ def shown_kept(statement):
     return f"number {values[0]} {word}({' '.join(map(str, values[1:]))})"
 
 
-def shown(statements, expressions, measured):
+def printed(statements, expressions, measured):
     """The text of the plan with these expressions of simple lines, of which some places are only measured."""
     lines = []
     for place, statement in enumerate(statements):
         if statement.word == "put":
-            text = f"write {shown_expression(expressions[place])}"
+            text = f"write {printed_expression(expressions[place])}"
         elif place in expressions or statement.word in MAKERS:
-            made = shown_expression(expressions[place]) if place in expressions else shown_maker(statement)
+            made = printed_expression(expressions[place]) if place in expressions else printed_maker(statement)
             text = f"{'measure' if place in measured else 'build'} {statement.target()} {made}"
         else:
-            text = shown_kept(statement)
+            text = printed_kept(statement)
         lines.append(f"{statement.line} {text}\n")
     return "".join(lines).encode()
 
 
-def shown_trivial(statements):
-    own = {place: own_expression(statement) for place, statement in enumerate(statements)}
-    return shown(statements, {place: it for place, it in own.items() if it is not None}, set())
+def printed_trivial(statements):
+    own = {place: defining_expression(statement) for place, statement in enumerate(statements)}
+    return printed(statements, {place: it for place, it in own.items() if it is not None}, set())
 
 
-def shown_plan(statements):
+def printed_plan(statements):
     after, expressions, measured = next_places(statements), {}, set()
     for place, statement in enumerate(statements):
-        if own_expression(statement) is not None:
+        if defining_expression(statement) is not None:
             expressions[place] = replaced(place, statements, after, expressions, measured)
-        if statement.target() is not None and is_unread(statement.target(), place, statements, after):
+        if statement.target() is not None and is_not_live(statement.target(), place, statements, after):
             measured.add(place)
-    return shown(statements, expressions, measured)
+    return printed(statements, expressions, measured)

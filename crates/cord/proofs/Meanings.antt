@@ -10,7 +10,7 @@ use Rattle.cord_io.specs.Table.{Table, Lengths, HasLengths}
 use Rattle.cord_node.specs.declared.Node.{Node}
 use Rattle.cord_core.specs.Cord.{bytes_of, CordFitsIn}
 use Rattle.cord_core.specs.Equations.{IsCatOf, IsSubstring}
-use Rattle.cord_core.proofs.OverLemmas.{CordFits-told}
+use Rattle.cord_core.proofs.OverLemmas.{CordFits-reported}
 use Rattle.cord.specs.Means.{Means}
 use Rattle.cord.specs.Repeats.{IsRepeated}
 
@@ -19,14 +19,16 @@ module _ (ls : Lengths) where
       ((t : Table) → copies t ≡ repeat n (bytes t)) → IsRepeated n x c → Means ls copies c
   means_repeated bytes copies n x c m e r = record {
     fits = r.fits ls m.fits;
-    text = λ t told. r.bytes t (CordFits-told ls t x told m.fits) ∙ ap (λ (ys : List ℕ). repeat n ys) (m.text t told) ∙ sym (e t);
+    text = λ t reported. r.bytes t (CordFits-reported ls t x reported m.fits) ∙ ap (λ (ys : List ℕ). repeat n ys) (m.text t reported) ∙ sym
+        (e t);
   }
 
   pub means_range : (bytes : Table → List ℕ) (i n : ℕ) (x c : Option Node) → Means ls bytes x → IsSubstring i n x c →
       Means ls (λ t. take n (drop i (bytes t))) c
   means_range bytes i n x c m s = record {
     fits = s.fits ls m.fits;
-    text = λ t told. s.bytes t (CordFits-told ls t x told m.fits) ∙ ap (λ (ys : List ℕ). take n (drop i ys)) (m.text t told);
+    text = λ t reported. s.bytes t (CordFits-reported ls t x reported m.fits) ∙ ap (λ (ys : List ℕ). take n (drop i ys))
+        (m.text t reported);
   }
 
 -- the cord means the first n of the parts, joined in order
@@ -36,23 +38,23 @@ pub record Joined {X : Type 0} (ls : Lengths) (bytes : Table → X → List ℕ)
 
 module _ {X : Type 0} {ls : Lengths} {bytes : Table → X → List ℕ} {parts : List X} where
   pub joined_none : {c : Option Node} → c ≡ None → Joined ls bytes parts 0 c
-  joined_none e = rw e (record { fits = tt; text = λ t told. refl })
+  joined_none e = rw e (record { fits = tt; text = λ t reported. refl })
 
   pub joined_next : {n : ℕ} {c x e : Option Node} (d : X) → n < length parts → Joined ls bytes parts n c →
       Means ls (λ t. bytes t (get_or parts n d)) x → IsCatOf c x e → Joined ls bytes parts (n + 1) e
   joined_next {n} {c} {x} {e} d lt j m k = record {
     fits = k.fits ls j.fits m.fits;
-    text = λ t told. k.bytes t (CordFits-told ls t c told j.fits) (CordFits-told ls t x told m.fits)
-        ∙ (rw (j.text t told, m.text t told, take_more parts n d lt, flat_map-append, append-nil) refl);
+    text = λ t reported. k.bytes t (CordFits-reported ls t c reported j.fits) (CordFits-reported ls t x reported m.fits)
+        ∙ (rw (j.text t reported, m.text t reported, take_more parts n d lt, flat_map-append, append-nil) refl);
   }
 
   pub joined_all : {n : ℕ} {c : Option Node} → length parts ≤ n → Joined ls bytes parts n c → Means ls (λ t. flat_map (bytes t) parts) c
-  joined_all {n} {c} le j = record { fits = j.fits; text = λ t told. rw (← take_all n parts le) (j.text t told) }
+  joined_all {n} {c} le j = record { fits = j.fits; text = λ t reported. rw (← take_all n parts le) (j.text t reported) }
 
   -- a range of all parts was written
   pub joined_written : {E : Type 0} {n i m : ℕ} {c range : Option Node} (r : Result Unit E) (old new : List ℕ) (t : Table) →
       length parts ≤ n → Joined ls bytes parts n c → IsSubstring i m c range → HasLengths ls t
       → OnOk r (new ≡ old ++ bytes_of t range) → OnOk r (new ≡ old ++ take m (drop i (flat_map (bytes t) parts)))
-  joined_written {i = i} {m = m} {c = c} {range = range} r old new t le j s told h =
+  joined_written {i = i} {m = m} {c = c} {range = range} r old new t le j s reported h =
       let mean = means_range ls (λ t. flat_map (bytes t) parts) i m c range (joined_all le j) s in
-      subst (λ (xs : List ℕ). OnOk r (new ≡ old ++ xs)) (mean.text t told) h
+      subst (λ (xs : List ℕ). OnOk r (new ≡ old ++ xs)) (mean.text t reported) h

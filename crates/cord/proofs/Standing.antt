@@ -4,7 +4,7 @@ use Rattle.std.proofs.Common.{append-nil, length-append, length-drop}
 use Rattle.std.specs.Prelude.{slice_get}
 use Rattle.std.proofs.lemmas.List.{drop_more, take-append-drop}
 use Rattle.std.proofs.lemmas.Option.{slice_get_within, get_or_from_slice_get}
-use Rattle.cord_core.proofs.Places.{behind}
+use Rattle.cord_core.proofs.Places.{beyond}
 use Rattle.cord.specs.Places.{BeginsWith, EndsWith}
 
 -- a byte at a place, and what is after it
@@ -42,10 +42,10 @@ ends_there x s le (rest, e) = (
 
 -- and the end stands there
 pub end_stands : (x s : List ℕ) → EndsWith x s → BeginsWith (drop (length x - length s) x) s
-end_stands x s (front, e) = ([], at ∙ sym (append-nil s))
+end_stands x s (prefix, e) = ([], at ∙ sym (append-nil s))
   where
-    place : length x - length s ≡ 0 + length front
-    place = let l : length x ≡ length (front ++ s) = ap (λ (y : List ℕ). length y) e in omega (arith, l, length-append front s)
+    place : length x - length s ≡ 0 + length prefix
+    place = let l : length x ≡ length (prefix ++ s) = ap (λ (y : List ℕ). length y) e in omega (arith, l, length-append prefix s)
 
     at : drop (length x - length s) x ≡ s
-    at = ap (λ (n : ℕ). drop n x) place ∙ behind x 0 front s e
+    at = ap (λ (n : ℕ). drop n x) place ∙ beyond x 0 prefix s e

@@ -26,7 +26,7 @@ bare_lines x = map bare (lines x)
 abbrev pub lines_as : Bool → List ℕ → List (List ℕ)
 lines_as with_ends x = if with_ends then lines x else bare_lines x
 
--- an answer that is the next line, or want of memory in its place
+-- an answer that is the next line, or out of memory in its place
 abbrev pub IsLine : List ℕ → Result (List ℕ) CordError → Type 0
 IsLine line made = IfOk made (λ t. t ≡ line) × IsOkUnless made NoMemory
 

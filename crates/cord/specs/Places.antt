@@ -13,4 +13,4 @@ BeginsWith x s = (rest : List ℕ) × (x ≡ s ++ rest)
 
 -- x ends with s
 abbrev pub EndsWith : List ℕ → List ℕ → Type 0
-EndsWith x s = (front : List ℕ) × (x ≡ front ++ s)
+EndsWith x s = (prefix : List ℕ) × (x ≡ prefix ++ s)

@@ -6,7 +6,7 @@ use Rattle.cord_node.specs.Tree.{Cell}
 use Rattle.cord_node.specs.Tables.{AreHeldIn}
 use Rattle.cord_core.specs.Cord.{text_len, IsCord, bytes_of}
 use Rattle.cord_core.specs.Equations.{HasText}
-use Rattle.cord_ec.specs.Grown.{bytes_over}
+use Rattle.cord_ec.specs.Grown.{bytes_of_cells}
 
 -- a table whose entries are all empty
 abbrev pub no_table : Table
@@ -28,9 +28,9 @@ pub record IsPlain (c : Option Node) : Type 0 where
 
 -- the bytes of a growing text over no files
 abbrev pub grown_bytes : List Cell → List ℕ
-grown_bytes xs = bytes_over no_table xs
+grown_bytes xs = bytes_of_cells no_table xs
 
 -- a growing text with no cell in a file
 pub record IsPlainGrowth (xs : List Cell) : Type 0 where
   pub fits : (lengths : Lengths) → AreHeldIn lengths xs
-  pub bytes : (t : Table) → bytes_over t xs ≡ grown_bytes xs
+  pub bytes : (t : Table) → bytes_of_cells t xs ≡ grown_bytes xs

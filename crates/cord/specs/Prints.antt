@@ -24,7 +24,7 @@ print_of pieces args = printed (λ b. b) pieces (piece_arguments args)
 abbrev pub AreWanted : List Piece → List TextArg → Type 0
 AreWanted pieces args = map kind_of (piece_arguments args) ≡ wanted pieces
 
--- why a print is refused: the arguments first, then from left to right what is given, then the length; want of memory says
+-- why a print is refused: the arguments first, then from left to right what is given, then the length; out of memory says
 -- nothing
 abbrev pub IsRefusedFor : ℕ → List Piece → List TextArg → PrintError → Type 0
 IsRefusedFor limit pieces args WrongArgs = ¬ AreWanted pieces args

@@ -28,7 +28,7 @@ impl Model for TextBuilder {
 }
 
 impl TextBuilder {
-    /// The builder of no bytes. Refused for want of memory alone.
+    /// The builder of no bytes. Refused only when out of memory.
     pub fn new(alloc: Global) -> Result<TextBuilder, CordError>
         ensures text { IfOk result (λ made. made ≡ []) }
         ensures refused { IsOkUnless result CordError.NoMemory }
@@ -92,7 +92,7 @@ impl TextBuilder {
     }
 
     /// Its bytes as a text, which shares its tree with the builder. The builder stays, and can grow further. Refused
-    /// for want of memory alone.
+    /// only when out of memory.
     pub fn to_text(&mut self, alloc: Global) -> Result<Text, CordError>
         ensures text { IfOk result (λ t. t ≡ self.old) }
         ensures same { self.new ≡ self.old }

@@ -1,12 +1,12 @@
 // The chunks of a text.
 ghost use Rattle.std.specs.Prelude.{◌≡◌, ◌<◌, ◌≤◌, length, min, take, drop};
-ghost use Rattle.cord_pos.specs.Stretches.{stretch_len, stretch_bytes, StretchFitsIn};
+ghost use Rattle.cord_pos.specs.Spans.{span_len, span_bytes, SpanFitsIn};
 ghost use Rattle.cord.specs.Chunks.{chunk_bytes, JoinBackTo, JoinTo};
 ghost use Rattle.cord.specs.inner.Chunks.{IsAhead};
 ghost use Rattle.cord.specs.Plain.{no_lengths, no_table};
 
 use crate::{ChunksBack, Text};
-use cord_pos::{Position, Stretch};
+use cord_pos::{Position, Span};
 use std::io;
 use std::io::Read;
 use std::marker::Model;
@@ -31,17 +31,17 @@ impl<'a> Chunk<'a> {
         }
     }
 
-    // That of a stretch of a text over no files.
-    pub(crate) fn of(stretch: Stretch<'a>) -> Chunk<'a>
-        requires some { 0 < stretch_len stretch }
-        requires plain { StretchFitsIn no_lengths stretch }
-        ensures bytes { chunk_bytes result ≡ stretch_bytes no_table stretch.entry }
-        ensures len { length (chunk_bytes result) ≡ stretch_len stretch.entry }
+    // That of a span of a text over no files.
+    pub(crate) fn of(span: Span<'a>) -> Chunk<'a>
+        requires some { 0 < span_len span }
+        requires plain { SpanFitsIn no_lengths span }
+        ensures bytes { chunk_bytes result ≡ span_bytes no_table span.entry }
+        ensures len { length (chunk_bytes result) ≡ span_len span.entry }
     {
-        match stretch {
-            Stretch::Bytes(bytes) => Chunk::Bytes(bytes),
-            Stretch::Run { byte, len } => Chunk::Run { byte, count: len },
-            Stretch::Func { .. } => unreachable!(),
+        match span {
+            Span::Bytes(bytes) => Chunk::Bytes(bytes),
+            Span::Run { byte, len } => Chunk::Run { byte, count: len },
+            Span::Func { .. } => unreachable!(),
         }
     }
 }
@@ -94,7 +94,7 @@ impl<'a> Chunks<'a> {
         ensures { IsAhead self.now result }
     {
         match self.position.ahead() {
-            Some(stretch) => Some(Chunk::of(stretch)),
+            Some(span) => Some(Chunk::of(span)),
             None => None,
         }
     }
@@ -145,14 +145,14 @@ impl<'a> Read for Chunks<'a> {
         let Some(chunk) = self.ahead() else {
             return Ok(0);
         };
-        let count = copy_front(chunk, buf);
+        let count = copy_prefix(chunk, buf);
         self.pass(count as u64);
         Ok(count)
     }
 }
 
 // Copies what a chunk begins with into a buffer, as many bytes as there are in both.
-fn copy_front(chunk: Chunk<'_>, buf: &mut [u8]) -> usize
+fn copy_prefix(chunk: Chunk<'_>, buf: &mut [u8]) -> usize
     ensures count { result ≡ min (length (chunk_bytes chunk.entry)) (length buf.old) }
     ensures len { length buf.new ≡ length buf.old }
     ensures copied { take result buf.new ≡ take result (chunk_bytes chunk.entry) }

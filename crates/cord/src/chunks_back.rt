@@ -33,9 +33,9 @@ impl<'a> Iterator for ChunksBack<'a> {
 
     fn next(&mut self) -> Option<Chunk<'a>> {
         let index = self.position.index()?;
-        let stretch = self.position.behind()?;
-        self.position.move_to(index + 1 - stretch.len());
+        let span = self.position.behind()?;
+        self.position.move_to(index + 1 - span.len());
         self.position.prev();
-        Some(Chunk::of(stretch))
+        Some(Chunk::of(span))
     }
 }

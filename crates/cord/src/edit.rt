@@ -20,13 +20,13 @@ impl Text {
     /// The bytes before `at`, and those from `at` on: all and none where `at` is at or past the end. Refused for want
     /// of memory alone.
     pub fn split_at(&self, alloc: Global, at: u64) -> Result<(Text, Text), CordError>
-        ensures front { IfOk result (λ parts. parts.0 ≡ take at self.now) }
+        ensures prefix { IfOk result (λ parts. parts.0 ≡ take at self.now) }
         ensures back { IfOk result (λ parts. parts.1 ≡ drop at self.now) }
         ensures refused { IsOkUnless result CordError.NoMemory }
     {
-        let front = self.substr(alloc, 0, at)?;
+        let prefix = self.substr(alloc, 0, at)?;
         let back = self.substr(alloc, at, self.len())?;
-        Ok((front, back))
+        Ok((prefix, back))
     }
 
     /// This text with the bytes of `text` in front of its byte `at`: at its end where `at` is at or past the end.
@@ -42,7 +42,7 @@ impl Text {
     }
 
     /// This text without at most `count` of its bytes from `start` on: all of it where `start` is at or past the end.
-    /// Refused for want of memory alone.
+    /// Refused only when out of memory.
     pub fn remove(&self, alloc: Global, start: u64, count: u64) -> Result<Text, CordError>
         ensures text { IfOk result (λ t. t ≡ take start self.now ++ drop (start + count) self.now) }
         ensures refused { IsOkUnless result CordError.NoMemory }
@@ -75,7 +75,7 @@ impl Text {
     }
 
     /// The same bytes in a tree of a depth of about 1.44 times the binary logarithm of their number at most. Refused
-    /// for want of memory alone.
+    /// only when out of memory.
     pub fn balance(&self, alloc: Global) -> Result<Text, CordError>
         ensures text { IfOk result (λ t. t ≡ self.now) }
         ensures refused { IsOkUnless result CordError.NoMemory }

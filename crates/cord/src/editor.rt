@@ -28,7 +28,7 @@ impl Model for TextEditor {
 }
 
 impl TextEditor {
-    /// An editor of the bytes of `text`, whose tree it shares. Refused for want of memory alone.
+    /// An editor of the bytes of `text`, whose tree it shares. Refused only when out of memory.
     pub fn of(alloc: Global, text: &Text) -> Result<TextEditor, CordError>
         ensures text { IfOk result (λ made. made ≡ text.now) }
         ensures refused { IsOkUnless result CordError.NoMemory }
@@ -79,7 +79,7 @@ impl TextEditor {
         Ok(())
     }
 
-    /// Takes out at most `count` bytes from `start` on: none where `start` is at or past the end. Refused for want of
+    /// Takes out at most `count` bytes from `start` on: none where `start` is at or past the end. Refused when out of
     /// memory alone.
     pub fn remove(&mut self, alloc: Global, start: u64, count: u64) -> Result<(), CordError>
         ensures text { OnOk result (self.new ≡ take start self.old ++ drop (start + count) self.old) }
@@ -113,7 +113,7 @@ impl TextEditor {
     }
 
     /// Its bytes as a text, which shares its tree with the editor. The editor stays, and can be edited further. Refused
-    /// for want of memory alone.
+    /// only when out of memory.
     pub fn to_text(&mut self, alloc: Global) -> Result<Text, CordError>
         ensures text { IfOk result (λ t. t ≡ self.old) }
         ensures same { self.new ≡ self.old }

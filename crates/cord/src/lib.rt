@@ -83,7 +83,7 @@ pub use cord_io::{
     MemFiles, MemSink, OpenFault, ReadFault, Sink, Source, SourceId, StdSink, WriteFault,
 };
 pub use cord_iter::{Visitor, iter, iter5, put, riter, riter4, to_vec};
-pub use cord_pos::{Position, Stretch};
+pub use cord_pos::{Position, Span};
 pub use cord_printf::{Arg, Format, FormatError, PrintError, sprintf, sprintf_len};
 pub use cord_search::{MOST_BYTES, chr, cmp, fetch, find_bytes, ncmp, rchr, str, str as find};
 pub use doubling::repeated;

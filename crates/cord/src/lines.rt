@@ -56,7 +56,7 @@ impl Text {
     }
 
     /// Line `n`, from 0, without its end: none where there are no more than `n` lines. Those before it aren't made.
-    /// Refused for want of memory alone.
+    /// Refused only when out of memory.
     pub fn nth_line(&self, alloc: Global, n: u64) -> Result<Option<Text>, CordError>
         ensures line { IfOk result (λ line. line ≡ slice_get (bare_lines self.now) n) }
         ensures refused { IsOkUnless result CordError.NoMemory }

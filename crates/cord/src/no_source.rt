@@ -12,7 +12,7 @@ impl Source for NoSource {
 
     ghost lengths = { λ _. no_lengths };
 
-    ghost keeps = { λ _ _. ⊤ };
+    ghost consistent = { λ _ _. ⊤ };
 
     ghost table = { λ _ _. no_table };
 

@@ -1,14 +1,14 @@
 // The bytes of a text in a vector, and in a sink.
 ghost use Rattle.std.specs.Prelude.{◌≡◌, ◌<◌, ◌++◌, OnOk, OnErr, IfOk, IfErr, IsOk, IsOkUnless, is_err};
 ghost use Rattle.cord_io.specs.Device.{count_after};
-ghost use Rattle.cord_iter.specs.Output.{IsFrontOf, Takes};
+ghost use Rattle.cord_iter.specs.Output.{IsPrefixOf, Takes};
 
 use crate::{NoSource, Text};
 use cord_io::{CordError, Sink};
 use std::alloc::Global;
 
 impl Text {
-    /// Its bytes in a vector of that length. Refused for want of memory alone.
+    /// Its bytes in a vector of that length. Refused only when out of memory.
     pub fn to_vec(&self, alloc: Global) -> Result<Vec<u8>, CordError>
         ensures text { IfOk result (λ v. v.items ≡ self.now) }
         ensures refused { IsOkUnless result CordError.NoMemory }
@@ -21,7 +21,7 @@ impl Text {
     /// `WriteFailed` where the sink failed: then it has taken a prefix of the bytes.
     pub fn put<W: Sink>(&self, sink: &mut W) -> Result<(), CordError>
         ensures text { OnOk result (W.taken sink.new ≡ W.taken sink.old ++ self.now) }
-        ensures prefix { OnErr result (Takes (IsFrontOf self.now) (W.taken sink.old) (W.taken sink.new)) }
+        ensures prefix { OnErr result (Takes (IsPrefixOf self.now) (W.taken sink.old) (W.taken sink.new)) }
         ensures refused { IfErr result (λ e. e ≡ CordError.WriteFailed) }
         ensures count { W.failures sink.new ≡ count_after (is_err result) (W.failures sink.old) }
         ensures steady { W.failures sink.old < u64.MAX → W.failures sink.new ≡ W.failures sink.old → IsOk result }

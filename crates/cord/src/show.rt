@@ -6,7 +6,7 @@ use crate::{Chunk, Text};
 use std::fmt;
 
 /// How many bytes of a text `{:?}` shows at most.
-const FRONT_LEN: u64 = 32;
+const PREFIX_LEN: u64 = 32;
 
 /// How many bytes of a run are written at once.
 const PIECE_LEN: usize = 64;
@@ -25,12 +25,12 @@ impl fmt::Debug for Text {
         }
         let len = self.len();
         write!(f, "Text({len}, b\"")?;
-        for place in 0..len.min(FRONT_LEN) {
+        for place in 0..len.min(PREFIX_LEN) {
             if let Some(byte) = self.get(place) {
                 f.write(byte.escape_ascii())?;
             }
         }
-        let end = if len <= FRONT_LEN { "\")" } else { "\"..)" };
+        let end = if len <= PREFIX_LEN { "\")" } else { "\"..)" };
         f.write_str(end)
     }
 }
@@ -88,17 +88,17 @@ fn write_chunk<W: fmt::Write>(
     ensures { IfOk result (λ count. count ≤ length (chunk_bytes chunk.entry)) }
 {
     let count = match chunk {
-        Chunk::Bytes(bytes) => write_front(bytes, f)?,
+        Chunk::Bytes(bytes) => write_prefix(bytes, f)?,
         Chunk::Run { byte, count } => {
             let piece = [byte; PIECE_LEN];
-            write_front(&piece[..count.min(PIECE_LEN as u64) as usize], f)?
+            write_prefix(&piece[..count.min(PIECE_LEN as u64) as usize], f)?
         }
     };
     Ok(count as u64)
 }
 
 // Writes the UTF-8 that bytes begin with: how many they are.
-fn write_front<W: fmt::Write>(bytes: &[u8], f: &mut fmt::Formatter<W>) -> Result<usize, fmt::Error>
+fn write_prefix<W: fmt::Write>(bytes: &[u8], f: &mut fmt::Formatter<W>) -> Result<usize, fmt::Error>
     ensures { IfOk result (λ count. count ≤ length bytes.now) }
 {
     let Some(first) = bytes.utf8_chunks().next() else {

@@ -34,7 +34,7 @@ pub struct TextSink {
 }
 
 impl TextSink {
-    /// The sink that has taken nothing. Refused for want of memory alone.
+    /// The sink that has taken nothing. Refused only when out of memory.
     pub fn new(alloc: Global) -> Result<TextSink, CordError>
         ensures taken { IfOk result (λ made. ⟦<TextSink as Sink>⟧.taken made ≡ []) }
         ensures finished { IfOk result (λ made. ⟦<TextSink as Sink>⟧.finished made ≡ never_finished) }
@@ -53,7 +53,7 @@ impl TextSink {
     }
 
     /// The bytes that it has taken as a text, which shares its tree with the sink. The sink stays, and can take more.
-    /// Refused for want of memory alone.
+    /// Refused only when out of memory.
     pub fn to_text(&mut self) -> Result<Text, CordError>
         ensures text { IfOk result (λ t. t ≡ ⟦<TextSink as Sink>⟧.taken self.old) }
         ensures taken { ⟦<TextSink as Sink>⟧.taken self.new ≡ ⟦<TextSink as Sink>⟧.taken self.old }
@@ -111,7 +111,7 @@ impl Sink for TextSink {
         ensures count { ⟦<TextSink as Sink>⟧.failures self.new
             ≡ count_after (is_err result) (⟦<TextSink as Sink>⟧.failures self.old) }
 
-        // It can be told 2^64 - 1 times.
+        // It can be reported 2^64 - 1 times.
         ensures ends { OnErr result ((⟦<TextSink as Sink>⟧.finished self.old).ended ≡ u64.MAX) }
     {
         if self.ends == u64::MAX {

@@ -52,7 +52,7 @@ impl Text {
         self.len() == 0
     }
 
-    /// The same text once more, which shares its tree. Refused for want of memory alone.
+    /// The same text once more, which shares its tree. Refused only when out of memory.
     pub fn share(&self, alloc: Global) -> Result<Text, CordError>
         ensures same { IfOk result (λ t. t ≡ self.now) }
         ensures refused { IsOkUnless result CordError.NoMemory }

@@ -3,8 +3,8 @@ use Rattle.std.proofs.Common.{◌≡◌, ◌+◌, ◌<◌, ◌≤◌, List, [], 
 use Rattle.cord_io.specs.declared.TheConstants.{MAX_LEN}
 use Rattle.cord_balance.specs.declared.TheConstants.{MAX_INDEX}
 use Rattle.cord_node.specs.Tree.{Cell, cells, len_of}
-use Rattle.cord_node.specs.Kept.{parts, Kept}
-use Rattle.cord_node.proofs.KeptLemmas.{Kept-more, Kept-self, Kept-trans}
+use Rattle.cord_node.specs.PartsFrom.{parts, PartsFrom}
+use Rattle.cord_node.proofs.PartsFromLemmas.{PartsFrom-more, PartsFrom-self, PartsFrom-trans}
 use Rattle.cord_node.proofs.TreeLemmas.{len_positive}
 use Rattle.cord_balance.specs.Pieces.{Shared, all_cells, all_parts, total_len, AllSound}
 use Rattle.cord_balance.specs.declared.forest.Piece.{Piece}
@@ -14,18 +14,25 @@ use Rattle.cord_balance.proofs.ForestLemmas.{no_pieces}
 
 -- the forest is empty
 pub filling_start : (all : List Shared) (f : List Piece) → AllSound all → f ≡ [] → IsFilling all all f
-filling_start all f s e = rw e (record { is_forest = tt; sound = s; text = refl; len = omega arith; kept = Kept-self (all_parts all) })
+filling_start all f s e = rw e (record {
+  is_forest = tt;
+  sound = s;
+  text = refl;
+  len = omega arith;
+  parts_from = PartsFrom-self
+      (all_parts all);
+})
 
 -- one more node is in the forest
 pub filling_step : (all : List Shared) (x : Shared) (rest : List Shared) (f g : List Piece) → IsFilling all (x ∷ rest) f → IsForest g →
     forest_cells g ≡ forest_cells f ++ cells x.value → forest_len g ≡ forest_len f + len_of x.value →
-    Kept (forest_parts f ++ parts x.value) (forest_parts g) → IsFilling all rest g
+    PartsFrom (forest_parts f ++ parts x.value) (forest_parts g) → IsFilling all rest g
 filling_step all x rest f g i w t l k = record {
   is_forest = w;
   sound = i.sound.1;
   text = ap (λ (cs : List Cell). cs ++ all_cells rest) t ∙ append_assoc (forest_cells f) (cells x.value) (all_cells rest) ∙ i.text;
   len = omega (arith, i.len);
-  kept = Kept-more (all_parts all) (forest_parts f) (parts x.value) (all_parts rest) (forest_parts g) i.kept k;
+  parts_from = PartsFrom-more (all_parts all) (forest_parts f) (parts x.value) (all_parts rest) (forest_parts g) i.parts_from k;
 }
 
 -- no list of nodes is empty
@@ -53,13 +60,13 @@ filling_text all f g x i h w a l t =
 
 -- and its parts are kept
 pub filling_kept : (all : List Shared) (f g : List Piece) (x : Shared) → IsFilling all [] f → total_len all ≤ MAX_LEN → IsForest g →
-    AllFrom MAX_INDEX g → forest_len f ≡ forest_len g + len_of x.value → Kept (forest_parts f) (forest_parts g ++ parts x.value) →
-    Kept (all_parts all) (parts x.value)
+    AllFrom MAX_INDEX g → forest_len f ≡ forest_len g + len_of x.value → PartsFrom (forest_parts f) (forest_parts g ++ parts x.value) →
+    PartsFrom (all_parts all) (parts x.value)
 filling_kept all f g x i h w a l k =
     let e : g ≡ [] = no_pieces g w a (omega (arith, i.len)) in
-    let m : Kept (forest_parts f) (parts x.value) = rw e at k in
-    let n : Kept (all_parts all) (forest_parts f) = rw append-nil at i.kept in
-    Kept-trans (all_parts all) (forest_parts f) (parts x.value) n m
+    let m : PartsFrom (forest_parts f) (parts x.value) = rw e at k in
+    let n : PartsFrom (all_parts all) (forest_parts f) = rw append-nil at i.parts_from in
+    PartsFrom-trans (all_parts all) (forest_parts f) (parts x.value) n m
 
 -- and its length is theirs together
 pub filling_len : (all : List Shared) (f g : List Piece) (x : Shared) → IsFilling all [] f → total_len all ≤ MAX_LEN → IsForest g →

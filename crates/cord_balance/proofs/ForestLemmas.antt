@@ -4,9 +4,9 @@ use Rattle.std.specs.Prelude.{max, Some, slice_get, length, suc, Bool, true, fal
 use Rattle.cord_io.specs.declared.TheConstants.{MAX_LEN, MAX_DEPTH}
 use Rattle.cord_balance.specs.declared.TheConstants.{MAX_INDEX}
 use Rattle.cord_node.specs.Tree.{Cell, cells, len_of, depth_of, count_of, are_merged, joined_depth, joined_count}
-use Rattle.cord_node.specs.Kept.{Part, parts}
+use Rattle.cord_node.specs.PartsFrom.{Part, parts}
 use Rattle.cord_node.specs.declared.Node.{Node}
-use Rattle.cord_node.proofs.KeptLemmas.{Kept_same}
+use Rattle.cord_node.proofs.PartsFromLemmas.{PartsFrom_same}
 use Rattle.cord_node.proofs.TreeLemmas.{count_within_len}
 use Rattle.cord_balance.specs.Fib.{fib_of}
 use Rattle.cord_balance.specs.declared.forest.Piece.{Piece}
@@ -127,4 +127,4 @@ pub joined_shallow : (left right node : Node) (k : ℕ) → k ≤ 1 → depth_of
 joined_shallow left right node k h d c g = joined_cases (are_merged left right) (depth_of node) (count_of node)
     (max (depth_of left) (depth_of right) + 1) (count_of left + count_of right) k d c h g
 
-pub ruleset joins = (join_fits, join_shallow, fib_less, append-nil, Kept_same)
+pub ruleset joins = (join_fits, join_shallow, fib_less, append-nil, PartsFrom_same)

@@ -7,9 +7,9 @@ use Rattle.cord_balance.specs.declared.TheConstants.{MAX_INDEX}
 use Rattle.cord_node.specs.declared.Node.{Node}
 use Rattle.cord_node.specs.declared.Node.TheVariants.{Cat'}
 use Rattle.cord_node.specs.Tree.{Cell, cells, len_of, IsSound}
-use Rattle.cord_node.specs.Kept.{Part, parts, Kept}
+use Rattle.cord_node.specs.PartsFrom.{Part, parts, PartsFrom}
 use Rattle.cord_node.proofs.TreeLemmas.{len_positive}
-use Rattle.cord_node.proofs.KeptLemmas.{Kept-self, Kept-both, Kept-trans}
+use Rattle.cord_node.proofs.PartsFromLemmas.{PartsFrom-self, PartsFrom-both, PartsFrom-trans}
 use Rattle.cord_balance.specs.declared.forest.Piece.{Piece}
 use Rattle.cord_balance.specs.inner.Forest.{AllFrom, IsForest, IsForm, forest_cells, forest_parts, forest_len}
 use Rattle.cord_balance.proofs.ForestLemmas.{no_pieces}
@@ -19,15 +19,16 @@ use Rattle.cord_balance.proofs.Inserting.{kept_two}
 pub record IsPut (old new : List Piece) (n : Node) : Type 0 where
   pub text : forest_cells new ≡ forest_cells old ++ cells n
   pub len : forest_len new ≡ forest_len old + len_of n
-  pub kept : Kept (forest_parts old ++ parts n) (forest_parts new)
+  pub parts_from : PartsFrom (forest_parts old ++ parts n) (forest_parts new)
 
 -- a form that was put after pieces stands for its node
 pub form_put : (old new : List Piece) (n form : Node) → IsForm n form → IsPut old new form → IsPut old new n
 form_put old new n form f put = record {
   text = put.text ∙ ap (λ (cs : List Cell). forest_cells old ++ cs) f.text;
   len = put.len ∙ ap (λ (k : ℕ). forest_len old + k) f.len;
-  kept = Kept-trans (forest_parts old ++ parts n) (forest_parts old ++ parts form) (forest_parts new)
-      (Kept-both (forest_parts old) (parts n) (forest_parts old) (parts form) (Kept-self (forest_parts old)) f.kept) put.kept;
+  parts_from = PartsFrom-trans (forest_parts old ++ parts n) (forest_parts old ++ parts form) (forest_parts new)
+      (PartsFrom-both (forest_parts old) (parts n) (forest_parts old) (parts form) (PartsFrom-self (forest_parts old)) f.parts_from)
+      put.parts_from;
 }
 
 -- a concatenation is put where its two sides are
@@ -39,20 +40,20 @@ cat_put old mid new n p l q r len depth count mark e s one two =
     let put : IsPut old new (Cat' mark depth len p l q r count) = record {
       text = two.text ∙ ap (λ (cs : List Cell). cs ++ cells r) one.text ∙ append_assoc (forest_cells old) (cells l) (cells r);
       len = omega (arith, one.len, two.len, long);
-      kept = kept_two (forest_parts old) (parts l) (parts r) (forest_parts mid) (forest_parts new) one.kept two.kept;
+      parts_from = kept_two (forest_parts old) (parts l) (parts r) (forest_parts mid) (forest_parts new) one.parts_from two.parts_from;
     } in
     subst (λ (m : Node). IsPut old new m) (sym e) put
 
 -- what all pieces of an empty forest and a node were joined to is the node's form
 pub form_of_put : (old all : List Piece) (n form : Node) → old ≡ [] → IsPut old all n → IsSound form → cells form ≡ forest_cells all →
-    len_of form ≡ forest_len all → Kept (forest_parts all) (parts form) → IsForm n form
-form_of_put old all n form none put s t k kept =
+    len_of form ≡ forest_len all → PartsFrom (forest_parts all) (parts form) → IsForm n form
+form_of_put old all n form none put s t k parts_from =
     let fresh : IsPut [] all n = subst (λ (ps : List Piece). IsPut ps all n) none put in
     record {
       sound = s;
       text = t ∙ fresh.text;
       len = omega (arith, k, fresh.len);
-      kept = Kept-trans (parts n) (forest_parts all) (parts form) fresh.kept kept;
+      parts_from = PartsFrom-trans (parts n) (forest_parts all) (parts form) fresh.parts_from parts_from;
     }
 
 -- the right side of a concatenation isn't empty

@@ -3,8 +3,8 @@ use Rattle.std.proofs.Common.{◌≡◌, ℕ, ◌+◌, ◌<◌, ◌≤◌, List,
 use Rattle.std.specs.Prelude.{max, Option, Some, None}
 use Rattle.cord_io.specs.declared.TheConstants.{MAX_LEN}
 use Rattle.cord_node.specs.Tree.{Cell, cells, len_of, depth_of, count_of}
-use Rattle.cord_node.specs.Kept.{Part, parts, Kept}
-use Rattle.cord_node.proofs.KeptLemmas.{Kept-self, Kept_same, Kept-both, Kept-trans}
+use Rattle.cord_node.specs.PartsFrom.{Part, parts, PartsFrom}
+use Rattle.cord_node.proofs.PartsFromLemmas.{PartsFrom-self, PartsFrom_same, PartsFrom-both, PartsFrom-trans}
 use Rattle.cord_balance.specs.Fib.{fib_of}
 use Rattle.cord_balance.specs.Pieces.{Shared}
 use Rattle.cord_balance.specs.declared.forest.Piece.{Piece}
@@ -20,7 +20,7 @@ gathering_start old below f = record {
   forest = f;
   text = sym (append-nil (forest_cells old));
   len = omega arith;
-  kept = Kept_same (forest_parts old) (forest_parts old ++ []) (append-nil (forest_parts old));
+  parts_from = PartsFrom_same (forest_parts old) (forest_parts old ++ []) (append-nil (forest_parts old));
   gathered = tt;
   right = tt;
 }
@@ -42,10 +42,10 @@ depth_put rest p (Some n) node i r u =
     omega arith
 
 -- the last piece joined with what stands to its right is kept
-pub kept_put : (a b c j n : List Part) → Kept a (b ++ c ++ j) → Kept (c ++ j) n → Kept a (b ++ n)
+pub kept_put : (a b c j n : List Part) → PartsFrom a (b ++ c ++ j) → PartsFrom (c ++ j) n → PartsFrom a (b ++ n)
 kept_put a b c j n h k =
-    let l : Kept (b ++ (c ++ j)) (b ++ n) = Kept-both b (c ++ j) b n (Kept-self b) k in
-    Kept-trans a (b ++ (c ++ j)) (b ++ n) (rw (← append_assoc b c j) h) l
+    let l : PartsFrom (b ++ (c ++ j)) (b ++ n) = PartsFrom-both b (c ++ j) b n (PartsFrom-self b) k in
+    PartsFrom-trans a (b ++ (c ++ j)) (b ++ n) (rw (← append_assoc b c j) h) l
 
 -- one more piece was taken off and joined
 pub gathering_step : (old rest : List Piece) (p : Piece) (joined : Option Shared) (node : Shared) (below : ℕ) →
@@ -62,8 +62,8 @@ gathering_step old rest p joined node below g b u =
           ∙ append_assoc (forest_cells rest) (cells p.node.value) (piece_cells joined) ∙ ap (λ (l : List Cell). forest_cells rest ++ l)
           (sym u.text);
       len = omega (arith, g.len, u.len);
-      kept = kept_put (forest_parts old) (forest_parts rest) (parts p.node.value) (piece_parts joined) (parts node.value)
-          (rw (← forest_parts-snoc rest p) g.kept) u.kept;
+      parts_from = kept_put (forest_parts old) (forest_parts rest) (parts p.node.value) (piece_parts joined) (parts node.value)
+          (rw (← forest_parts-snoc rest p) g.parts_from) u.parts_from;
       gathered = (u.sound, u.shallow, j);
       right = AllFrom-lower (depth_of node.value + 1) (p.slot + 1) rest k (IsForest-falls rest p g.forest);
     }

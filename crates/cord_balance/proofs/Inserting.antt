@@ -5,8 +5,8 @@ use Rattle.std.proofs.lemmas.Bool.{cases_lt}
 use Rattle.cord_io.specs.declared.TheConstants.{MAX_LEN, MAX_DEPTH}
 use Rattle.cord_balance.specs.declared.TheConstants.{MAX_INDEX}
 use Rattle.cord_node.specs.Tree.{depth_of}
-use Rattle.cord_node.specs.Kept.{Part, Kept}
-use Rattle.cord_node.proofs.KeptLemmas.{Kept-self, Kept-both, Kept-trans}
+use Rattle.cord_node.specs.PartsFrom.{Part, PartsFrom}
+use Rattle.cord_node.proofs.PartsFromLemmas.{PartsFrom-self, PartsFrom-both, PartsFrom-trans}
 use Rattle.cord_balance.specs.Fib.{fib_of, IsSlotOf}
 use Rattle.cord_balance.specs.Pieces.{Shared}
 use Rattle.cord_balance.specs.inner.Forest.{IsGathered}
@@ -57,17 +57,17 @@ joined_depth_in_slot slot len dr d (Some x) i g b n s = let k : dr + 2 < slot + 
     fib_below (dr + 2) (slot + 1) (omega (arith, i.below)) in let h : depth_of x.value < slot = g.2 in omega arith
 
 -- what is put into a forest is kept
-pub kept_insert : (old rest small n joined new : List Part) → Kept old (rest ++ small) → Kept (small ++ n) joined →
-    Kept (rest ++ joined) new → Kept (old ++ n) new
+pub kept_insert : (old rest small n joined new : List Part) → PartsFrom old (rest ++ small) → PartsFrom (small ++ n) joined →
+    PartsFrom (rest ++ joined) new → PartsFrom (old ++ n) new
 kept_insert old rest small n joined new a b c =
-    let p : Kept (old ++ n) ((rest ++ small) ++ n) = Kept-both old n (rest ++ small) n a (Kept-self n) in
-    let q : Kept (rest ++ (small ++ n)) (rest ++ joined) = Kept-both rest (small ++ n) rest joined (Kept-self rest) b in
-    let e : Kept ((rest ++ small) ++ n) (rest ++ joined) = rw (append_assoc rest small n) q in
-    Kept-trans (old ++ n) ((rest ++ small) ++ n) new p (Kept-trans ((rest ++ small) ++ n) (rest ++ joined) new e c)
+    let p : PartsFrom (old ++ n) ((rest ++ small) ++ n) = PartsFrom-both old n (rest ++ small) n a (PartsFrom-self n) in
+    let q : PartsFrom (rest ++ (small ++ n)) (rest ++ joined) = PartsFrom-both rest (small ++ n) rest joined (PartsFrom-self rest) b in
+    let e : PartsFrom ((rest ++ small) ++ n) (rest ++ joined) = rw (append_assoc rest small n) q in
+    PartsFrom-trans (old ++ n) ((rest ++ small) ++ n) new p (PartsFrom-trans ((rest ++ small) ++ n) (rest ++ joined) new e c)
 
 -- two parts of a tree, one after the other
-pub kept_two : (old l r mid new : List Part) → Kept (old ++ l) mid → Kept (mid ++ r) new → Kept (old ++ (l ++ r)) new
+pub kept_two : (old l r mid new : List Part) → PartsFrom (old ++ l) mid → PartsFrom (mid ++ r) new → PartsFrom (old ++ (l ++ r)) new
 kept_two old l r mid new a b =
-    let p : Kept ((old ++ l) ++ r) (mid ++ r) = Kept-both (old ++ l) r mid r a (Kept-self r) in
-    let q : Kept (old ++ (l ++ r)) (mid ++ r) = rw (← append_assoc old l r) p in
-    Kept-trans (old ++ (l ++ r)) (mid ++ r) new q b
+    let p : PartsFrom ((old ++ l) ++ r) (mid ++ r) = PartsFrom-both (old ++ l) r mid r a (PartsFrom-self r) in
+    let q : PartsFrom (old ++ (l ++ r)) (mid ++ r) = rw (← append_assoc old l r) p in
+    PartsFrom-trans (old ++ (l ++ r)) (mid ++ r) new q b

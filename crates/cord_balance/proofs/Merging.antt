@@ -5,8 +5,8 @@ use Rattle.std.proofs.lemmas.Bool.{cases_lt}
 use Rattle.cord_io.specs.declared.TheConstants.{MAX_LEN, MAX_DEPTH}
 use Rattle.cord_balance.specs.declared.TheConstants.{MAX_INDEX}
 use Rattle.cord_node.specs.Tree.{Cell, cells, len_of, depth_of, count_of, IsSound}
-use Rattle.cord_node.specs.Kept.{parts}
-use Rattle.cord_node.proofs.KeptLemmas.{Kept-self}
+use Rattle.cord_node.specs.PartsFrom.{parts}
+use Rattle.cord_node.proofs.PartsFromLemmas.{PartsFrom-self}
 use Rattle.cord_node.proofs.TreeLemmas.{count_within_len}
 use Rattle.cord_balance.specs.Fib.{fib_of, IsSlotOf}
 use Rattle.cord_balance.specs.Pieces.{Shared}
@@ -38,7 +38,7 @@ pub merging_shallow : (old rest : List Piece) (p : Piece) (node joined : Shared)
 merging_shallow old rest p node joined slot g b =
     let i : IsPiece p = IsForest-last rest p g.forest in
     let h : depth_of p.node.value < p.slot = depth_in_slot p i in
-    let k : depth_of joined.value ≤ p.slot = AllFrom-last (depth_of joined.value) rest p g.behind in
+    let k : depth_of joined.value ≤ p.slot = AllFrom-last (depth_of joined.value) rest p g.beyond in
     let m : fib_of p.slot ≤ fib_of slot = fib_mono p.slot slot (omega arith) in
     merged_shallow (depth_of p.node.value) (depth_of joined.value) (count_of p.node.value) (count_of joined.value) p.slot i.shallow g.shallow
     (omega arith) k i.slot.above (omega (arith, g.slot_is.above))
@@ -72,7 +72,7 @@ pub merging_step : (old rest : List Piece) (p : Piece) (node joined next : Share
 merging_step old rest p node joined next slot slot' g b u s =
     let i : IsPiece p = IsForest-last rest p g.forest in
     let h : depth_of p.node.value < p.slot = depth_in_slot p i in
-    let k : depth_of joined.value ≤ p.slot = AllFrom-last (depth_of joined.value) rest p g.behind in
+    let k : depth_of joined.value ≤ p.slot = AllFrom-last (depth_of joined.value) rest p g.beyond in
     let d : depth_of next.value ≤ max (depth_of p.node.value) (depth_of joined.value) + 1 = u.depth in
     let d1 : depth_of next.value + 1 ≤ max (depth_of p.node.value) (depth_of joined.value) + 1 + 1 = omega arith in
     let d2 : depth_of next.value ≤ p.slot + 1 = omega arith in
@@ -86,13 +86,13 @@ merging_step old rest p node joined next slot slot' g b u s =
       sound = u.sound;
       slot_is = s;
       shallow = joined_shallow p.node.value joined.value next.value 1 (omega arith) u.depth_is u.count (omega arith);
-      behind = AllFrom-lower (depth_of next.value) (p.slot + 1) rest d2 (IsForest-falls rest p g.forest);
+      beyond = AllFrom-lower (depth_of next.value) (p.slot + 1) rest d2 (IsForest-falls rest p g.forest);
       text = g.text ∙ ap (λ (l : List Cell). l ++ cells joined.value) (forest_cells-snoc rest p)
           ∙ append_assoc (forest_cells rest) (cells p.node.value) (cells joined.value) ∙ ap (λ (l : List Cell). forest_cells rest ++ l)
           (sym u.text);
       len = omega (arith, g.len, u.len);
-      kept = kept_put (forest_parts old ++ parts node.value) (forest_parts rest) (parts p.node.value) (parts joined.value)
-          (parts next.value) (rw (← forest_parts-snoc rest p) g.kept) u.kept;
+      parts_from = kept_put (forest_parts old ++ parts node.value) (forest_parts rest) (parts p.node.value) (parts joined.value)
+          (parts next.value) (rw (← forest_parts-snoc rest p) g.parts_from) u.parts_from;
     }
 
 -- nothing was joined yet
@@ -103,10 +103,10 @@ merging_start old node slot f s i h a = record {
   sound = s;
   slot_is = i;
   shallow = h;
-  behind = a;
+  beyond = a;
   text = refl;
   len = refl;
-  kept = Kept-self (forest_parts old ++ parts node.value);
+  parts_from = PartsFrom-self (forest_parts old ++ parts node.value);
 }
 
 -- the new piece in its slot

@@ -6,7 +6,7 @@ use Rattle.cord_io.specs.Table.{Table, Lengths}
 use Rattle.cord_node.specs.declared.Node.{Node}
 use Rattle.cord_node.specs.Tree.{Cell, cells, len_of, IsSound}
 use Rattle.cord_node.specs.Tables.{bytes_over, FitsIn, lengths_of}
-use Rattle.cord_node.specs.Kept.{Part, parts}
+use Rattle.cord_node.specs.PartsFrom.{Part, parts}
 
 -- a node in a list
 abbrev pub Shared : Type 0

@@ -3,7 +3,7 @@
 
 ghost use Rattle.std.specs.Prelude.{◌≡◌, ℕ, ◌+◌, ◌<◌, ◌≤◌, IfOk, length};
 ghost use Rattle.cord_node.specs.Tree.{cells, len_of, depth_of, IsSound};
-ghost use Rattle.cord_node.specs.Kept.{parts, Kept};
+ghost use Rattle.cord_node.specs.PartsFrom.{parts, PartsFrom};
 ghost use Rattle.cord_balance.specs.Fib.{fib_of, IsSlotOf};
 ghost use Rattle.cord_balance.specs.Pieces.{all_cells, all_parts, total_len, AllSound, AreJoinedOver};
 
@@ -77,7 +77,7 @@ pub fn balance_parts(alloc: Global, ropes: &[Rc<Node>]) -> Result<Rc<Node>, Allo
     ensures part_slot { IfOk result (λ node. (n : ℕ) → IsSlotOf (length (parts node.value)) n
         → depth_of node.value ≤ n) }
     ensures shallow { IfOk result (λ node. depth_of node.value < MAX_INDEX) }
-    ensures kept { IfOk result (λ node. Kept (all_parts ropes.now) (parts node.value)) }
+    ensures parts_from { IfOk result (λ node. PartsFrom (all_parts ropes.now) (parts node.value)) }
 {
     let mut forest = Vec::new(alloc);
     let mut known = Vec::new(alloc);

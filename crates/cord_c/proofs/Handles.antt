@@ -71,8 +71,8 @@ raw_owning = owner_laws.the_laws referent.the_row heap.the_row ghosts referent_l
 raw_are : (r : Raw Referent Global) → Is (Struct (shape raw_type)) (to raw_type r) (owner_val r ∷ [])
 raw_are r = ((ptr_val r.at ∷ [], (heap_val ∷ [], tt)), (refl, (refl, (heap_is r.alloc, tt))))
 
-pub owner_tells : (r : Raw Referent Global) (vs : List Val) → Is RawReferent r vs → vs ≡ owner_val r ∷ []
-owner_tells = (owner_laws.lowers referent.the_row heap.the_row ghosts referent_laws.the_row_laws heap_laws.the_row_laws
+pub owner_reports : (r : Raw Referent Global) (vs : List Val) → Is RawReferent r vs → vs ≡ owner_val r ∷ []
+owner_reports = (owner_laws.lowers referent.the_row heap.the_row ghosts referent_laws.the_row_laws heap_laws.the_row_laws
     heap_laws.the_told).val_is
 
 -- the two fields of a handle alone

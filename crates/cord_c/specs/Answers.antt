@@ -1,4 +1,4 @@
--- What searches and comparisons answer, as C is told.
+-- What searches and comparisons answer, as C is reported.
 use Rattle.std.specs.Prelude.{ℕ, ℤ, pos, negsuc, Option, Some, None}
 use Rattle.core.specs.declared.cmp.Ordering.{Ordering}
 use Rattle.core.specs.declared.cmp.Ordering.TheVariants.{Less, Equal, Greater}

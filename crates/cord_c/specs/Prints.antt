@@ -16,7 +16,7 @@ abbrev pub piece_arguments : List Argument → List (PieceArgument ℕ)
 piece_arguments args = map piece_argument args
 
 -- the arguments are as many as the pieces take, and of their kinds, and each piece takes its own
-pub record Takes (pieces : List Piece) (args : List (PieceArgument ℕ)) : Type 0 where
+pub record TakesArguments (pieces : List Piece) (args : List (PieceArgument ℕ)) : Type 0 where
   pub kinds : map kind_of args ≡ wanted pieces
   pub taken : first_refusal 0 pieces args ≡ None
 
@@ -24,14 +24,14 @@ pub record Takes (pieces : List Piece) (args : List (PieceArgument ℕ)) : Type 
 pub record IsPrint (format : List ℕ) (args : List (PieceArgument ℕ)) (bytes : List ℕ) : Type 0 where
   pub pieces : List Piece
   pub read : IsFormat format pieces
-  pub takes : Takes pieces args
+  pub takes : TakesArguments pieces args
   pub bytes_are : bytes ≡ printed (λ b. b) pieces args
 
 -- what would be printed is too long
 pub record IsLongPrint (format : List ℕ) (args : List (PieceArgument ℕ)) : Type 0 where
   pub pieces : List Piece
   pub read : IsFormat format pieces
-  pub takes : Takes pieces args
+  pub takes : TakesArguments pieces args
   pub long : MAX_LEN < length (printed (λ b. b) pieces args)
 
 -- the bytes are a format that takes another number of arguments, or others' kinds

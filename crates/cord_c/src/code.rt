@@ -34,7 +34,7 @@ pub const BAD_VALUE: i32 = 12;
 /// The place that a search gives where it found none.
 pub const NOT_FOUND: u64 = u64::MAX;
 
-/// The code of a call that was refused as too long or for want of memory.
+/// The code of a call that was refused as too long or as out of memory.
 pub(crate) fn code_of(refusal: CordError) -> i32
     requires { IsRefusal refusal }
     ensures code { (result ≡ TOO_LONG) ⊎ (result ≡ NO_MEMORY) }

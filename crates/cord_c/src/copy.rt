@@ -52,8 +52,8 @@ fn copy_range(node: &Node, from: u64, bytes: &mut [u8])
             } else if middle <= from {
                 copy_range(right.as_ref(), from - middle, bytes);
             } else {
-                let (front, back) = bytes.split_at_mut((middle - from) as usize);
-                copy_range(left.as_ref(), from, front);
+                let (prefix, back) = bytes.split_at_mut((middle - from) as usize);
+                copy_range(left.as_ref(), from, prefix);
                 copy_range(right.as_ref(), 0, back);
             }
         }

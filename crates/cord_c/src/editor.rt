@@ -25,7 +25,7 @@ pub(crate) struct Taken {
 }
 
 impl Editor {
-    /// Takes the text out, and leaves nothing. Refused for want of memory alone, where the pointer is null: then it
+    /// Takes the text out, and leaves nothing. Refused only when out of memory, where the pointer is null: then it
     /// stays so.
     pub(crate) fn take(&mut self, alloc: Global) -> Result<Taken, CordError>
         ensures text { IfOk result (λ taken. taken.text ≡ edited_of self.old) }
@@ -52,7 +52,7 @@ impl Editor {
         self.handle.lower(place);
     }
 
-    /// Holds this text from now on, and frees the one that it held. Refused for want of memory alone, where the pointer
+    /// Holds this text from now on, and frees the one that it held. Refused only when out of memory, where the pointer
     /// is null: then it stays.
     pub(crate) fn hold(&mut self, alloc: Global, text: TextEditor) -> i32
         ensures held { result ≡ OK → edited_of self.new ≡ text }

@@ -28,7 +28,7 @@ pub struct Handle {
     alloc: Global,
     pub ghost referent: { Referent } by { row.the_row.coded },
     pub ghost text: { List ℕ },
-    ghost told: { text ≡ text_by referent },
+    ghost reported: { text ≡ text_by referent },
     ghost testable: { Testable at },
 }
 
@@ -116,7 +116,7 @@ impl Handle {
         copy_from(self.text(&Text::empty()), start, bytes)
     }
 
-    /// Its text once more, which shares its tree. Refused for want of memory alone.
+    /// Its text once more, which shares its tree. Refused only when out of memory.
     pub(crate) fn read(&mut self, alloc: Global) -> Result<Text, CordError>
         ensures text { IfOk result (λ t. t ≡ self.old.text) }
         ensures same { self.new.text ≡ self.old.text }
@@ -144,7 +144,7 @@ impl Handle {
         *self = Handle::of(Raw::of(held));
     }
 
-    /// Holds this from now on, and frees what it held, whose place on the heap it takes. Refused for want of memory
+    /// Holds this from now on, and frees what it held, whose place on the heap it takes. Refused when out of memory
     /// alone, where the pointer is null: then it stays.
     pub(crate) fn keep(&mut self, alloc: Global, referent: Referent) -> i32
         ensures held { result ≡ OK → self.new.referent ≡ referent }
@@ -176,7 +176,7 @@ impl Handle {
         }
     }
 
-    /// As `hold`, of what only want of memory refuses.
+    /// As `hold`, of what only out of memory refuses.
     pub(crate) fn hold_within(&mut self, alloc: Global, made: Result<Text, CordError>) -> i32
         ensures held { result ≡ OK → made ≡ Ok self.new.text }
         ensures kept { (result ≡ OK) ⊎ (self.new.text ≡ self.old.text) }

@@ -48,7 +48,7 @@ impl LazyHandle {
         }
     }
 
-    /// As `hold`, of what only want of memory refuses.
+    /// As `hold`, of what only out of memory refuses.
     pub(crate) fn hold_within(&mut self, alloc: Global, made: Result<Cord, CordError>) -> i32
         ensures held { result ≡ OK → made ≡ Ok (cord_of self.new) }
         ensures kept { (result ≡ OK) ⊎ (cord_of self.new ≡ cord_of self.old) }

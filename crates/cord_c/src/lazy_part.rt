@@ -14,7 +14,7 @@ use crate::pointer::missing;
 use cord::MAX_LEN;
 use cord_core::Cord;
 use cord_io::SourceId;
-use cord_pos::{Position, Stretch};
+use cord_pos::{Position, Span};
 use std::alloc::Global;
 
 /// The first `len` bytes of the file that the caller calls by this number.
@@ -69,13 +69,13 @@ pub extern "C" fn zc_lazy_part(
     let ahead = Position::set(x.cord(&none), start).ahead();
     let mut code = OK;
     *got = 0;
-    if let Some(stretch) = ahead {
-        let count = stretch.len().min(bytes.len() as u64);
+    if let Some(span) = ahead {
+        let count = span.len().min(bytes.len() as u64);
         *got = count as usize;
-        match stretch.up_to(count) {
-            Stretch::Bytes(own) => bytes[..count as usize].copy_from_slice(own),
-            Stretch::Run { byte, .. } => bytes[..count as usize].fill(byte),
-            Stretch::Func { id, start, .. } => {
+        match span.up_to(count) {
+            Span::Bytes(own) => bytes[..count as usize].copy_from_slice(own),
+            Span::Run { byte, .. } => bytes[..count as usize].fill(byte),
+            Span::Func { id, start, .. } => {
                 *file = id.0;
                 *place = start;
                 code = IN_FILE;

@@ -2,7 +2,6 @@
 #![tactic(auto)]
 
 mod argument;
-mod ask;
 mod chunks;
 mod code;
 mod copy;
@@ -21,6 +20,7 @@ mod make;
 mod pointer;
 mod position;
 mod print;
+mod queries;
 mod referent;
 mod scan;
 mod walk;

@@ -32,7 +32,7 @@ pub extern "C" fn zc_catn(alloc: Global, parts: &mut [Handle], out: &mut Handle)
     out.hold(alloc, Text::catn(alloc, &texts))
 }
 
-// The texts of handles once more, which share their trees. Refused for want of memory alone.
+// The texts of handles once more, which share their trees. Refused only when out of memory.
 fn shares(alloc: Global, parts: &mut [Handle]) -> Result<Vec<Text>, CordError>
     ensures texts { IfOk result (λ made. made.items ≡ texts_of parts.old) }
     ensures same { texts_of parts.new ≡ texts_of parts.old }

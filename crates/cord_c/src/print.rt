@@ -72,7 +72,7 @@ enum NoPrint {
     BadValue(u64),
 }
 
-// The texts of arguments once more, which share their trees: those of numbers too. Refused for want of memory alone.
+// The texts of arguments once more, which share their trees: those of numbers too. Refused only when out of memory.
 fn texts_of(alloc: Global, args: &mut [Argument]) -> Result<Vec<Text>, CordError>
     ensures texts { IfOk result (λ made. made.items ≡ texts_in args.old) }
     ensures same { piece_arguments args.new ≡ piece_arguments args.old }
@@ -88,7 +88,7 @@ fn texts_of(alloc: Global, args: &mut [Argument]) -> Result<Vec<Text>, CordError
     Ok(made)
 }
 
-// The arguments as a print takes them, whose texts are these. Refused for want of memory alone.
+// The arguments as a print takes them, whose texts are these. Refused only when out of memory.
 fn arguments<'a>(
     alloc: Global,
     args: &[Argument],

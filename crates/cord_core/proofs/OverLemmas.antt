@@ -7,7 +7,7 @@ use Rattle.cord_node.specs.declared.Node.{Node}
 use Rattle.cord_node.specs.Tables.{lengths_of, byte_at, AreHeldIn}
 use Rattle.cord_node.proofs.TreeLemmas.{length-cells}
 use Rattle.cord_node.proofs.TableLemmas.{bytes-cells, AreHeldIn-append, AreHeldIn-cells, AreHeldIn-take, AreHeldIn-drop, FitsIn-cells}
-use Rattle.cord_node.proofs.TableLemmas.{FitsIn-longer, Fits-told}
+use Rattle.cord_node.proofs.TableLemmas.{FitsIn-longer, Fits-reported}
 use Rattle.cord_core.specs.Cord.{text, text_len, IsCord, bytes_of, CordFitsIn, CordFits, all_text, all_bytes, AllFitIn}
 use Rattle.cord_core.specs.Equations.{HasText, IsSameText, IsCatOf, IsAppended, IsAllOf, IsSubstring, IsSpliced}
 
@@ -111,6 +111,6 @@ CordFitsIn-longer ls ms None h f = tt
 CordFitsIn-longer ls ms (Some n) h f = FitsIn-longer ls ms n h f
 
 -- what fits the lengths that are told of a table fits the table
-pub CordFits-told : (ls : Lengths) (t : Table) (c : Option Node) → HasLengths ls t → CordFitsIn ls c → CordFits t c
-CordFits-told ls t None h f = tt
-CordFits-told ls t (Some n) h f = Fits-told ls t n h f
+pub CordFits-reported : (ls : Lengths) (t : Table) (c : Option Node) → HasLengths ls t → CordFitsIn ls c → CordFits t c
+CordFits-reported ls t None h f = tt
+CordFits-reported ls t (Some n) h f = Fits-reported ls t n h f

@@ -17,17 +17,17 @@ module _ {X : Type 0} where
   next_here (y ∷ ys) (suc p) x rest e = let more : suc p + 1 ≡ suc (p + 1) = omega arith in
       ap (λ (n : ℕ). drop n (y ∷ ys)) more ∙ next_here ys p x rest e
 
-  pub behind : (xs : List X) (p : ℕ) (front rest : List X) → drop p xs ≡ front ++ rest → drop (p + length front) xs ≡ rest
-  behind xs p [] rest e = let same : p + 0 ≡ p = omega arith in ap (λ (n : ℕ). drop n xs) same ∙ e
-  behind xs p (x ∷ front) rest e =
-      let same : p + suc (length front) ≡ (p + 1) + length front = omega arith in
-      ap (λ (n : ℕ). drop n xs) same ∙ behind xs (p + 1) front rest (next_here xs p x (front ++ rest) e)
+  pub beyond : (xs : List X) (p : ℕ) (prefix rest : List X) → drop p xs ≡ prefix ++ rest → drop (p + length prefix) xs ≡ rest
+  beyond xs p [] rest e = let same : p + 0 ≡ p = omega arith in ap (λ (n : ℕ). drop n xs) same ∙ e
+  beyond xs p (x ∷ prefix) rest e =
+      let same : p + suc (length prefix) ≡ (p + 1) + length prefix = omega arith in
+      ap (λ (n : ℕ). drop n xs) same ∙ beyond xs (p + 1) prefix rest (next_here xs p x (prefix ++ rest) e)
 
-  pub none_behind : (xs : List X) (p : ℕ) → drop p xs ≡ [] → slice_get xs p ≡ None
-  none_behind [] zero e = refl
-  none_behind [] (suc p) e = refl
-  none_behind (x ∷ xs) zero e = cc
-  none_behind (x ∷ xs) (suc p) e = none_behind xs p e
+  pub none_after : (xs : List X) (p : ℕ) → drop p xs ≡ [] → slice_get xs p ≡ None
+  none_after [] zero e = refl
+  none_after [] (suc p) e = refl
+  none_after (x ∷ xs) zero e = cc
+  none_after (x ∷ xs) (suc p) e = none_after xs p e
 
   -- a place within the list
   pub some_here : (xs : List X) (p : ℕ) → p < length xs → (x : X) × (rest : List X) × (drop p xs ≡ x ∷ rest)

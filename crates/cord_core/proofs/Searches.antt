@@ -141,8 +141,8 @@ more_less b c x y e (inl (d, rest, is)) = inl (d, rest, bytes_are b c x y (d ∷
   where
     bytes_are : (b c : ℕ) (x y rest : List ℕ) → b ≡ c → y ≡ x ++ rest → c ∷ y ≡ (b ∷ x) ++ rest
     bytes_are b c x y rest e is = cc (sym e, is)
-more_less b c x y e (inr (front, d, f, xs, ys, one, two, lt)) =
-    inr (b ∷ front, d, f, xs, ys, ap (λ (z : List ℕ). b ∷ z) one, head_is b c y (front ++ (f ∷ ys)) e two, lt)
+more_less b c x y e (inr (prefix, d, f, xs, ys, one, two, lt)) =
+    inr (b ∷ prefix, d, f, xs, ys, ap (λ (z : List ℕ). b ∷ z) one, head_is b c y (prefix ++ (f ∷ ys)) e two, lt)
   where
     head_is : (b c : ℕ) (y z : List ℕ) → b ≡ c → y ≡ z → c ∷ y ≡ b ∷ z
     head_is b c y z e is = cc (sym e, is)

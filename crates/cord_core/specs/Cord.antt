@@ -4,7 +4,7 @@ use Rattle.cord_io.specs.Table.{Table, Lengths}
 use Rattle.cord_node.specs.declared.Node.{Node}
 use Rattle.cord_node.specs.Tree.{Cell}
 use Rattle.cord_node.specs.Tables.{bytes_over, FitsIn, lengths_of}
-use Rattle.cord_node.specs.Kept.{Part}
+use Rattle.cord_node.specs.PartsFrom.{Part}
 pub use Rattle.cord_node.specs.Cords.{text, text_len, depth, parts_of, IsCord}
 
 -- the text of a cord over a table

@@ -3,7 +3,7 @@ use Rattle.std.specs.Prelude.{◌≡◌, ℕ, ◌<◌, ◌≤◌, List, ◌++◌
 use Rattle.cord_io.specs.declared.TheConstants.{MAX_DEPTH}
 use Rattle.cord_node.specs.declared.Node.{Node}
 use Rattle.cord_node.specs.Tree.{depth_of, are_merged, joined_depth, HasSides}
-use Rattle.cord_node.specs.Kept.{parts, Kept}
+use Rattle.cord_node.specs.PartsFrom.{parts, PartsFrom}
 use Rattle.cord_balance.specs.Fib.{IsSlotOf}
 use Rattle.cord_core.specs.Cord.{text_len, depth, parts_of, IsCord}
 use Rattle.cord_core.specs.Forms.{IsLeafOf}
@@ -41,4 +41,4 @@ pub record IsCatWithBytes (x : Option Node) (b : List ℕ) (c : Option Node) : T
   pub form : IsLeafOf b tail
   pub depth_is : HasCatDepth x tail c
   pub sides : HasCatSides x tail c
-  pub kept : Kept (parts_of x ++ parts_of tail) (parts_of c)
+  pub parts_from : PartsFrom (parts_of x ++ parts_of tail) (parts_of c)

@@ -3,7 +3,7 @@ use Rattle.std.specs.Prelude.{⊤}
 use Rattle.cord_io.specs.declared.CordError.{CordError}
 use Rattle.cord_io.specs.declared.CordError.TheVariants.{NoMemory, TooLong, ReadFailed, WriteFailed}
 
--- a call that touches no device is refused for want of memory or as too long
+-- a call that touches no device is refused when out of memory or as too long
 abbrev pub IsRefusal : CordError → Type 0
 IsRefusal NoMemory = ⊤
 IsRefusal TooLong = ⊤

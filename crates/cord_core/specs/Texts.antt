@@ -54,7 +54,7 @@ order (b ∷ x) (c ∷ y) = if nat_lt b c then negsuc 0 else if nat_lt c b then 
 abbrev pub IsLess : List ℕ → List ℕ → Type 0
 IsLess x y =
     ((c : ℕ) × (rest : List ℕ) × (y ≡ x ++ (c ∷ rest)))
-    ⊎ ((front : List ℕ) × (b c : ℕ) × (xs ys : List ℕ) × (x ≡ front ++ (b ∷ xs)) × (y ≡ front ++ (c ∷ ys)) × (b < c))
+    ⊎ ((prefix : List ℕ) × (b c : ℕ) × (xs ys : List ℕ) × (x ≡ prefix ++ (b ∷ xs)) × (y ≡ prefix ++ (c ∷ ys)) × (b < c))
 
 -- what `order` answers, said of the texts
 abbrev pub IsOrder : List ℕ → List ℕ → ℤ → Type 0

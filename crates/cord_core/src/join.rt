@@ -1,7 +1,7 @@
 // Cords one after another.
 ghost use Rattle.std.specs.Prelude.{◌≡◌, ℕ, ◌+◌, ◌<◌, ◌≤◌, [], ◌∷◌, ◌++◌, IfOk, OnOk, IfErr, Err, Some, length, map};
 ghost use Rattle.cord_node.specs.Tree.{cells, known, len_of, IsSound};
-ghost use Rattle.cord_node.specs.Kept.{parts, Kept};
+ghost use Rattle.cord_node.specs.PartsFrom.{parts, PartsFrom};
 ghost use Rattle.cord_core.specs.Cord.{text, text_len, parts_of, IsCord, all_text, all_len, all_parts};
 ghost use Rattle.cord_core.specs.Depths.{HasCatDepth, HasCatSides, IsCatWithBytes};
 ghost use Rattle.cord_core.specs.Equations.{IsCatOf, IsAppended, IsAllOf};
@@ -24,7 +24,8 @@ fn joined(alloc: Global, left: &Rc<Node>, right: &Rc<Node>) -> Result<Rc<Node>, 
     ensures len { IfOk result (λ node. len_of node.value ≡ len_of left.now.value + len_of right.now.value) }
     ensures depth { IfOk result (λ node. HasCatDepth (Some left.now.value) (Some right.now.value) (Some node.value)) }
     ensures sides { IfOk result (λ node. HasCatSides (Some left.now.value) (Some right.now.value) (Some node.value)) }
-    ensures kept { IfOk result (λ node. Kept (parts left.now.value ++ parts right.now.value) (parts node.value)) }
+    ensures parts_from { IfOk result (λ node. PartsFrom (parts left.now.value ++ parts right.now.value)
+        (parts node.value)) }
 {
     if left.depth().max(right.depth()) < MAX_DEPTH {
         join(alloc, left, right)
@@ -45,7 +46,7 @@ impl Cord {
         ensures sound { IfOk result IsCord }
         ensures depth { IfOk result (HasCatDepth left.now right.now) }
         ensures sides { IfOk result (HasCatSides left.now right.now) }
-        ensures kept { IfOk result (λ c. Kept (parts_of left.now ++ parts_of right.now) (parts_of c)) }
+        ensures parts_from { IfOk result (λ c. PartsFrom (parts_of left.now ++ parts_of right.now) (parts_of c)) }
 
         ensures too_long { result ≡ Err CordError.TooLong → MAX_LEN < text_len left.now + text_len right.now }
         ensures within_limit { OnOk result (text_len left.now + text_len right.now ≤ MAX_LEN) }
@@ -73,7 +74,7 @@ impl Cord {
         ensures over { IfOk result (IsAllOf cords.now) }
         ensures len { IfOk result (λ c. text_len c ≡ all_len cords.now) }
         ensures sound { IfOk result IsCord }
-        ensures kept { IfOk result (λ c. Kept (all_parts cords.now) (parts_of c)) }
+        ensures parts_from { IfOk result (λ c. PartsFrom (all_parts cords.now) (parts_of c)) }
 
         ensures too_long { result ≡ Err CordError.TooLong → MAX_LEN < all_len cords.now }
         ensures within_limit { OnOk result (all_len cords.now ≤ MAX_LEN) }

@@ -86,7 +86,7 @@ impl Cord {
         self.root.as_ref()
     }
 
-    /// The same cord once more, which shares its tree. Refused for want of memory alone.
+    /// The same cord once more, which shares its tree. Refused only when out of memory.
     pub fn share(&self, _alloc: Global) -> Result<Cord, CordError>
         ensures same { IfOk result (λ c. c ≡ self.now) }
         ensures sound { IsCord self.now }

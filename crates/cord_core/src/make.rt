@@ -83,7 +83,7 @@ impl Cord {
     }
 
     /// The `n` bytes of the source `id` from its byte `start` on, none of them after the first `MAX_LEN`, as one
-    /// function part: no byte is read. Refused for want of memory alone.
+    /// function part: no byte is read. Refused only when out of memory.
     pub fn from_fn(alloc: Global, id: SourceId, start: u64, n: u64) -> Result<Cord, CordError>
         requires { start + n ≤ MAX_LEN }
         ensures form { IfOk result (IsFuncOf id.0 start n) }

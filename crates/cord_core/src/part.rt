@@ -1,6 +1,6 @@
 // Ranges of a cord, and the same text in a tree that isn't deep.
 ghost use Rattle.std.specs.Prelude.{◌≡◌, ℕ, ◌+◌, ◌-◌, ◌≤◌, min, length, IfOk, IsOkUnless, take, drop};
-ghost use Rattle.cord_node.specs.Kept.{Kept};
+ghost use Rattle.cord_node.specs.PartsFrom.{PartsFrom};
 ghost use Rattle.cord_node.specs.Touched.{touched};
 ghost use Rattle.cord_core.specs.Cord.{text, text_len, parts_of, IsCord};
 ghost use Rattle.cord_core.specs.Depths.{IsInSlot, IsInPartSlot};
@@ -14,7 +14,7 @@ use std::alloc::Global;
 
 impl Cord {
     /// The bytes from `i` on, at most `n` of them: nothing where `i` is at or past the end. Whole subtrees and the
-    /// bytes of leaves are shared. No more parts than those that have a byte in the range. Refused for want of memory
+    /// bytes of leaves are shared. No more parts than those that have a byte in the range. Refused when out of memory
     /// alone.
     #[tactic(auto, using(crate::proofs::CordLemmas::ranges))]
     pub fn substr(&self, alloc: Global, i: u64, n: u64) -> Result<Cord, CordError>
@@ -22,7 +22,7 @@ impl Cord {
         ensures over { IfOk result (IsSubstring i n self.now) }
         ensures len { IfOk result (λ c. text_len c ≡ min n (text_len self.now - i)) }
         ensures sound { IfOk result IsCord }
-        ensures kept { IfOk result (λ c. Kept (parts_of self.now) (parts_of c)) }
+        ensures parts_from { IfOk result (λ c. PartsFrom (parts_of self.now) (parts_of c)) }
         ensures few { IfOk result (λ c. length (parts_of c) ≤ touched i (i + n) (parts_of self.now)) }
         ensures refused { IsOkUnless result CordError.NoMemory }
     {
@@ -36,7 +36,7 @@ impl Cord {
         Ok(Cord { root: Some(part) })
     }
 
-    /// The same text in a tree no deeper than `slot_of` its number of parts, and so of its length. Refused for want of
+    /// The same text in a tree no deeper than `slot_of` its number of parts, and so of its length. Refused when out of
     /// memory alone.
     pub fn balance(&self, alloc: Global) -> Result<Cord, CordError>
         ensures text { IfOk result (λ c. text c ≡ text self.now) }
@@ -45,7 +45,7 @@ impl Cord {
         ensures sound { IfOk result IsCord }
         ensures slot { IfOk result IsInSlot }
         ensures part_slot { IfOk result IsInPartSlot }
-        ensures kept { IfOk result (λ c. Kept (parts_of self.now) (parts_of c)) }
+        ensures parts_from { IfOk result (λ c. PartsFrom (parts_of self.now) (parts_of c)) }
         ensures refused { IsOkUnless result CordError.NoMemory }
     {
         let Some(node) = &self.root else {

@@ -1,7 +1,7 @@
 // Edits of a cord.
 ghost use Rattle.std.specs.Prelude.{◌≡◌, ℕ, ◌+◌, ◌-◌, ◌<◌, ◌≤◌, ◌++◌, min, max, true, length, take, drop};
 ghost use Rattle.std.specs.Prelude.{Err, IfOk, OnOk, IfErr, IsErr, IsOkUnless};
-ghost use Rattle.cord_node.specs.Kept.{AreFrom, Kept};
+ghost use Rattle.cord_node.specs.PartsFrom.{AreFrom, PartsFrom};
 ghost use Rattle.cord_node.specs.Touched.{AtMostOneMore};
 ghost use Rattle.cord_core.specs.Cord.{text, text_len, depth, parts_of, IsCord};
 ghost use Rattle.cord_core.specs.Equations.{IsSpliced};
@@ -105,7 +105,7 @@ fn splice_tree(
 fn shallow(alloc: Global, cord: &Cord) -> Result<Cord, CordError>
     ensures text { IfOk result (λ c. text c ≡ text cord.now) }
     ensures len { IfOk result (λ c. text_len c ≡ text_len cord.now) }
-    ensures kept { IfOk result (λ c. Kept (parts_of cord.now) (parts_of c)) }
+    ensures parts_from { IfOk result (λ c. PartsFrom (parts_of cord.now) (parts_of c)) }
     ensures refused { IsOkUnless result CordError.NoMemory }
 {
     if cord.depth() + 2 <= MAX_DEPTH {
@@ -143,25 +143,25 @@ fn spliced_balanced(
         splice_tree(alloc, &mut changed, from, until, &middle)?;
         return Ok(changed);
     }
-    let front = changed.substr(alloc, 0, from)?;
+    let prefix = changed.substr(alloc, 0, from)?;
     let back = changed.substr(alloc, until, changed.len())?;
-    let all = joined(alloc, &front, &middle, &back)?;
+    let all = joined(alloc, &prefix, &middle, &back)?;
     Ok(all)
 }
 
 // Three texts, one after the other.
-fn joined(alloc: Global, front: &Cord, middle: &Cord, back: &Cord) -> Result<Cord, CordError>
-    requires { text_len front.now + text_len middle.now + text_len back.now ≤ MAX_LEN }
-    ensures text { IfOk result (λ c. text c ≡ text front.now ++ text middle.now ++ text back.now) }
-    ensures len { IfOk result (λ c. text_len c ≡ text_len front.now + text_len middle.now + text_len back.now) }
+fn joined(alloc: Global, prefix: &Cord, middle: &Cord, back: &Cord) -> Result<Cord, CordError>
+    requires { text_len prefix.now + text_len middle.now + text_len back.now ≤ MAX_LEN }
+    ensures text { IfOk result (λ c. text c ≡ text prefix.now ++ text middle.now ++ text back.now) }
+    ensures len { IfOk result (λ c. text_len c ≡ text_len prefix.now + text_len middle.now + text_len back.now) }
     ensures sound { IfOk result IsCord }
     ensures from_there { IfOk result (λ c. AreFrom (parts_of c)
-        (parts_of front.now ++ parts_of middle.now ++ parts_of back.now)) }
+        (parts_of prefix.now ++ parts_of middle.now ++ parts_of back.now)) }
     ensures few { IfOk result (λ c. length (parts_of c)
-        ≤ length (parts_of front.now) + length (parts_of middle.now) + length (parts_of back.now)) }
+        ≤ length (parts_of prefix.now) + length (parts_of middle.now) + length (parts_of back.now)) }
     ensures refused { IsOkUnless result CordError.NoMemory }
 {
-    let longer = Cord::cat(alloc, front, middle)?;
+    let longer = Cord::cat(alloc, prefix, middle)?;
     let all = Cord::cat(alloc, &longer, back)?;
     Ok(all)
 }

@@ -6,8 +6,8 @@ use Rattle.std.proofs.lemmas.List.{length-map, map-append}
 use Rattle.cord_node.specs.declared.Node.{Node}
 use Rattle.cord_node.specs.Tree.{Cell, known}
 use Rattle.cord_node.specs.declared.Node.TheVariants.{Leaf, Run, Func, Cat'}
-use Rattle.cord_node.specs.Kept.{Part, leaf_part, run_part, func_part, IsSmall, IsRangeOf, Kept}
-use Rattle.cord_node.proofs.KeptLemmas.{Kept-self, Kept-join}
+use Rattle.cord_node.specs.PartsFrom.{Part, leaf_part, run_part, func_part, IsSmall, IsRangeOf, PartsFrom}
+use Rattle.cord_node.proofs.PartsFromLemmas.{PartsFrom-self, PartsFrom-join}
 use Rattle.cord_core.specs.Cord.{parts_of, IsCord}
 use Rattle.cord_core.specs.Forms.{IsLeafOf}
 use Rattle.cord_raw.specs.declared.buffer.TheConstants.RawBuf.{CAP}
@@ -67,12 +67,12 @@ leaf_after : (ps : List Part) (b : List ℕ) → length b ≤ CAP → Gathered 1
 leaf_after ps b fits = subst (λ (old : List Part). Gathered 1 old (ps ++ leaf_parts b)) (append-nil ps)
     (made_after IsGathered gathered_own 1 ps [] (leaf_parts b) (one_leaf b) (leaf_gathered b fits))
 
-pub leaf_added : (ps new : List Part) (b : List ℕ) → length b ≤ CAP → Kept (ps ++ leaf_parts b) new → Gathered 1 ps new
+pub leaf_added : (ps new : List Part) (b : List ℕ) → length b ≤ CAP → PartsFrom (ps ++ leaf_parts b) new → Gathered 1 ps new
 leaf_added ps new b fits k = made_through IsGathered gathered_own 1 0 ps (ps ++ leaf_parts b) new (leaf_after ps b fits)
     (made_kept IsGathered gathered_own (ps ++ leaf_parts b) new k)
 
 -- a leaf of its own after what is kept
-pub leaf_begun : (old longer : List Part) (b : List ℕ) → length b ≤ CAP → Kept old longer → Gathered 1 old (longer ++ leaf_parts b)
+pub leaf_begun : (old longer : List Part) (b : List ℕ) → length b ≤ CAP → PartsFrom old longer → Gathered 1 old (longer ++ leaf_parts b)
 leaf_begun old longer b fits k = made_through IsGathered gathered_own 0 1 old longer (longer ++ leaf_parts b)
     (made_kept IsGathered gathered_own old longer k) (leaf_after longer b fits)
 
@@ -81,24 +81,24 @@ no_bytes : (P : List Part → Type 0) (ps : List Part) (b : List ℕ) → b ≡ 
 no_bytes P ps b none h = subst (λ (x : List ℕ). P (ps ++ leaf_parts x)) (sym none) (subst P (sym (append-nil ps)) h)
 
 -- what is gathered after what is kept, and no bytes after that
-pub leaves_added : (old so_far new : List Part) (b : List ℕ) (m : ℕ) → b ≡ [] → Kept old so_far → Gathered m so_far new →
+pub leaves_added : (old so_far new : List Part) (b : List ℕ) (m : ℕ) → b ≡ [] → PartsFrom old so_far → Gathered m so_far new →
     Gathered m old (new ++ leaf_parts b)
 leaves_added old so_far new b m none k h = no_bytes (λ (ps : List Part). Gathered m old ps) new b none
     (made_more IsGathered gathered_own (0 + m) m old new (omega arith)
     (made_through IsGathered gathered_own 0 m old so_far new (made_kept IsGathered gathered_own old so_far k) h))
 
 -- what is kept, and no bytes after that
-pub flushed : (old new : List Part) (b : List ℕ) → b ≡ [] → Kept old new → Kept old (new ++ leaf_parts b)
-flushed old new b none k = no_bytes (λ (ps : List Part). Kept old ps) new b none k
+pub flushed : (old new : List Part) (b : List ℕ) → b ≡ [] → PartsFrom old new → PartsFrom old (new ++ leaf_parts b)
+flushed old new b none k = no_bytes (λ (ps : List Part). PartsFrom old ps) new b none k
 
 -- a cord after what is kept, and no bytes after that
-pub cord_added : (old so_far x longer : List Part) (b : List ℕ) → b ≡ [] → Kept old so_far → Kept (so_far ++ x) longer →
-    Kept (old ++ x) (longer ++ leaf_parts b)
-cord_added old so_far x longer b none k j = flushed (old ++ x) longer b none (Kept-join old x so_far x longer k (Kept-self x) j)
+pub cord_added : (old so_far x longer : List Part) (b : List ℕ) → b ≡ [] → PartsFrom old so_far → PartsFrom (so_far ++ x) longer →
+    PartsFrom (old ++ x) (longer ++ leaf_parts b)
+cord_added old so_far x longer b none k j = flushed (old ++ x) longer b none (PartsFrom-join old x so_far x longer k (PartsFrom-self x) j)
 
 -- no bytes after a cord
-pub nothing_added : (ps : List Part) (b : List ℕ) → length b ≡ 0 → Kept (ps ++ leaf_parts b) ps
-nothing_added ps [] h = subst (λ (old : List Part). Kept old ps) (sym (append-nil ps)) (Kept-self ps)
+pub nothing_added : (ps : List Part) (b : List ℕ) → length b ≡ 0 → PartsFrom (ps ++ leaf_parts b) ps
+nothing_added ps [] h = subst (λ (old : List Part). PartsFrom old ps) (sym (append-nil ps)) (PartsFrom-self ps)
 nothing_added ps (x ∷ b) h = absurd (omega (arith, h))
 
 -- bytes that go into leaves one after another: all of these are full, as long as some bytes are left
@@ -110,9 +110,9 @@ pub record IsGathering (start longer : List Part) (all rest : ℕ) : Type 0 wher
 -- the text with one leaf more
 pub leaf_text : (longer leaf next all : List Cell) (b run rest left : List ℕ) (n : ℕ) → next ≡ longer ++ leaf → leaf ≡ map known b →
     b ≡ run → run ≡ take n rest → left ≡ drop n rest → longer ++ map known rest ≡ all → next ++ map known left ≡ all
-leaf_text longer leaf next all b run rest left n next_is leaf_is bytes_are front back before =
+leaf_text longer leaf next all b run rest left n next_is leaf_is bytes_are prefix back before =
     let whole : run ++ left ≡ rest =
-    ap (λ (x : List ℕ). x ++ left) front ∙ ap (λ (x : List ℕ). take n rest ++ x) back ∙ take-append-drop n rest in
+    ap (λ (x : List ℕ). x ++ left) prefix ∙ ap (λ (x : List ℕ). take n rest ++ x) back ∙ take-append-drop n rest in
     ap (λ (x : List Cell). x ++ map known left) (next_is ∙ ap (λ (x : List Cell). longer ++ x) (leaf_is ∙ ap (map known) bytes_are))
     ∙ append_assoc longer (map known run) (map known left)
     ∙ ap (λ (x : List Cell). longer ++ x) (sym (map-append known run left) ∙ ap (map known) whole)
@@ -126,7 +126,7 @@ gathering_start ps all = record {
 }
 
 pub gathering_step : (start longer next : List Part) (b : List ℕ) (all rest run left : ℕ) → run + left ≡ rest → run ≡ min rest CAP →
-    0 < rest → length b ≤ CAP → Kept (longer ++ leaf_parts b) next
+    0 < rest → length b ≤ CAP → PartsFrom (longer ++ leaf_parts b) next
     → IsGathering start longer all rest → IsGathering start next all left
 gathering_step start longer next b all rest run left sum is some fits k h =
     let step : Gathered 1 longer next = leaf_added longer next b fits k in

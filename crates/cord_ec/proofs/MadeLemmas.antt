@@ -1,7 +1,7 @@
 -- Laws of `AreFromOr` and `MadeOf`.
 use Rattle.std.proofs.Common.{inl, inr, ℕ, ◌+◌, ◌≤◌, List, [], ◌∷◌, ◌++◌, length, length-append, arith, ⊎_elim}
-use Rattle.cord_node.specs.Kept.{Part, IsSmall, IsRangeOf, IsFrom, AreFrom, Kept}
-use Rattle.cord_node.proofs.KeptLemmas.{IsRangeOf-self, IsRangeOf-trans}
+use Rattle.cord_node.specs.PartsFrom.{Part, IsSmall, IsRangeOf, IsFrom, AreFrom, PartsFrom}
+use Rattle.cord_node.proofs.PartsFromLemmas.{IsRangeOf-self, IsRangeOf-trans}
 use Rattle.cord_ec.specs.Gathered.{IsFromOr, AreFromOr, MadeOf}
 
 -- what a call may have of its own: each range of its own parts, and each small leaf
@@ -66,7 +66,7 @@ module _ (own : Part → Type 0) (laws : IsOwn own) where
   are_kept [] qs h = tt
   are_kept (p ∷ ps) qs h = (from_kept p qs h.0, are_kept ps qs h.1)
 
-  pub made_kept : (old new : List Part) → Kept old new → MadeOf own 0 old new
+  pub made_kept : (old new : List Part) → PartsFrom old new → MadeOf own 0 old new
   made_kept old new k = record { no_more = omega (arith, k.no_more); from_there = are_kept new old k.from_there }
 
   pub made_self : (ps : List Part) → MadeOf own 0 ps ps

@@ -3,7 +3,7 @@ use Rattle.std.specs.Prelude.{ℕ, ◌+◌, ◌*◌, ◌≤◌, ◌⊎◌, List,
 use Rattle.std.specs.Coded.{Coded, code_by, coded_list, coded×}
 use Rattle.cord_mark.specs.Part.{coded_parts}
 use Rattle.cord_node.specs.Tree.{Cell}
-use Rattle.cord_node.specs.Kept.{Part, leaf_part, run_part, func_part, IsRangeOf}
+use Rattle.cord_node.specs.PartsFrom.{Part, leaf_part, run_part, func_part, IsRangeOf}
 use Rattle.cord_raw.specs.declared.buffer.TheConstants.RawBuf.{CAP}
 use Rattle.cord_ec.specs.Cells.{coded_cell}
 

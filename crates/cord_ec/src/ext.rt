@@ -3,11 +3,11 @@ ghost use Rattle.std.specs.Prelude.{◌≡◌, ℕ, ◌+◌, ◌<◌, ◌≤◌,
 ghost use Rattle.std.specs.Prelude.{Err, length, map};
 ghost use Rattle.cord_io.specs.Table.{Table};
 ghost use Rattle.cord_node.specs.Tree.{known};
-ghost use Rattle.cord_node.specs.Kept.{Kept};
+ghost use Rattle.cord_node.specs.PartsFrom.{PartsFrom};
 ghost use Rattle.cord_core.specs.Cord.{text, text_len, parts_of, IsCord};
 ghost use Rattle.cord_core.specs.Refusals.{IsRefusal};
 ghost use Rattle.cord_ec.specs.Gathered.{leaf_bytes, leaf_parts, Gathered};
-ghost use Rattle.cord_ec.specs.Grown.{bytes_over, IsGrownBy, IsGrownByCord, IsCordOf};
+ghost use Rattle.cord_ec.specs.Grown.{bytes_of_cells, IsGrownBy, IsGrownByCord, IsCordOf};
 
 use cord_core::Cord;
 use cord_io::{CordError, MAX_LEN};
@@ -51,7 +51,7 @@ impl Model for ExtCord {
 }
 
 impl ExtCord {
-    /// The extensible cord of no bytes. Refused for want of memory alone.
+    /// The extensible cord of no bytes. Refused only when out of memory.
     pub fn new(alloc: Global) -> Result<ExtCord, CordError>
         ensures text { IfOk result (λ made. made.text ≡ []) }
         ensures parts { IfOk result (λ made. made.parts ≡ []) }
@@ -68,7 +68,7 @@ impl ExtCord {
     /// The length of the text, in bytes.
     pub fn len(&self) -> u64
         ensures value { result ≡ length self.now.text }
-        ensures over { (t : Table) → result ≡ length (bytes_over t self.now.text) }
+        ensures over { (t : Table) → result ≡ length (bytes_of_cells t self.now.text) }
         ensures limit { result ≤ MAX_LEN }
     {
         len_of(&self.cord, &self.buffer)
@@ -94,7 +94,7 @@ impl ExtCord {
             return Err(CordError::TooLong);
         }
         begin_next(alloc, &mut self.cord, &mut self.buffer, byte)?;
-        self.room = room_behind(&self.cord);
+        self.room = room_after(&self.cord);
         Ok(())
     }
 
@@ -122,7 +122,7 @@ impl ExtCord {
         let longer = cat_leaves(alloc, so_far, bytes)?;
         self.cord = longer;
         self.buffer.clear();
-        self.room = room_behind(&self.cord);
+        self.room = room_after(&self.cord);
         Ok(())
     }
 
@@ -132,7 +132,7 @@ impl ExtCord {
     pub fn append_cord(&mut self, alloc: Global, cord: &Cord) -> Result<(), CordError>
         ensures text { IfOk result (λ _. self.new.text ≡ self.old.text ++ text cord.now) }
         ensures over { IfOk result (λ _. IsGrownByCord self.old.text self.new.text cord.now) }
-        ensures kept { IfOk result (λ _. Kept (self.old.parts ++ parts_of cord.now) self.new.parts) }
+        ensures parts_from { IfOk result (λ _. PartsFrom (self.old.parts ++ parts_of cord.now) self.new.parts) }
         ensures unchanged { IsErr result → self.new ≡ self.old }
         ensures too_long { result ≡ Err CordError.TooLong → MAX_LEN < length self.old.text + text_len cord.now }
         ensures within_limit { OnOk result (length self.old.text + text_len cord.now ≤ MAX_LEN) }
@@ -145,24 +145,24 @@ impl ExtCord {
         let longer = cat_within(alloc, &so_far, cord)?;
         self.cord = longer;
         self.buffer.clear();
-        self.room = room_behind(&self.cord);
+        self.room = room_after(&self.cord);
         Ok(())
     }
 
     /// The text as a cord, which shares its tree with this one. The text stays, and can grow further.
-    /// Refused for want of memory alone.
+    /// Refused only when out of memory.
     #[tactic(auto, using(crate::proofs::Growing::cord_of))]
     pub fn to_cord(&mut self, alloc: Global) -> Result<Cord, CordError>
         ensures text { IfOk result (λ c. text c ≡ self.old.text) }
         ensures over { IfOk result (IsCordOf self.old.text) }
         ensures sound { IfOk result IsCord }
-        ensures kept { IfOk result (λ c. Kept self.old.parts (parts_of c)) }
+        ensures parts_from { IfOk result (λ c. PartsFrom self.old.parts (parts_of c)) }
         ensures same { self.new.text ≡ self.old.text }
-        ensures stays { Kept self.old.parts self.new.parts }
+        ensures stays { PartsFrom self.old.parts self.new.parts }
         ensures refused { IsOkUnless result CordError.NoMemory }
     {
         flush(alloc, &mut self.cord, &mut self.buffer)?;
-        self.room = room_behind(&self.cord);
+        self.room = room_after(&self.cord);
         let cord = self.cord.share(alloc)?;
         Ok(cord)
     }
@@ -178,7 +178,7 @@ fn len_of(cord: &Cord, buffer: &RawBuf) -> u64
 }
 
 // How many bytes the buffer after a cord may hold.
-fn room_behind(cord: &Cord) -> u64
+fn room_after(cord: &Cord) -> u64
     ensures stored { text_len cord.now + result ≤ MAX_LEN }
     ensures text { length (text cord.now) + result ≤ MAX_LEN }
     ensures most { result ≤ RawBuf.CAP }
@@ -193,7 +193,7 @@ fn whole(alloc: Global, cord: &Cord, buffer: &RawBuf) -> Result<Cord, CordError>
     requires within_limit { text_len cord.now + length buffer.now ≤ MAX_LEN }
     ensures text { IfOk result (λ c. text c ≡ text cord.now ++ map known buffer.now) }
     ensures len { IfOk result (λ c. text_len c ≡ text_len cord.now + length buffer.now) }
-    ensures kept { IfOk result (λ c. Kept (parts_of cord.now ++ leaf_parts buffer.now) (parts_of c)) }
+    ensures parts_from { IfOk result (λ c. PartsFrom (parts_of cord.now ++ leaf_parts buffer.now) (parts_of c)) }
     ensures sound { IfOk result IsCord }
     ensures refused { IsOkUnless result CordError.NoMemory }
 {
@@ -221,7 +221,7 @@ fn flush(alloc: Global, cord: &mut Cord, buffer: &mut RawBuf) -> Result<(), Cord
     requires within_limit { text_len cord.old + length buffer.old ≤ MAX_LEN }
     ensures text { IfOk result (λ _. text cord.new ≡ text cord.old ++ map known buffer.old) }
     ensures len { IfOk result (λ _. text_len cord.new ≡ text_len cord.old + length buffer.old) }
-    ensures kept { IfOk result (λ _. Kept (parts_of cord.old ++ leaf_parts buffer.old) (parts_of cord.new)) }
+    ensures parts_from { IfOk result (λ _. PartsFrom (parts_of cord.old ++ leaf_parts buffer.old) (parts_of cord.new)) }
     ensures emptied { IfOk result (λ _. buffer.new ≡ []) }
     ensures cord_unchanged { IsErr result → cord.new ≡ cord.old }
     ensures buffer_unchanged { IsErr result → buffer.new ≡ buffer.old }
@@ -246,7 +246,7 @@ fn begin_next(
     requires within_limit { text_len cord.old + length buffer.old ≤ MAX_LEN }
     ensures text { IfOk result (λ _. text cord.new ≡ text cord.old ++ map known buffer.old) }
     ensures len { IfOk result (λ _. text_len cord.new ≡ text_len cord.old + length buffer.old) }
-    ensures kept { IfOk result (λ _. Kept (parts_of cord.old ++ leaf_parts buffer.old) (parts_of cord.new)) }
+    ensures parts_from { IfOk result (λ _. PartsFrom (parts_of cord.old ++ leaf_parts buffer.old) (parts_of cord.new)) }
     ensures begun { IfOk result (λ _. buffer.new ≡ byte ∷ []) }
     ensures cord_unchanged { IsErr result → cord.new ≡ cord.old }
     ensures buffer_unchanged { IsErr result → buffer.new ≡ buffer.old }
@@ -263,7 +263,7 @@ fn cat_within(alloc: Global, left: &Cord, right: &Cord) -> Result<Cord, CordErro
     requires within_limit { text_len left.now + text_len right.now ≤ MAX_LEN }
     ensures text { IfOk result (λ c. text c ≡ text left.now ++ text right.now) }
     ensures len { IfOk result (λ c. text_len c ≡ text_len left.now + text_len right.now) }
-    ensures kept { IfOk result (λ c. Kept (parts_of left.now ++ parts_of right.now) (parts_of c)) }
+    ensures parts_from { IfOk result (λ c. PartsFrom (parts_of left.now ++ parts_of right.now) (parts_of c)) }
     ensures sound { IfOk result IsCord }
     ensures refused { IsOkUnless result CordError.NoMemory }
 {
@@ -301,12 +301,12 @@ fn cat_leaves(alloc: Global, cord: Cord, bytes: &[u8]) -> Result<Cord, CordError
     let mut leaf_bytes = RawBuf::new(alloc)?;
     let mut rest = bytes;
     while !rest.is_empty() {
-        let (run, behind) = rest.split_at(rest.len().min(RawBuf::CAP as usize));
+        let (run, after) = rest.split_at(rest.len().min(RawBuf::CAP as usize));
         leaf_bytes.clear();
         leaf_bytes.extend(alloc, run)?;
         let leaf = leaf_of(alloc, &leaf_bytes)?;
         longer = cat_within(alloc, &longer, &leaf)?;
-        rest = behind;
+        rest = after;
     }
     Ok(longer)
 }

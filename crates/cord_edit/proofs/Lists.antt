@@ -10,7 +10,7 @@ use Rattle.cord_node.specs.Tree.{Cell, known}
 use Rattle.cord_edit.specs.Edits.{edited}
 
 module _ {X : Type 0} where
-  -- the front of two lists, and what is behind it
+  -- the prefix of two lists, and what is behind it
   take_both : (n : ℕ) (xs ys : List X) → take n (xs ++ ys) ≡ take n xs ++ take (n - length xs) ys
   take_both zero xs ys = let e : 0 - length xs ≡ 0 = omega arith in rw e refl
   take_both (suc n) [] ys = let e : suc n - 0 ≡ suc n = omega arith in rw e refl
@@ -48,25 +48,25 @@ module _ {X : Type 0} where
       let within : first ≤ length xs = omega (arith, s, o, i) in
       let rest : drop first (put_mid first n xs b) ≡ b ++ post_of first n xs =
       drop_at (take first xs) (b ++ post_of first n xs) first (length-take-le first xs within) in
-      let behind : post_of first n xs ≡ drop start xs = drop-drop n first xs ∙ ap (λ (k : ℕ). drop k xs) (sym s) in
+      let after : post_of first n xs ≡ drop start xs = drop-drop n first xs ∙ ap (λ (k : ℕ). drop k xs) (sym s) in
       let all : take (end - first) b ≡ b = take_all (end - first) b (omega (arith, s, o, e)) in
       let left : end - first - length b ≡ end - start = omega (arith, s, o, e) in
-      ap (take (end - first)) (rest ∙ ap (λ (ys : List X). b ++ ys) behind)
+      ap (take (end - first)) (rest ∙ ap (λ (ys : List X). b ++ ys) after)
       ∙ take_both (end - first) b (drop start xs)
       ∙ ap (λ (ys : List X). ys ++ take (end - first - length b) (drop start xs)) all
       ∙ ap (λ (k : ℕ). b ++ take k (drop start xs)) left
 
   -- an insert behind the gap's bytes g, and one in front of them
-  pub inserted_behind : (f g b d : List X) (at : ℕ) → at ≡ length f + length g → f ++ (g ++ b) ++ d ≡ edited at 0 b (f ++ g ++ d)
-  inserted_behind f g b d at e =
+  pub inserted_after : (f g b d : List X) (at : ℕ) → at ≡ length f + length g → f ++ (g ++ b) ++ d ≡ edited at 0 b (f ++ g ++ d)
+  inserted_after f g b d at e =
       let here : length (f ++ g) ≡ at = length-append f g ∙ sym e in
       let there : length (f ++ g) ≡ at + 0 = omega (arith, here) in
       ap (λ (ys : List X). ys ++ d) (sym (append_assoc f g b))
       ∙ sym (ap (λ (ys : List X). ys ++ b ++ drop (at + 0) (f ++ g ++ d)) (take_at (f ++ g) d at here)
       ∙ ap (λ (ys : List X). f ++ g ++ b ++ ys) (drop_at (f ++ g) d (at + 0) there))
 
-  pub inserted_in_front : (f g b d : List X) (at : ℕ) → at ≡ length f → f ++ (b ++ g) ++ d ≡ edited at 0 b (f ++ g ++ d)
-  inserted_in_front f g b d at e =
+  pub inserted_before : (f g b d : List X) (at : ℕ) → at ≡ length f → f ++ (b ++ g) ++ d ≡ edited at 0 b (f ++ g ++ d)
+  inserted_before f g b d at e =
       let there : length f ≡ at + 0 = omega (arith, e) in
       let front : take at (f ++ g ++ d) ≡ f = ap (take at) (append_assoc f g d) ∙ take_at f (g ++ d) at (sym e) in
       let back : drop (at + 0) (f ++ g ++ d) ≡ g ++ d =

@@ -1,8 +1,8 @@
 -- The parts of a text with a gap.
 use Rattle.std.proofs.Common.{◌≡◌, ℕ, zero, suc, ◌+◌, ◌*◌, ◌≤◌, List, [], ◌∷◌, ◌++◌, length, take, length-append, append-nil, refl, sym, subst, arith}
-use Rattle.cord_node.specs.Kept.{Part, AreFrom, Kept}
+use Rattle.cord_node.specs.PartsFrom.{Part, AreFrom, PartsFrom}
 use Rattle.cord_node.specs.Touched.{AtMostOneMore}
-use Rattle.cord_node.proofs.KeptLemmas.{Kept-self}
+use Rattle.cord_node.proofs.PartsFromLemmas.{PartsFrom-self}
 use Rattle.cord_raw.specs.declared.buffer.TheConstants.RawBuf.{CAP}
 use Rattle.cord_ec.specs.Gathered.{leaf_parts, IsGathered, AreFromOr, Gathered}
 use Rattle.cord_ec.proofs.Leaves.{gathered_own, leaf_begun}
@@ -32,9 +32,9 @@ pub more : (m n : ℕ) (old new : List Part) → m ≤ n → Gathered m old new 
 more m n old new h g = made_more IsGathered gathered_own m n old new h g
 
 -- the gap's bytes with others in front of them, and the first of them
-pub front_grown : (ps : List Part) (a b : List ℕ) (k : ℕ) → length (b ++ a) ≤ CAP → length b ≤ k * CAP →
+pub prefix_grown : (ps : List Part) (a b : List ℕ) (k : ℕ) → length (b ++ a) ≤ CAP → length b ≤ k * CAP →
     Gathered k (ps ++ leaf_parts a) (ps ++ leaf_parts (b ++ a))
-front_grown ps a b k fits h = made_after IsGathered gathered_own k ps (leaf_parts a) (leaf_parts (b ++ a)) (leaf_longer a b k h)
+prefix_grown ps a b k fits h = made_after IsGathered gathered_own k ps (leaf_parts a) (leaf_parts (b ++ a)) (leaf_longer a b k h)
     (leaf_small (b ++ a) fits)
 
 pub tail_cut : (ps : List Part) (a : List ℕ) (n : ℕ) → length (take n a) ≤ CAP →
@@ -71,7 +71,7 @@ no_gap n old ps b e g = subst (λ (x : List ℕ). Gathered n old (ps ++ leaf_par
 -- a gap that begins with these bytes
 pub gap_begun : (k : ℕ) (old ps : List Part) (b : List ℕ) → length b ≤ CAP → Gathered 1 old ps → Gathered (2 + k) old (ps ++ leaf_parts b)
 gap_begun k old ps b fits g = more 2 (2 + k) old (ps ++ leaf_parts b) (omega arith)
-    (made_through IsGathered gathered_own 1 1 old ps (ps ++ leaf_parts b) g (leaf_begun ps ps b fits (Kept-self ps)))
+    (made_through IsGathered gathered_own 1 1 old ps (ps ++ leaf_parts b) g (leaf_begun ps ps b fits (PartsFrom-self ps)))
 
 -- one step after another
 pub steps : (m n : ℕ) (a b c : List Part) → Gathered m a b → Gathered n b c → Gathered (m + n) a c
@@ -98,7 +98,7 @@ untouched n ps middle = record {
 }
 
 -- what is kept of leaves that were gathered
-pub kept_gathered : (k : ℕ) (old ps new : List Part) → Gathered k old ps → Kept ps new → Gathered k old new
+pub kept_gathered : (k : ℕ) (old ps new : List Part) → Gathered k old ps → PartsFrom ps new → Gathered k old new
 kept_gathered k old ps new g h = more (k + 0) k old new (omega arith)
     (made_through IsGathered gathered_own k 0 old ps new g (made_kept IsGathered gathered_own ps new h))
 

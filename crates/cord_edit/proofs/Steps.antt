@@ -5,44 +5,45 @@ use Rattle.std.proofs.lemmas.List.{length-take, length-take-le, length-drop, len
 use Rattle.cord_node.specs.Tree.{Cell, known}
 use Rattle.cord_core.proofs.Splices.{clamped_text}
 use Rattle.cord_edit.specs.Edits.{edited}
-use Rattle.cord_edit.proofs.Lists.{inserted_behind, inserted_in_front, insert_clamped, removed_beside}
+use Rattle.cord_edit.proofs.Lists.{inserted_after, inserted_before, insert_clamped, removed_beside}
 
 -- the text of a cord with bytes in the place of those from `front` up to `back`
 abbrev pub gapped : List Cell → List ℕ → ℕ → ℕ → List Cell
 gapped xs g front back = take front xs ++ map known g ++ drop back xs
 
 module _ (xs all : List Cell) (g : List ℕ) (front back len total : ℕ) (view : gapped xs g front back ≡ all)
-    (counted : length xs ≡ len) (order : front ≤ back) (inside : back ≤ len) (told : total ≡ length all) where
+    (counted : length xs ≡ len) (order : front ≤ back) (inside : back ≤ len) (reported : total ≡ length all) where
   size : length (take front xs) ≡ front
   size = length-take-le front xs (omega (arith, counted, order, inside))
 
   -- bytes behind those in the gap
-  pub typed_behind : (b h : List ℕ) (at start : ℕ) → h ≡ g ++ b → at ≡ min start total → at ≡ front + length g →
+  pub typed_after : (b h : List ℕ) (at start : ℕ) → h ≡ g ++ b → at ≡ min start total → at ≡ front + length g →
       gapped xs h front back ≡ edited start 0 (map known b) all
-  typed_behind b h at start added clamp here =
+  typed_after b h at start added clamp here =
       let place : at ≡ length (take front xs) + length (map known g) = omega (arith, here, size, length-map g known) in
       ap (λ (ys : List ℕ). gapped xs ys front back) added
       ∙ ap (λ (ys : List Cell). take front xs ++ ys ++ drop back xs) (map-append known g b)
-      ∙ inserted_behind (take front xs) (map known g) (map known b) (drop back xs) at place
+      ∙ inserted_after (take front xs) (map known g) (map known b) (drop back xs) at place
       ∙ ap (edited at 0 (map known b)) view
-      ∙ insert_clamped all (map known b) start at total (sym told) clamp
+      ∙ insert_clamped all (map known b) start at total (sym reported) clamp
 
   -- bytes in front of those in the gap
-  pub typed_in_front : (b h : List ℕ) (at start : ℕ) → h ≡ b ++ g → at ≡ min start total → at ≡ front →
+  pub typed_before : (b h : List ℕ) (at start : ℕ) → h ≡ b ++ g → at ≡ min start total → at ≡ front →
       gapped xs h front back ≡ edited start 0 (map known b) all
-  typed_in_front b h at start added clamp here =
+  typed_before b h at start added clamp here =
       let place : at ≡ length (take front xs) = omega (arith, here, size) in
       ap (λ (ys : List ℕ). gapped xs ys front back) added
       ∙ ap (λ (ys : List Cell). take front xs ++ ys ++ drop back xs) (map-append known b g)
-      ∙ inserted_in_front (take front xs) (map known g) (map known b) (drop back xs) at place
+      ∙ inserted_before (take front xs) (map known g) (map known b) (drop back xs) at place
       ∙ ap (edited at 0 (map known b)) view
-      ∙ insert_clamped all (map known b) start at total (sym told) clamp
+      ∙ insert_clamped all (map known b) start at total (sym reported) clamp
 
   -- bytes are taken out next to the end of those in the gap
-  pub removed_next : (h : List ℕ) (first kept from until end start count cut limit : ℕ) → first ≡ min front from → kept ≡ from - front →
-      h ≡ take kept g → end ≡ front + length g → from ≤ end → end ≤ until → total ≤ limit → from ≡ min start total →
+  pub removed_next : (h : List ℕ) (first parts_from from until end start count cut limit : ℕ) → first ≡ min front from → parts_from ≡ from -
+      front →
+      h ≡ take parts_from g → end ≡ front + length g → from ≤ end → end ≤ until → total ≤ limit → from ≡ min start total →
       cut ≡ min (start + count) limit → until ≡ min cut total → gapped xs h first (back + (until - end)) ≡ edited start count [] all
-  removed_next h first kept from until end start count cut limit f k left e lo hi small clamp sum until_is =
+  removed_next h first parts_from from until end start count cut limit f k left e lo hi small clamp sum until_is =
       let bytes : map known h ≡ take (from - front) (map known g) =
       ap (map known) (left ∙ ap (λ (n : ℕ). take n g) k) ∙ sym (take-map known (from - front) g) in
       ap (λ (n : ℕ). gapped xs h n (back + (until - end))) f
@@ -50,16 +51,16 @@ module _ (xs all : List Cell) (g : List ℕ) (front back len total : ℕ) (view 
       ∙ removed_beside xs (map known g) front back from until end (omega (arith, counted, order, inside))
       (omega (arith, e, length-map g known)) lo hi
       ∙ ap (λ (ys : List Cell). take from ys ++ [] ++ drop until ys) view
-      ∙ clamped_text all [] (take from all ++ [] ++ drop until all) start (start + count) limit total from cut until (sym told) small
+      ∙ clamped_text all [] (take from all ++ [] ++ drop until all) start (start + count) limit total from cut until (sym reported) small
       clamp sum until_is refl
 
 -- bytes are taken out elsewhere, after those in the gap were put into the cord
 pub removed_apart : (xs all : List Cell) (h : List ℕ) (total from until start count cut limit : ℕ) → xs ≡ all → h ≡ [] →
     total ≡ length all → total ≤ limit → from ≡ min start total → cut ≡ min (start + count) limit → until ≡ min cut total →
     gapped xs h from until ≡ edited start count [] all
-removed_apart xs all h total from until start count cut limit same none told small clamp sum until_is =
+removed_apart xs all h total from until start count cut limit same none reported small clamp sum until_is =
     ap (λ (ys : List ℕ). gapped xs ys from until) none ∙ ap (λ (ys : List Cell). take from ys ++ [] ++ drop until ys) same
-    ∙ clamped_text all [] (take from all ++ [] ++ drop until all) start (start + count) limit total from cut until (sym told) small
+    ∙ clamped_text all [] (take from all ++ [] ++ drop until all) start (start + count) limit total from cut until (sym reported) small
     clamp sum until_is refl
 
 -- how long an edited text is

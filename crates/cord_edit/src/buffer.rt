@@ -6,7 +6,7 @@ ghost use Rattle.cord_node.specs.Tree.{known};
 ghost use Rattle.cord_core.specs.Cord.{text, text_len, parts_of, IsCord};
 ghost use Rattle.cord_core.specs.Refusals.{IsRefusal};
 ghost use Rattle.cord_ec.specs.Gathered.{leaf_bytes, leaf_parts, Gathered};
-ghost use Rattle.cord_ec.specs.Grown.{bytes_over, IsCordOf};
+ghost use Rattle.cord_ec.specs.Grown.{bytes_of_cells, IsCordOf};
 ghost use Rattle.cord_edit.specs.Edits.{edited, IsTextOf, IsEdited, IsEditedByCord};
 ghost use Rattle.cord_edit.specs.inner.Gaps.{gap_bytes};
 
@@ -20,7 +20,7 @@ use std::marker::Model;
 /// A text of at most `MAX_LEN` bytes that is edited at a place, the gap, which moves now and then.
 ///
 /// It is a cord with a range cut out, and the gap's bytes in its place, at most 4,096. An insert at the gap's end or in
-/// front of its bytes, and a removal that reaches up to its end or begins there, touch no tree and take constant time,
+/// prefix of its bytes, and a removal that reaches up to its end or begins there, touch no tree and take constant time,
 /// beside the copy of the bytes. An edit elsewhere moves the gap: its bytes become one leaf of the cord, by one
 /// `Cord::splice`, which takes steps for each level of the tree.
 #[derive(Drop)]
@@ -58,7 +58,7 @@ impl Model for EditBuffer {
 }
 
 impl EditBuffer {
-    /// A buffer with the text of `cord`, whose tree it shares, and the gap at its end. Refused for want of memory alone.
+    /// A buffer with the text of `cord`, whose tree it shares, and the gap at its end. Refused only when out of memory.
     pub fn of(alloc: Global, cord: &Cord) -> Result<EditBuffer, CordError>
         ensures text { IfOk result (λ made. made.text ≡ text cord.now) }
         ensures over { IfOk result (λ made. IsTextOf cord.now made.text) }
@@ -79,7 +79,7 @@ impl EditBuffer {
     /// The length of the text, in bytes.
     pub fn len(&self) -> u64
         ensures value { result ≡ length self.now.text }
-        ensures over { (t : Table) → result ≡ length (bytes_over t self.now.text) }
+        ensures over { (t : Table) → result ≡ length (bytes_of_cells t self.now.text) }
         ensures limit { result ≤ MAX_LEN }
     {
         self.front + self.gap.len() as u64 + (self.cord.len() - self.back)
@@ -102,11 +102,11 @@ impl EditBuffer {
             return Err(CordError::TooLong);
         }
         let at = at.min(len);
-        if at == self.front + self.gap.len() as u64 && self.gap.fits_behind(bytes.len()) {
+        if at == self.front + self.gap.len() as u64 && self.gap.fits_after(bytes.len()) {
             self.gap.append(bytes);
             return Ok(());
         }
-        if at == self.front && self.gap.fits_in_front(bytes.len()) {
+        if at == self.front && self.gap.fits_before(bytes.len()) {
             self.gap.prepend(bytes);
             return Ok(());
         }
@@ -115,7 +115,7 @@ impl EditBuffer {
     }
 
     /// Takes out the `count` bytes from `start` on, of those that there are: from past the end on there are none.
-    /// Refused for want of memory alone; then the text is as before.
+    /// Refused only when out of memory; then the text is as before.
     pub fn remove(&mut self, alloc: Global, start: u64, count: u64) -> Result<(), CordError>
         ensures text { IfOk result (λ _. self.new.text ≡ edited start count [] self.old.text) }
         ensures over { IfOk result (λ _. IsEdited start count [] self.old.text self.new.text) }
@@ -171,7 +171,7 @@ impl EditBuffer {
     }
 
     /// The text as a cord, which shares its tree with this one. The text stays, and can be edited further. Refused for
-    /// want of memory alone.
+    /// out of memory alone.
     pub fn to_cord(&mut self, alloc: Global) -> Result<Cord, CordError>
         ensures text { IfOk result (λ c. text c ≡ self.old.text) }
         ensures over { IfOk result (IsCordOf self.old.text) }

@@ -53,7 +53,7 @@ impl Gap {
     }
 
     // Whether so many bytes may come behind those that are there.
-    pub(crate) fn fits_behind(&self, count: usize) -> bool
+    pub(crate) fn fits_after(&self, count: usize) -> bool
         ensures room { result ≡ true → (self.now.end + count ≤ ROOM) × (self.now.end + count ≤ self.now.start + MOST) }
         ensures most { result ≡ true → length (gap_bytes self.now) + count ≤ MOST }
     {
@@ -61,7 +61,7 @@ impl Gap {
     }
 
     // Whether so many bytes may come in front of those that are there.
-    pub(crate) fn fits_in_front(&self, count: usize) -> bool
+    pub(crate) fn fits_before(&self, count: usize) -> bool
         ensures room { result ≡ true → (count ≤ self.now.start) × (self.now.end + count ≤ self.now.start + MOST) }
         ensures most { result ≡ true → length (gap_bytes self.now) + count ≤ MOST }
     {

@@ -6,9 +6,9 @@ use Rattle.std.specs.Option.{option_map}
 use Rattle.std.specs.Str.{bytes_eq}
 use Rattle.std.proofs.lemmas.Slice.Eq.{bytes_eq-Decides}
 use Rattle.cord_io.specs.declared.TheConstants.{MAX_LEN}
-use Rattle.cord_io.specs.Device.{Folder, bytes_at}
+use Rattle.cord_io.specs.Device.{FileSystem, bytes_at}
 use Rattle.cord_file.specs.declared.TheConstants.{MAX_FILES}
-use Rattle.cord_file.specs.Entries.{Opened, lengths_in, table_in, id_from, id_in}
+use Rattle.cord_file.specs.FileTable.{Opened, lengths_in, table_in, id_from, id_in}
 use Rattle.cord_file.specs.Opening.{Grows, Opens}
 
 -- a member stays where it is after more members
@@ -83,30 +83,30 @@ id_added m (file ∷ files) path len h =
 
 -- a table that stays grows
 pub grows_same : (opened : Opened) → Grows opened opened
-grows_same opened = record { lengths = λ id h. refl; texts = λ folder id h. refl; ids = λ path id h. h }
+grows_same opened = record { lengths = λ id h. refl; texts = λ file_system id h. refl; ids = λ path id h. h }
 
 lengths_kept : (old more : Opened) (id : ℕ) → IsSome (lengths_in old id) → lengths_in (old ++ more) id ≡ lengths_in old id
 lengths_kept old more zero h = refl
 lengths_kept old more (suc zero) h = refl
 lengths_kept old more (suc (suc n)) h = ap (option_map (λ file. file.1)) (kept_place (λ file. file.1) old more n h)
 
-texts_kept : (old more : Opened) (folder : Folder) (id : ℕ) → IsSome (lengths_in old id) →
-    table_in (old ++ more) folder id ≡ table_in old folder id
-texts_kept old more folder zero h = refl
-texts_kept old more folder (suc zero) h = refl
-texts_kept old more folder (suc (suc n)) h = ap (λ o. unwrap_or (option_map (λ file. bytes_at folder file.0) o) [])
+texts_kept : (old more : Opened) (file_system : FileSystem) (id : ℕ) → IsSome (lengths_in old id) →
+    table_in (old ++ more) file_system id ≡ table_in old file_system id
+texts_kept old more file_system zero h = refl
+texts_kept old more file_system (suc zero) h = refl
+texts_kept old more file_system (suc (suc n)) h = ap (λ o. unwrap_or (option_map (λ file. bytes_at file_system file.0) o) [])
     (kept_place (λ file. file.1) old more n h)
 
 -- and so does one with more entries after all
-pub grows_behind : (old more : Opened) → Grows old (old ++ more)
-grows_behind old more = record {
+pub grows_after : (old more : Opened) → Grows old (old ++ more)
+grows_after old more = record {
   lengths = lengths_kept old more;
   texts = texts_kept old more;
   ids = λ path id h. id_kept 2 old more path id h;
 }
 
 grows_by : (old new : Opened) (path : List ℕ) (id len : ℕ) (o : Option ℕ) → id_in old path ≡ o → Opens old new path id len → Grows old new
-grows_by old new path id len None e opens = subst (Grows old) (sym (opens.fresh e).1) (grows_behind old ((path, len) ∷ []))
+grows_by old new path id len None e opens = subst (Grows old) (sym (opens.fresh e).1) (grows_after old ((path, len) ∷ []))
 grows_by old new path id len (Some n) e opens = subst (Grows old) (sym (opens.again (ap is_some e))) (grows_same old)
 
 -- opening a path grows the table
@@ -116,23 +116,23 @@ grows_opened old new path id len opens = grows_by old new path id len (id_in old
 -- a path that is open stays so
 pub opens_again : (opened : Opened) (path : List ℕ) (id len : ℕ) → id_in opened path ≡ Some id → lengths_in opened id ≡ Some len →
     len ≤ MAX_LEN → Opens opened opened path id len
-opens_again opened path id len known told limit = record {
+opens_again opened path id len known reported limit = record {
   known = known;
-  told = told;
+  reported = reported;
   limit = limit;
   again = λ h. refl;
   fresh = λ none. cc;
 }
 
 -- a path that isn't is added after all entries
-pub opens_behind : (old : Opened) (path : List ℕ) (len : ℕ) → id_in old path ≡ None → length old < MAX_FILES → len ≤ MAX_LEN →
+pub opens_after : (old : Opened) (path : List ℕ) (len : ℕ) → id_in old path ≡ None → length old < MAX_FILES → len ≤ MAX_LEN →
     Opens old (old ++ (path, len) ∷ []) path (length old + 2) len
-opens_behind old path len none room limit =
+opens_after old path len none room limit =
     let sum : 2 + length old ≡ length old + 2 = omega arith in
     let next : length old + 2 ≡ suc (suc (length old)) = omega arith in
     record {
       known = id_added 2 old path len none ∙ ap (λ n. Some n) sum;
-      told = ap (lengths_in (old ++ (path, len) ∷ [])) next ∙ ap (option_map (λ file. file.1)) (last_place old (path, len));
+      reported = ap (lengths_in (old ++ (path, len) ∷ [])) next ∙ ap (option_map (λ file. file.1)) (last_place old (path, len));
       limit = limit;
       again = λ h. cc;
       fresh = λ e. (room, refl);

@@ -5,9 +5,9 @@ use Rattle.std.specs.Prelude.{slice_get, if◌then◌else◌, IsSomeAnd, unwrap_
 use Rattle.std.specs.Option.{option_map}
 use Rattle.std.specs.String.{string_bytes}
 use Rattle.std.proofs.lemmas.List.{map-append}
-use Rattle.cord_io.specs.Device.{Folder, file_at, bytes_at}
-use Rattle.cord_file.specs.Entries.{Opened, table_in, id_in}
-use Rattle.cord_file.specs.Files.{Each, told_of, opened_of}
+use Rattle.cord_io.specs.Device.{FileSystem, file_at, bytes_at}
+use Rattle.cord_file.specs.FileTable.{Opened, table_in, id_in}
+use Rattle.cord_file.specs.Files.{Each, reported_of, opened_of}
 use Rattle.cord_file.specs.Opening.{HoldsFile}
 use Rattle.cord_file.specs.declared.files.OpenFile.{OpenFile}
 use Rattle.cord_file.proofs.Growing.{one_more, id_place}
@@ -28,11 +28,11 @@ each_pushed P files new file false e all here = subst (Each P) (sym e) all
 -- the path of one more file
 pub opened_more : (files : List OpenFile) (file : OpenFile) (path : List ℕ) → string_bytes file.path ≡ path →
     opened_of (files ++ file ∷ []) ≡ opened_of files ++ (path, file.len) ∷ []
-opened_more files file path e = map-append told_of files (file ∷ []) ∙ ap (λ p. opened_of files ++ (p, file.len) ∷ []) e
+opened_more files file path e = map-append reported_of files (file ∷ []) ∙ ap (λ p. opened_of files ++ (p, file.len) ∷ []) e
 
--- the file at a path is there, and as long as was told
-abbrev pub IsFound : Folder → List ℕ → ℕ → Type 0
-IsFound folder path len = (file_at folder path ≡ Some (bytes_at folder path)) × (length (bytes_at folder path) ≡ len)
+-- the file at a path is there, and as long as was reported
+abbrev pub IsFound : FileSystem → List ℕ → ℕ → Type 0
+IsFound file_system path len = (file_at file_system path ≡ Some (bytes_at file_system path)) × (length (bytes_at file_system path) ≡ len)
 
 there_at : (o : Option (List ℕ)) (len : ℕ) → IsSomeAnd o (λ bytes. len ≡ length bytes) → (o ≡ Some (unwrap_or o [])) ×
     (length (unwrap_or o []) ≡ len)
@@ -40,16 +40,17 @@ there_at None len h = absurd h
 there_at (Some bytes) len h = (refl, sym h)
 
 -- what a device says of a file that it opened
-pub found_there : (folder : Folder) (path : List ℕ) (len : ℕ) → IsSomeAnd (file_at folder path) (λ bytes. len ≡ length bytes) →
-    IsFound folder path len
-found_there folder path len h = there_at (file_at folder path) len h
+pub found_there : (file_system : FileSystem) (path : List ℕ) (len : ℕ) → IsSomeAnd (file_at file_system path) (λ bytes. len ≡ length bytes)
+    →
+    IsFound file_system path len
+found_there file_system path len h = there_at (file_at file_system path) len h
 
 -- an entry holds the file that was found
-pub holds_file : (folder : Folder) (opened : Opened) (path : List ℕ) (id len n : ℕ) → id ≡ suc (suc n) →
-    slice_get opened n ≡ Some (path, len) → IsFound folder path len → HoldsFile folder opened path id len
-holds_file folder opened path id len n e slot found =
-    let here : table_in opened folder id ≡ bytes_at folder path =
-    ap (table_in opened folder) e ∙ ap (λ o. unwrap_or (option_map (λ file. bytes_at folder file.0) o) []) slot in
+pub holds_file : (file_system : FileSystem) (opened : Opened) (path : List ℕ) (id len n : ℕ) → id ≡ suc (suc n) →
+    slice_get opened n ≡ Some (path, len) → IsFound file_system path len → HoldsFile file_system opened path id len
+holds_file file_system opened path id len n e slot found =
+    let here : table_in opened file_system id ≡ bytes_at file_system path =
+    ap (table_in opened file_system) e ∙ ap (λ o. unwrap_or (option_map (λ file. bytes_at file_system file.0) o) []) slot in
     (found.0 ∙ ap (λ b. Some b) (sym here), sym found.1 ∙ ap (λ b. length b) (sym here))
 
 -- the file of an opened path
@@ -57,7 +58,7 @@ pub file_of : (files : List OpenFile) (path : List ℕ) (len n : ℕ) → slice_
     (slice_get files n ≡ Some file) × (string_bytes file.path ≡ path) × (file.len ≡ len)
 file_of [] path len n h = cc
 file_of (file ∷ files) path len zero h =
-    let same : told_of file ≡ (path, len) = cc in
+    let same : reported_of file ≡ (path, len) = cc in
     (file, refl, ap (λ p. p.0) same, ap (λ p. p.1) same)
 file_of (file ∷ files) path len (suc n) h = file_of files path len n h
 

@@ -11,12 +11,12 @@ again_twice f done again k =
     ap f one ∙ again (k + done) ∙ again k
 
 -- copies of the first bytes are the next ones, where they come again there
-pub copies_behind : (f : ℕ → ℕ) (start done count : ℕ) (old new : List ℕ) → count ≤ done → ((k : ℕ) → f (k + done) ≡ f k) →
+pub copies_after : (f : ℕ → ℕ) (start done count : ℕ) (old new : List ℕ) → count ≤ done → ((k : ℕ) → f (k + done) ≡ f k) →
     ((k : ℕ) → k < done → slice_index old k ≡ f (start + k)) → ((k : ℕ) → k < done → slice_index new k ≡ slice_index old k) →
     ((k : ℕ) → k < count → slice_index new (done + k) ≡ slice_index old k) → (k : ℕ) → k < done + count → slice_index new k ≡ f (start + k)
-copies_behind f start done count old new few again bytes front behind k below = ⊎_elim before after (cases_lt k done) where
+copies_after f start done count old new few again bytes prefix beyond k below = ⊎_elim before after (cases_lt k done) where
   before : k < done → slice_index new k ≡ f (start + k)
-  before h = front k h ∙ bytes k h
+  before h = prefix k h ∙ bytes k h
 
   after : done ≤ k → slice_index new k ≡ f (start + k)
   after h =
@@ -25,4 +25,4 @@ copies_behind f start done count old new few again bytes front behind k below = 
       let moved : (start + j) + done ≡ start + k = omega (arith, h) in
       let inside : j < count = omega (arith, h, below) in
       let within : j < done = omega (arith, inside, few) in
-      ap (slice_index new) (sym same) ∙ behind j inside ∙ bytes j within ∙ sym (again (start + j)) ∙ ap f moved
+      ap (slice_index new) (sym same) ∙ beyond j inside ∙ bytes j within ∙ sym (again (start + j)) ∙ ap f moved

@@ -1,6 +1,6 @@
 -- Cords over files: what each call makes, and when it is refused.
 use Rattle.std.specs.Prelude.{◌≡◌, ℕ, ◌<◌, ◌≤◌, ◌⊎◌, ⊤, List, length, Option, Some}
-use Rattle.cord_io.specs.Device.{Folder, file_at}
+use Rattle.cord_io.specs.Device.{FileSystem, file_at}
 use Rattle.cord_node.specs.declared.Node.{Node}
 use Rattle.cord_core.specs.Cord.{text_len, bytes_of, CordFitsIn}
 use Rattle.cord_core.specs.Forms.{IsLeafOf, IsFuncOf}
@@ -8,7 +8,7 @@ use Rattle.cord_core.specs.Equations.{HasText}
 use Rattle.cord_file.specs.declared.TheConstants.{SHORT_FILE}
 use Rattle.cord_file.specs.declared.faults.FileError.{FileError}
 use Rattle.cord_file.specs.declared.faults.FileError.TheVariants.{NoFile, TooLong, ReadFailed, TooManyFiles, NoMemory}
-use Rattle.cord_file.specs.Entries.{Opened, lengths_in, table_in}
+use Rattle.cord_file.specs.FileTable.{Opened, lengths_in, table_in}
 use Rattle.cord_file.specs.Opening.{Opens, IsOpenRefusal}
 
 -- the cord is one leaf with so many bytes
@@ -23,9 +23,9 @@ pub record IsFuncOver (opened : Opened) (id len : ℕ) (cord : Option Node) : Ty
   pub form : IsFuncOf id 0 len cord
   pub fits : CordFitsIn (lengths_in opened) cord
 
--- over a folder the text of the cord is the file at the path
-abbrev pub IsFileIn : Folder → Opened → List ℕ → Option Node → Type 0
-IsFileIn folder opened path cord = file_at folder path ≡ Some (bytes_of (table_in opened folder) cord)
+-- over a file system the text of the cord is the file at the path
+abbrev pub IsFileIn : FileSystem → Opened → List ℕ → Option Node → Type 0
+IsFileIn file_system opened path cord = file_at file_system path ≡ Some (bytes_of (table_in opened file_system) cord)
 
 -- the path is open, and the cord is one leaf as long as its file
 pub record IsWhole (old new : Opened) (path : List ℕ) (cord : Option Node) : Type 0 where

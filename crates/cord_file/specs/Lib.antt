@@ -1,5 +1,5 @@
 pub mod Blocks
-pub mod Entries
+pub mod FileTable
 pub mod Faults
 pub mod Files
 pub mod Handing

@@ -1,6 +1,6 @@
 -- A table of files: the device, and the files that were opened.
 use Rattle.cord_io.specs.declared.reading.Files.{Ghosts}
-use Rattle.cord_file.specs.Entries.{Opened}
+use Rattle.cord_file.specs.FileTable.{Opened}
 use Rattle.cord_file.specs.Files.{opened_of}
 use Rattle.cord_file.specs.declared.sources.Sources.{Sources}
 

@@ -1,7 +1,7 @@
 // Blocks of files, and those that are kept.
 ghost use Rattle.std.specs.Prelude.{◌≡◌, ◌+◌, ◌*◌, ◌<◌, ◌≤◌, ℕ, List, length, take, drop, true, is_err, Contains, OnOk};
 ghost use Rattle.std.specs.Prelude.{IsSomeAnd, IfSome, ◌⊎◌};
-ghost use Rattle.cord_io.specs.Device.{Folder, bytes_at, count_after};
+ghost use Rattle.cord_io.specs.Device.{FileSystem, bytes_at, count_after};
 ghost use Rattle.cord_file.specs.Blocks.{HeapBlock, Slotted, IsBlock};
 
 use crate::reading::read_range;
@@ -44,14 +44,16 @@ pub(crate) fn read_block<F: Files>(
     number: u64,
     block: &mut [u8; BLOCK],
 ) -> Result<(), ReadFault>
-    requires told { IsSomeAnd (F.opened files.old no.0) (λ told. len ≡ told.1) }
+    requires reported { IsSomeAnd (F.opened files.old no.0) (λ reported. len ≡ reported.1) }
     requires inside { number * BLOCK < len }
     requires limit { len ≤ MAX_LEN }
-    ensures earlier { (folder : Folder) → F.keeps files.new folder → F.keeps files.old folder }
+    ensures earlier { (file_system : FileSystem) → F.consistent files.new file_system → F.consistent files.old
+        file_system }
     ensures opened { (n : ℕ) → F.opened files.new n ≡ F.opened files.old n }
     ensures count { F.failures files.new ≡ count_after (is_err result) (F.failures files.old) }
-    ensures block { (folder : Folder) → F.keeps files.new folder → OnOk result
-        (IsSomeAnd (F.opened files.old no.0) (λ told. IsBlock len (bytes_at folder told.0) number block.new)) }
+    ensures block { (file_system : FileSystem) → F.consistent files.new file_system → OnOk result
+        (IsSomeAnd (F.opened files.old no.0) (λ reported. IsBlock len (bytes_at file_system reported.0) number
+        block.new)) }
 {
     let start = number * BLOCK as u64;
     let size = (len - start).min(BLOCK as u64) as usize;

@@ -1,9 +1,9 @@
 // Cords over files.
 ghost use Rattle.std.specs.Prelude.{◌≡◌, ◌+◌, ◌<◌, ◌≤◌, IfOk, IfErr, IsOkUnless, Some};
-ghost use Rattle.cord_io.specs.Device.{Folder};
+ghost use Rattle.cord_io.specs.Device.{FileSystem};
 ghost use Rattle.cord_core.specs.Cord.{bytes_of};
 ghost use Rattle.cord_file.specs.Faults.{has_failed};
-ghost use Rattle.cord_file.specs.Entries.{lengths_in, table_in};
+ghost use Rattle.cord_file.specs.FileTable.{lengths_in, table_in};
 ghost use Rattle.cord_file.specs.FileCords.{IsLeafOver, IsFuncOver, IsWhole, IsLazy, IsWholeOrLazy};
 ghost use Rattle.cord_file.specs.FileCords.{IsReadRefusal, IsWholeRefusal, IsLazyRefusal, IsWholeOrLazyRefusal};
 ghost use Rattle.cord_file.specs.Handing.{HandsOver};
@@ -36,9 +36,9 @@ impl<F: Files> Sources<F> {
         requires len { lengths_in (opened_in self.old) id.0 ≡ Some len }
         ensures files { LeavesFiles (has_failed result) self.old self.new }
         ensures cord { IfOk result (IsLeafOver len) }
-        ensures text { (folder : Folder) → F.keeps (device_in self.new) folder →
+        ensures text { (file_system : FileSystem) → F.consistent (device_in self.new) file_system →
             IfOk result (λ cord.
-            bytes_of (table_in (opened_in self.old) folder) cord ≡ table_in (opened_in self.old) folder id.0) }
+            bytes_of (table_in (opened_in self.old) file_system) cord ≡ table_in (opened_in self.old) file_system id.0) }
         ensures refused { IfErr result IsReadRefusal }
     {
         let bytes = self.read_file_whole(alloc, id.0 as usize - 2, len)?;
@@ -62,9 +62,9 @@ impl<F: Files> Sources<F> {
     fn function_over(&self, alloc: Global, id: SourceId, len: u64) -> Result<Cord, FileError>
         requires len { lengths_in (opened_in self.now) id.0 ≡ Some len }
         ensures cord { IfOk result (IsFuncOver (opened_in self.now) id.0 len) }
-        ensures text { (folder : Folder) → F.keeps (device_in self.now) folder →
+        ensures text { (file_system : FileSystem) → F.consistent (device_in self.now) file_system →
             IfOk result (λ cord.
-            bytes_of (table_in (opened_in self.now) folder) cord ≡ table_in (opened_in self.now) folder id.0) }
+            bytes_of (table_in (opened_in self.now) file_system) cord ≡ table_in (opened_in self.now) file_system id.0) }
         ensures refused { IsOkUnless result FileError.NoMemory }
     {
         let cord = Cord::from_fn(alloc, id, 0, len)?;

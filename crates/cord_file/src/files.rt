@@ -1,6 +1,6 @@
 // Files that were opened.
 ghost use Rattle.std.specs.Prelude.{◌≡◌, ◌+◌, ◌<◌, length, IfSome, IfNone, None, Some};
-ghost use Rattle.cord_file.specs.Entries.{id_in};
+ghost use Rattle.cord_file.specs.FileTable.{id_in};
 ghost use Rattle.cord_file.specs.Files.{opened_of};
 
 use cord_io::FileNo;

@@ -36,14 +36,14 @@ fn fill_each(id: SourceId, start: u64, out: &mut [u8])
 }
 
 // Copies the first `count` bytes to after the first `done`.
-fn copy_behind(out: &mut [u8], done: usize, count: usize)
+fn copy_after(out: &mut [u8], done: usize, count: usize)
     requires few { count ≤ done }
     requires inside { done + count ≤ length out.old }
-    ensures front { (k : ℕ) → k < done → slice_index out.new k ≡ slice_index out.old k }
-    ensures behind { (k : ℕ) → k < count → slice_index out.new (done + k) ≡ slice_index out.old k }
+    ensures prefix { (k : ℕ) → k < done → slice_index out.new k ≡ slice_index out.old k }
+    ensures beyond { (k : ℕ) → k < count → slice_index out.new (done + k) ≡ slice_index out.old k }
 {
-    let (front, rest) = out.split_at_mut(done);
-    rest[..count].copy_from_slice(&front[..count]);
+    let (prefix, rest) = out.split_at_mut(done);
+    rest[..count].copy_from_slice(&prefix[..count]);
 }
 
 // Fills a slice with an entry's bytes from a place on: those up to where they come again, and then copies of what is
@@ -56,7 +56,7 @@ pub(crate) fn fill(id: SourceId, start: u64, out: &mut [u8])
     fill_each(id, start, &mut out[..done]);
     while done < out.len() {
         let count = done.min(out.len() - done);
-        copy_behind(out, done, count);
+        copy_after(out, done, count);
         done += count;
     }
 }

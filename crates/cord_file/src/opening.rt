@@ -1,7 +1,7 @@
 // Opening paths.
 ghost use Rattle.std.specs.Prelude.{◌≡◌, ◌+◌, ◌<◌, ℕ, [], ◌∷◌, ◌++◌, IfOk, OnErr, IfErr, None, IsSome, length};
-ghost use Rattle.cord_io.specs.Device.{Folder, count_after};
-ghost use Rattle.cord_file.specs.Entries.{id_in};
+ghost use Rattle.cord_io.specs.Device.{FileSystem, count_after};
+ghost use Rattle.cord_file.specs.FileTable.{id_in};
 ghost use Rattle.cord_file.specs.Faults.{has_failed};
 ghost use Rattle.cord_file.specs.Opening.{Grows, Opens, HoldsFile, IsOpenRefusal, IsRefusalOver};
 ghost use Rattle.cord_file.specs.Opening.{OpensNone, OpensOne, IsUnopened};
@@ -22,17 +22,17 @@ impl<F: Files> Sources<F> {
     /// The device opens no path that is open, and the file of a new entry once. After a refusal it has opened a file
     /// only where that is too long or found no memory.
     pub fn open(&mut self, alloc: Global, path: &str) -> Result<(SourceId, u64), FileError>
-        ensures earlier { (folder : Folder) →
-            F.keeps (device_in self.new) folder → F.keeps (device_in self.old) folder }
+        ensures earlier { (file_system : FileSystem) →
+            F.consistent (device_in self.new) file_system → F.consistent (device_in self.old) file_system }
         ensures count { F.failures (device_in self.new)
             ≡ count_after (has_failed result) (F.failures (device_in self.old)) }
         ensures grows { Grows (opened_in self.old) (opened_in self.new) }
         ensures opens { IfOk result (λ r. Opens (opened_in self.old) (opened_in self.new) path.now r.0.0 r.1) }
-        ensures file { (folder : Folder) → F.keeps (device_in self.new) folder →
-            IfOk result (λ r. HoldsFile folder (opened_in self.new) path.now r.0.0 r.1) }
+        ensures file { (file_system : FileSystem) → F.consistent (device_in self.new) file_system →
+            IfOk result (λ r. HoldsFile file_system (opened_in self.new) path.now r.0.0 r.1) }
         ensures refused { IfErr result (IsOpenRefusal (opened_in self.old) path.now) }
-        ensures cause { (folder : Folder) → F.keeps (device_in self.new) folder →
-            IfErr result (IsRefusalOver folder path.now) }
+        ensures cause { (file_system : FileSystem) → F.consistent (device_in self.new) file_system →
+            IfErr result (IsRefusalOver file_system path.now) }
         ensures unopened { OnErr result (opened_in self.new ≡ opened_in self.old) }
         ensures again { IsSome (id_in (opened_in self.old) path.now) →
             OpensNone (F.opened (device_in self.old)) (F.opened (device_in self.new)) }
@@ -50,16 +50,16 @@ impl<F: Files> Sources<F> {
     // Opens the file at a path that isn't open.
     fn add(&mut self, alloc: Global, path: &str) -> Result<(SourceId, u64), FileError>
         requires { id_in (opened_in self.old) path.now ≡ None }
-        ensures earlier { (folder : Folder) →
-            F.keeps (device_in self.new) folder → F.keeps (device_in self.old) folder }
+        ensures earlier { (file_system : FileSystem) →
+            F.consistent (device_in self.new) file_system → F.consistent (device_in self.old) file_system }
         ensures count { F.failures (device_in self.new)
             ≡ count_after (has_failed result) (F.failures (device_in self.old)) }
         ensures opens { IfOk result (λ r. Opens (opened_in self.old) (opened_in self.new) path.now r.0.0 r.1) }
-        ensures file { (folder : Folder) → F.keeps (device_in self.new) folder →
-            IfOk result (λ r. HoldsFile folder (opened_in self.new) path.now r.0.0 r.1) }
+        ensures file { (file_system : FileSystem) → F.consistent (device_in self.new) file_system →
+            IfOk result (λ r. HoldsFile file_system (opened_in self.new) path.now r.0.0 r.1) }
         ensures refused { IfErr result (IsOpenRefusal (opened_in self.old) path.now) }
-        ensures cause { (folder : Folder) → F.keeps (device_in self.new) folder →
-            IfErr result (IsRefusalOver folder path.now) }
+        ensures cause { (file_system : FileSystem) → F.consistent (device_in self.new) file_system →
+            IfErr result (IsRefusalOver file_system path.now) }
         ensures unopened { OnErr result (opened_in self.new ≡ opened_in self.old) }
         ensures once { IfOk result (λ r.
             OpensOne (F.opened (device_in self.old)) (F.opened (device_in self.new)) path.now r.1) }

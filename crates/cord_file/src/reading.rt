@@ -2,7 +2,7 @@
 ghost use Rattle.std.specs.Prelude.{◌≡◌, ◌+◌, ◌*◌, ◌%◌, ◌<◌, ◌≤◌, ℕ, length, take, drop, is_err, slice_get, vec_len};
 ghost use Rattle.std.specs.Prelude.{IfErr};
 ghost use Rattle.std.specs.Prelude.{IfOk, OnOk, IsSomeAnd};
-ghost use Rattle.cord_io.specs.Device.{Folder, bytes_at, count_after};
+ghost use Rattle.cord_io.specs.Device.{FileSystem, bytes_at, count_after};
 ghost use Rattle.cord_file.specs.inner.Blocks.{AreRead, BeginsWithFile, IsBlockIn};
 ghost use Rattle.cord_file.specs.Faults.{has_failed};
 ghost use Rattle.cord_file.specs.FileCords.{IsReadRefusal};
@@ -54,14 +54,15 @@ pub(crate) fn read_range<F: Files>(
     start: u64,
     out: &mut [u8],
 ) -> Result<(), ReadFault>
-    requires inside { IsSomeAnd (F.opened files.old no.0) (λ told. start + length out.old ≤ told.1) }
+    requires inside { IsSomeAnd (F.opened files.old no.0) (λ reported. start + length out.old ≤ reported.1) }
     requires limit { start + length out.old ≤ MAX_LEN }
-    ensures earlier { (folder : Folder) → F.keeps files.new folder → F.keeps files.old folder }
+    ensures earlier { (file_system : FileSystem) → F.consistent files.new file_system → F.consistent files.old
+        file_system }
     ensures opened { (n : ℕ) → F.opened files.new n ≡ F.opened files.old n }
     ensures count { F.failures files.new ≡ count_after (is_err result) (F.failures files.old) }
-    ensures bytes { (folder : Folder) → F.keeps files.new folder → OnOk result
-        (IsSomeAnd (F.opened files.old no.0) (λ told.
-        out.new ≡ take (length out.new) (drop start (bytes_at folder told.0)))) }
+    ensures bytes { (file_system : FileSystem) → F.consistent files.new file_system → OnOk result
+        (IsSomeAnd (F.opened files.old no.0) (λ reported.
+        out.new ≡ take (length out.new) (drop start (bytes_at file_system reported.0)))) }
 {
     let mut done = 0;
     while done < out.len() {
@@ -78,15 +79,16 @@ fn read_after<F: Files>(
     out: &mut [u8],
 ) -> Result<usize, ReadFault>
     requires room { done < length out.old }
-    requires inside { IsSomeAnd (F.opened files.old no.0) (λ told. done < told.1) }
+    requires inside { IsSomeAnd (F.opened files.old no.0) (λ reported. done < reported.1) }
     ensures some { IfOk result (λ k. (0 < k) × (done + k ≤ length out.new)) }
     ensures len { length out.new ≡ length out.old }
-    ensures earlier { (folder : Folder) → F.keeps files.new folder → F.keeps files.old folder }
+    ensures earlier { (file_system : FileSystem) → F.consistent files.new file_system → F.consistent files.old
+        file_system }
     ensures opened { (n : ℕ) → F.opened files.new n ≡ F.opened files.old n }
     ensures count { F.failures files.new ≡ count_after (is_err result) (F.failures files.old) }
-    ensures bytes { (folder : Folder) → F.keeps files.new folder →
-        BeginsWithFile folder (F.opened files.old no.0) done out.old →
-        IfOk result (λ k. BeginsWithFile folder (F.opened files.old no.0) (done + k) out.new) }
+    ensures bytes { (file_system : FileSystem) → F.consistent files.new file_system →
+        BeginsWithFile file_system (F.opened files.old no.0) done out.old →
+        IfOk result (λ k. BeginsWithFile file_system (F.opened files.old no.0) (done + k) out.new) }
 {
     files.read_at(no, done as u64, &mut out[done..])
 }
@@ -97,7 +99,7 @@ fn make_room(bytes: &mut Vec<u8>, done: usize, room: usize, len: usize) -> Resul
     requires some { 0 < room }
     requires inside { done + room ≤ len }
     requires most { vec_len bytes.old ≤ len }
-    ensures front { take done bytes.new.items ≡ take done bytes.old.items }
+    ensures prefix { take done bytes.new.items ≡ take done bytes.old.items }
     ensures some { OnOk result (done < vec_len bytes.new) }
     ensures most { vec_len bytes.new ≤ len }
 {
@@ -120,14 +122,15 @@ fn read_all<F: Files>(
     len: usize,
     bytes: &mut Vec<u8>,
 ) -> Result<(), FileError>
-    requires inside { IsSomeAnd (F.opened files.old no.0) (λ told. len ≤ told.1) }
+    requires inside { IsSomeAnd (F.opened files.old no.0) (λ reported. len ≤ reported.1) }
     requires empty { vec_len bytes.old ≡ 0 }
-    ensures earlier { (folder : Folder) → F.keeps files.new folder → F.keeps files.old folder }
+    ensures earlier { (file_system : FileSystem) → F.consistent files.new file_system → F.consistent files.old
+        file_system }
     ensures opened { (n : ℕ) → F.opened files.new n ≡ F.opened files.old n }
     ensures count { F.failures files.new ≡ count_after (has_failed result) (F.failures files.old) }
     ensures len { OnOk result (vec_len bytes.new ≡ len) }
-    ensures bytes { (folder : Folder) → F.keeps files.new folder →
-        OnOk result (BeginsWithFile folder (F.opened files.old no.0) len bytes.new.items) }
+    ensures bytes { (file_system : FileSystem) → F.consistent files.new file_system →
+        OnOk result (BeginsWithFile file_system (F.opened files.old no.0) len bytes.new.items) }
     ensures refused { IfErr result IsReadRefusal }
 {
     let mut done = 0;
@@ -154,8 +157,8 @@ impl<F: Files> Sources<F> {
         requires file { IsSomeAnd (slice_get self.old.entries.items place) (λ file. file.len ≡ len) }
         ensures files { LeavesFiles (has_failed result) self.old self.new }
         ensures len { IfOk result (λ bytes. length bytes.items ≡ len) }
-        ensures bytes { (folder : Folder) → F.keeps (device_in self.new) folder →
-            IfOk result (λ bytes. AreRead folder (slice_get self.old.entries.items place) 0 bytes.items) }
+        ensures bytes { (file_system : FileSystem) → F.consistent (device_in self.new) file_system →
+            IfOk result (λ bytes. AreRead file_system (slice_get self.old.entries.items place) 0 bytes.items) }
         ensures refused { IfErr result IsReadRefusal }
     {
         let mut bytes = Vec::with_capacity(alloc, len as usize)?;
@@ -183,8 +186,8 @@ impl<F: Files> Sources<F> {
     ) -> Result<(), ReadFault>
         requires inside { IsInside (slice_get self.old.entries.items place) start (length out.old) }
         ensures files { LeavesFiles (is_err result) self.old self.new }
-        ensures bytes { (folder : Folder) → F.keeps (device_in self.new) folder →
-            OnOk result (AreRead folder (slice_get self.old.entries.items place) start out.new) }
+        ensures bytes { (file_system : FileSystem) → F.consistent (device_in self.new) file_system →
+            OnOk result (AreRead file_system (slice_get self.old.entries.items place) start out.new) }
     {
         let left = BLOCK - (start % BLOCK as u64) as usize;
         if !out.is_empty() && out.len() <= left {
@@ -201,8 +204,8 @@ impl<F: Files> Sources<F> {
     fn read_blocks(&mut self, place: usize, start: u64, out: &mut [u8]) -> Result<(), ReadFault>
         requires inside { IsInside (slice_get self.old.entries.items place) start (length out.old) }
         ensures files { LeavesFiles (is_err result) self.old self.new }
-        ensures bytes { (folder : Folder) → F.keeps (device_in self.new) folder →
-            OnOk result (AreRead folder (slice_get self.old.entries.items place) start out.new) }
+        ensures bytes { (file_system : FileSystem) → F.consistent (device_in self.new) file_system →
+            OnOk result (AreRead file_system (slice_get self.old.entries.items place) start out.new) }
     {
         let way = self.way_of(place, start, out.len());
         let mut done = 0;
@@ -225,8 +228,8 @@ impl<F: Files> Sources<F> {
     ) -> Result<(), ReadFault>
         requires inside { IsInside (slice_get self.old.entries.items place) start (length out.old) }
         ensures files { LeavesFiles (is_err result) self.old self.new }
-        ensures bytes { (folder : Folder) → F.keeps (device_in self.new) folder →
-            OnOk result (AreRead folder (slice_get self.old.entries.items place) start out.new) }
+        ensures bytes { (file_system : FileSystem) → F.consistent (device_in self.new) file_system →
+            OnOk result (AreRead file_system (slice_get self.old.entries.items place) start out.new) }
     {
         let file = &self.entries[place];
         read_range(&mut self.files, file.no, start, out)
@@ -244,8 +247,8 @@ impl<F: Files> Sources<F> {
         requires some { 0 < length out.old }
         requires part { length out.old ≤ BLOCK → start % BLOCK + length out.old ≤ BLOCK }
         ensures files { LeavesFiles (is_err result) self.old self.new }
-        ensures bytes { (folder : Folder) → F.keeps (device_in self.new) folder →
-            OnOk result (AreRead folder (slice_get self.old.entries.items place) start out.new) }
+        ensures bytes { (file_system : FileSystem) → F.consistent (device_in self.new) file_system →
+            OnOk result (AreRead file_system (slice_get self.old.entries.items place) start out.new) }
     {
         if BLOCK < out.len() {
             return self.read_past_blocks(place, start, out);
@@ -266,8 +269,8 @@ impl<F: Files> Sources<F> {
         requires some { 0 < length out.old }
         requires part { start % BLOCK + length out.old ≤ BLOCK }
         ensures files { LeavesFiles (is_err result) self.old self.new }
-        ensures bytes { (folder : Folder) → F.keeps (device_in self.new) folder →
-            OnOk result (AreRead folder (slice_get self.old.entries.items place) start out.new) }
+        ensures bytes { (file_system : FileSystem) → F.consistent (device_in self.new) file_system →
+            OnOk result (AreRead file_system (slice_get self.old.entries.items place) start out.new) }
     {
         let number = start / BLOCK as u64;
         let from = (start % BLOCK as u64) as usize;
@@ -284,8 +287,8 @@ impl<F: Files> Sources<F> {
         requires some { 0 < length out.old }
         requires part { start % BLOCK + length out.old ≤ BLOCK }
         ensures files { LeavesFiles (is_err result) self.old self.new }
-        ensures bytes { (folder : Folder) → F.keeps (device_in self.new) folder →
-            OnOk result (AreRead folder (slice_get self.old.entries.items place) start out.new) }
+        ensures bytes { (file_system : FileSystem) → F.consistent (device_in self.new) file_system →
+            OnOk result (AreRead file_system (slice_get self.old.entries.items place) start out.new) }
     {
         let number = start / BLOCK as u64;
         let from = (start % BLOCK as u64) as usize;
@@ -305,8 +308,8 @@ impl<F: Files> Sources<F> {
         requires some { 0 < length out.old }
         requires part { start % BLOCK + length out.old ≤ BLOCK }
         ensures files { LeavesFiles (is_err result) self.old self.new }
-        ensures bytes { (folder : Folder) → F.keeps (device_in self.new) folder →
-            OnOk result (AreRead folder (slice_get self.old.entries.items place) start out.new) }
+        ensures bytes { (file_system : FileSystem) → F.consistent (device_in self.new) file_system →
+            OnOk result (AreRead file_system (slice_get self.old.entries.items place) start out.new) }
     {
         let from = (start % BLOCK as u64) as usize;
         let mut block = [0; BLOCK];
@@ -324,8 +327,8 @@ impl<F: Files> Sources<F> {
     ) -> Result<(), ReadFault>
         requires inside { IsSomeAnd (slice_get self.old.entries.items place) (λ file. number * BLOCK < file.len) }
         ensures files { LeavesFiles (is_err result) self.old self.new }
-        ensures block { (folder : Folder) → F.keeps (device_in self.new) folder →
-            OnOk result (IsBlockIn folder (slice_get self.old.entries.items place) number block.new) }
+        ensures block { (file_system : FileSystem) → F.consistent (device_in self.new) file_system →
+            OnOk result (IsBlockIn file_system (slice_get self.old.entries.items place) number block.new) }
     {
         let file = &self.entries[place];
         read_block(&mut self.files, file.no, file.len, number, block)

@@ -1,7 +1,7 @@
 // A table of entries: two functions, and the files that were opened.
 ghost use Rattle.std.specs.Prelude.{◌≡◌, ◌+◌, ◌<◌, ◌≤◌, ℕ, length, take, drop, [], MatchResult, vec_len, is_err, OnOk};
 ghost use Rattle.std.specs.Prelude.{IsSomeAnd, IsOk};
-ghost use Rattle.cord_io.specs.Device.{Folder, count_after};
+ghost use Rattle.cord_io.specs.Device.{FileSystem, count_after};
 ghost use Rattle.cord_file.specs.declared.TheConstants.{MAX_FILES};
 ghost use Rattle.cord_file.specs.Opening.{OpensNone};
 ghost use Rattle.cord_file.specs.Soundness.{IsSound};
@@ -18,7 +18,7 @@ use std::num::NonZeroUsize;
 /// Entries of bytes by id: 0 is the function `digits` (byte `48 + i mod 10` at place i) and 1 the function `bytes`
 /// (`i mod 256`), both `MAX_LEN` long, and from 2 on stand the files that were opened, at most `MAX_FILES` of them.
 /// Files are read by blocks of 512 bytes, of which the 32 used last are kept, but `eager` reads past them, and so do
-/// the whole blocks of a read of more bytes than all of them hold. No read is refused for want of memory: a block for
+/// the whole blocks of a read of more bytes than all of them hold. No read is refused when out of memory: a block for
 /// which none is found isn't kept.
 #[derive(Drop)]
 pub struct Sources<F: Files> {
@@ -28,7 +28,7 @@ pub struct Sources<F: Files> {
     pub(crate) slots: Slots,
     pub(crate) spare: Option<Block>,
     ghost few: { vec_len entries ≤ MAX_FILES },
-    ghost sound: { IsSound (F.keeps files) (F.opened files) entries.items cache.entries },
+    ghost sound: { IsSound (F.consistent files) (F.opened files) entries.items cache.entries },
 }
 
 impl<F: Files> Sources<F> {
@@ -92,19 +92,19 @@ impl<F: Files> Sources<F> {
 }
 
 impl<F: Files> Source for Sources<F> {
-    ghost use Rattle.cord_file.specs.Entries.{lengths_in, table_in};
+    ghost use Rattle.cord_file.specs.FileTable.{lengths_in, table_in};
     ghost use Rattle.cord_file.specs.Sources.{device_in, opened_in};
-    ghost use Rattle.cord_file.specs.Files.{as_long_as_told};
+    ghost use Rattle.cord_file.specs.Files.{as_long_as_reported};
 
     ghost lengths = { λ s. lengths_in (opened_in s) };
 
-    ghost keeps = { λ s. F.keeps (device_in s) };
+    ghost consistent = { λ s. F.consistent (device_in s) };
 
     ghost table = { λ s. table_in (opened_in s) };
 
     ghost failures = { λ s. F.failures (device_in s) };
 
-    ghost lengths_of_table = { λ s. as_long_as_told (F.keeps (device_in s)) s.entries.items s.sound.as_long };
+    ghost lengths_of_table = { λ s. as_long_as_reported (F.consistent (device_in s)) s.entries.items s.sound.as_long };
 
     fn failures(&self) -> u64 {
         self.files.failures()
@@ -124,12 +124,12 @@ impl<F: Files> Source for Sources<F> {
         requires inside { IsSomeAnd (lengths_in (opened_in self.old) id.0) (λ len. start + length out.old ≤ len) }
         ensures lengths { lengths_in (opened_in self.new) ≡ lengths_in (opened_in self.old) }
         ensures table { table_in (opened_in self.new) ≡ table_in (opened_in self.old) }
-        ensures earlier { (folder : Folder) →
-            F.keeps (device_in self.new) folder → F.keeps (device_in self.old) folder }
+        ensures earlier { (file_system : FileSystem) →
+            F.consistent (device_in self.new) file_system → F.consistent (device_in self.old) file_system }
         ensures count { F.failures (device_in self.new)
             ≡ count_after (is_err result) (F.failures (device_in self.old)) }
-        ensures bytes { (folder : Folder) → F.keeps (device_in self.new) folder → OnOk result
-            (out.new ≡ take (length out.new) (drop start (table_in (opened_in self.old) folder id.0))) }
+        ensures bytes { (file_system : FileSystem) → F.consistent (device_in self.new) file_system → OnOk result
+            (out.new ≡ take (length out.new) (drop start (table_in (opened_in self.old) file_system id.0))) }
 
         // The entries 0 and 1 never fail.
         ensures functions { id.0 < 2 → IsOk result }

@@ -6,7 +6,7 @@ use Rattle.std.proofs.lemmas.List.{drop-take, take-take, drop-drop}
 pub part_ahead : (first start count k : ℕ) (bytes text out : List ℕ) → first ≤ start → start - first + k ≤ count →
     take count bytes ≡ take count (drop first text) → take k out ≡ take k (drop (start - first) (take count bytes)) →
     take k out ≡ take k (drop start text)
-part_ahead first start count k bytes text out behind fits same copied =
+part_ahead first start count k bytes text out after fits same copied =
     let skipped : ℕ = start - first in
     let left : ℕ = count - skipped in
     let whole : skipped + left ≡ count = omega arith in

@@ -5,7 +5,7 @@ use Rattle.std.specs.Prelude.{IsSomeAnd}
 use Rattle.std.specs.List.{range_with_len}
 use Rattle.std.proofs.lemmas.List.FromFn.{take-map-range_with_len, fill_by_all}
 use Rattle.cord_io.specs.declared.TheConstants.{MAX_LEN}
-use Rattle.cord_io.specs.Entries.{text_of, digit_at, byte_value_at}
+use Rattle.cord_io.specs.FunctionTexts.{text_of, digit_at, byte_value_at}
 use Rattle.cord_io.specs.inner.Functions.{function_byte, function_lengths, function_texts}
 
 drop-function : (f : ℕ → ℕ) (a m s n : ℕ) → m ≡ s + n → drop s (map f (range_with_len a m)) ≡ map f (range_with_len (a + s) n)

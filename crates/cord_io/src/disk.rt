@@ -2,9 +2,9 @@
 ghost use Rattle.std.specs.Prelude.{◌≡◌, ◌<◌, ◌≤◌, ◌∷◌, ℕ, [], None, length, take, drop, is_err, IfOk, OnErr, IsErrOf};
 ghost use Rattle.std.specs.Prelude.{IsSomeAnd};
 ghost use Rattle.std.specs.String.{string_bytes};
-ghost use Rattle.cord_io.specs.Device.{Folder, file_at, bytes_at, count_after, open_failed, HandsOut};
+ghost use Rattle.cord_io.specs.Device.{FileSystem, file_at, bytes_at, count_after, open_failed, HandsOut};
 ghost use Rattle.cord_io.specs.Given.{IsGiven, IsGiven-prop};
-ghost use Rattle.cord_io.specs.Told.{has_len};
+ghost use Rattle.cord_io.specs.Reported.{has_len};
 ghost use Rattle.cord_io.specs.inner.Missing.{after_finding};
 
 use crate::failures::Failures;
@@ -16,13 +16,13 @@ use std::alloc::{AllocError, Global};
 use std::os::unix::fs::FileExt;
 use std::rt;
 
-/// The machine's files. They keep each folder with which all that they told agrees: a trace, which only proofs read and
-/// which costs nothing, holds each answer once and nothing else. Every fault of the machine but a missing path is a
-/// failure, which tells nothing: a read of 0 bytes inside the length told, a call that was interrupted, a directory,
-/// and want of memory in `open` too, where it was refused twice. A file that is read on is read ahead, by 4 KiB and
-/// then by twice as much each time up to 64 KiB, and one that is read elsewhere by as much as was read in order before,
-/// into memory that it does without where none is found: what fails there is met when its bytes are asked for. A read
-/// gives at most 64 KiB.
+/// The machine's files. They are consistent with each file system with which all that they reported agrees: a trace,
+/// which only proofs read and which costs nothing, holds each answer once and nothing else. Every fault of the machine
+/// but a missing path is a failure, which tells nothing: a read of 0 bytes inside the length reported, a call that was
+/// interrupted, a directory, and out of memory in `open` too, where it was refused twice. A file that is read on is
+/// read ahead, by 4 KiB and then by twice as much each time up to 64 KiB, and one that is read elsewhere by as much as
+/// was read in order before, into memory that it does without where none is found: what fails there is met when its
+/// bytes are asked for. A read gives at most 64 KiB.
 #[derive(Drop)]
 pub struct DiskFiles<R: rt::Files> {
     answers: Answers<R, R::File>,
@@ -36,19 +36,19 @@ struct Answers<R, F> {
     machine: Machine<R>,
     opened: Vec<OpenedFile<F>>,
     trace: Trace,
-    ghost given: { IsGiven machine.trace.told opened.items trace.told } by { IsGiven-prop machine.trace.told opened.items trace.told },
+    ghost given: { IsGiven machine.trace.reported opened.items trace.reported } by { IsGiven-prop machine.trace.reported opened.items trace.reported },
 }
 
 impl<R: rt::Files> DiskFiles<R>
 where
     R::File: FileExt,
 {
-    ghost use Rattle.cord_io.specs.DiskTold.{told_by};
+    ghost use Rattle.cord_io.specs.DiskReported.{reported_by};
 
     /// The machine's files, as the runtime opens them, with none opened yet.
     pub fn new(runtime: R, alloc: Global) -> Self
         ensures opened { (n : ℕ) → ⟦<DiskFiles<R> as Files>⟧.opened result n ≡ None }
-        ensures told { told_by result ≡ [] }
+        ensures reported { reported_by result ≡ [] }
         ensures count { ⟦<DiskFiles<R> as Files>⟧.failures result ≡ 0 }
     {
         DiskFiles {
@@ -66,8 +66,8 @@ where
     fn room_for(&mut self, path: &str) -> Result<String, AllocError>
         ensures path { IfOk result (λ p. string_bytes p ≡ path.now) }
         ensures opened { self.new.answers.opened.items ≡ self.old.answers.opened.items }
-        ensures missing { self.new.answers.machine.trace.told ≡ self.old.answers.machine.trace.told }
-        ensures told { self.new.answers.trace.told ≡ self.old.answers.trace.told }
+        ensures missing { self.new.answers.machine.trace.reported ≡ self.old.answers.machine.trace.reported }
+        ensures reported { self.new.answers.trace.reported ≡ self.old.answers.trace.reported }
         ensures count { self.new.failures ≡ self.old.failures }
     {
         self.answers.opened.reserve(1)?;
@@ -77,10 +77,11 @@ where
     // Opens a file. Where memory was refused it is asked for once more, so that a want that passes is no fault.
     fn opened_file(&mut self, path: &str) -> Result<OpenedFile<R::File>, OpenFault>
         ensures path { IfOk result (λ f. string_bytes f.reader.path ≡ path.now) }
-        ensures len { IfOk result (λ f. f.reader.trace.told ≡ has_len path.now f.len ∷ []) }
+        ensures len { IfOk result (λ f. f.reader.trace.reported ≡ has_len path.now f.len ∷ []) }
         ensures opened { self.new.answers.opened.items ≡ self.old.answers.opened.items }
-        ensures missing { self.new.answers.machine.trace.told ≡ after_finding path.now result self.old.answers.machine.trace.told }
-        ensures told { self.new.answers.trace.told ≡ self.old.answers.trace.told }
+        ensures missing { self.new.answers.machine.trace.reported ≡ after_finding path.now result
+            self.old.answers.machine.trace.reported }
+        ensures reported { self.new.answers.trace.reported ≡ self.old.answers.trace.reported }
         ensures count { self.new.failures ≡ self.old.failures }
     {
         let room = match self.room_for(path) {
@@ -98,11 +99,11 @@ where
     R::File: FileExt,
 {
     ghost use Rattle.cord_io.specs.Disk.{opened_of};
-    ghost use Rattle.cord_io.specs.DiskTold.{told_by, after_opening, after_reading, AgreesWithMachine};
-    ghost use Rattle.cord_io.specs.Told.{Agrees};
+    ghost use Rattle.cord_io.specs.DiskReported.{reported_by, after_opening, after_reading, AgreesWithMachine};
+    ghost use Rattle.cord_io.specs.Reported.{Agrees};
 
-    // The folder holds what each answer told.
-    ghost keeps = { λ s folder. Agrees folder s.answers.trace.told };
+    // The file system holds what each answer reported.
+    ghost consistent = { λ s file_system. Agrees file_system s.answers.trace.reported };
 
     ghost opened = { λ s. opened_of s.answers.opened.items };
 
@@ -113,28 +114,29 @@ where
     }
 
     fn open(&mut self, path: &str) -> Result<(FileNo, u64), OpenFault>
-        ensures earlier { (folder : Folder) → Agrees folder (told_by self.new) → Agrees folder (told_by self.old) }
+        ensures earlier { (file_system : FileSystem) → Agrees file_system (reported_by self.new) → Agrees file_system
+            (reported_by self.old) }
         ensures count { ⟦<DiskFiles<R> as Files>⟧.failures self.new
             ≡ count_after (open_failed result) (⟦<DiskFiles<R> as Files>⟧.failures self.old) }
         ensures opened { IfOk result (λ r. HandsOut (⟦<DiskFiles<R> as Files>⟧.opened self.old)
             (⟦<DiskFiles<R> as Files>⟧.opened self.new) r.0.0 path.now r.1) }
         ensures none_opened { OnErr result ((n : ℕ) →
             ⟦<DiskFiles<R> as Files>⟧.opened self.new n ≡ ⟦<DiskFiles<R> as Files>⟧.opened self.old n) }
-        ensures found { (folder : Folder) → Agrees folder (told_by self.new) → IfOk result (λ r.
-            IsSomeAnd (file_at folder path.now) (λ bytes. r.1 ≡ length bytes)) }
-        ensures not_found { (folder : Folder) → Agrees folder (told_by self.new) →
-            IsErrOf result OpenFault.NotFound → file_at folder path.now ≡ None }
+        ensures found { (file_system : FileSystem) → Agrees file_system (reported_by self.new) → IfOk result (λ r.
+            IsSomeAnd (file_at file_system path.now) (λ bytes. r.1 ≡ length bytes)) }
+        ensures not_found { (file_system : FileSystem) → Agrees file_system (reported_by self.new) →
+            IsErrOf result OpenFault.NotFound → file_at file_system path.now ≡ None }
 
-        // Each answer is told once, and nothing else is.
-        ensures told { told_by self.new ≡ after_opening path.now result (told_by self.old) }
+        // Each answer is reported once, and nothing else is.
+        ensures reported { reported_by self.new ≡ after_opening path.now result (reported_by self.old) }
 
         // What the machine gave stays. The length is what it answered, and only its own "no such file" is `NotFound`.
-        ensures machine_earlier { (folder : Folder) → AgreesWithMachine folder self.new →
-            AgreesWithMachine folder self.old }
-        ensures machine_found { (folder : Folder) → AgreesWithMachine folder self.new → IfOk result (λ r.
-            IsSomeAnd (file_at folder path.now) (λ bytes. r.1 ≡ length bytes)) }
-        ensures machine_not_found { (folder : Folder) → AgreesWithMachine folder self.new →
-            IsErrOf result OpenFault.NotFound → file_at folder path.now ≡ None }
+        ensures machine_earlier { (file_system : FileSystem) → AgreesWithMachine file_system self.new →
+            AgreesWithMachine file_system self.old }
+        ensures machine_found { (file_system : FileSystem) → AgreesWithMachine file_system self.new → IfOk result (λ r.
+            IsSomeAnd (file_at file_system path.now) (λ bytes. r.1 ≡ length bytes)) }
+        ensures machine_not_found { (file_system : FileSystem) → AgreesWithMachine file_system self.new →
+            IsErrOf result OpenFault.NotFound → file_at file_system path.now ≡ None }
     {
         match self.opened_file(path) {
             Err(OpenFault::NotFound) => {
@@ -157,28 +159,29 @@ where
     }
 
     fn read_at(&mut self, no: FileNo, start: u64, out: &mut [u8]) -> Result<usize, ReadFault>
-        requires inside { IsSomeAnd (⟦<DiskFiles<R> as Files>⟧.opened self.old no.0) (λ told. start < told.1) }
+        requires inside { IsSomeAnd (⟦<DiskFiles<R> as Files>⟧.opened self.old no.0) (λ reported. start < reported.1) }
         requires room { 0 < length out.old }
-        ensures earlier { (folder : Folder) → Agrees folder (told_by self.new) → Agrees folder (told_by self.old) }
+        ensures earlier { (file_system : FileSystem) → Agrees file_system (reported_by self.new) → Agrees file_system
+            (reported_by self.old) }
         ensures count { ⟦<DiskFiles<R> as Files>⟧.failures self.new
             ≡ count_after (is_err result) (⟦<DiskFiles<R> as Files>⟧.failures self.old) }
         ensures opened { (n : ℕ) →
             ⟦<DiskFiles<R> as Files>⟧.opened self.new n ≡ ⟦<DiskFiles<R> as Files>⟧.opened self.old n }
         ensures some { IfOk result (λ k. (0 < k) × (k ≤ length out.new)) }
-        ensures bytes { (folder : Folder) → Agrees folder (told_by self.new) → IfOk result (λ k.
-            IsSomeAnd (⟦<DiskFiles<R> as Files>⟧.opened self.old no.0) (λ told.
-            take k out.new ≡ take k (drop start (bytes_at folder told.0)))) }
+        ensures bytes { (file_system : FileSystem) → Agrees file_system (reported_by self.new) → IfOk result (λ k.
+            IsSomeAnd (⟦<DiskFiles<R> as Files>⟧.opened self.old no.0) (λ reported.
+            take k out.new ≡ take k (drop start (bytes_at file_system reported.0)))) }
 
-        // Each answer is told once, and nothing else is.
-        ensures told { told_by self.new
-            ≡ after_reading (⟦<DiskFiles<R> as Files>⟧.opened self.old no.0) start out.new result (told_by self.old) }
+        // Each answer is reported once, and nothing else is.
+        ensures reported { reported_by self.new
+            ≡ after_reading (⟦<DiskFiles<R> as Files>⟧.opened self.old no.0) start out.new result (reported_by self.old) }
 
         // The bytes are those that the machine gave of the file, now or ahead.
-        ensures machine_earlier { (folder : Folder) → AgreesWithMachine folder self.new →
-            AgreesWithMachine folder self.old }
-        ensures machine_bytes { (folder : Folder) → AgreesWithMachine folder self.new → IfOk result (λ k.
-            IsSomeAnd (⟦<DiskFiles<R> as Files>⟧.opened self.old no.0) (λ told.
-            take k out.new ≡ take k (drop start (bytes_at folder told.0)))) }
+        ensures machine_earlier { (file_system : FileSystem) → AgreesWithMachine file_system self.new →
+            AgreesWithMachine file_system self.old }
+        ensures machine_bytes { (file_system : FileSystem) → AgreesWithMachine file_system self.new → IfOk result (λ k.
+            IsSomeAnd (⟦<DiskFiles<R> as Files>⟧.opened self.old no.0) (λ reported.
+            take k out.new ≡ take k (drop start (bytes_at file_system reported.0)))) }
     {
         let opened = &mut self.answers.opened[no.0 as usize];
         match opened.read(self.alloc, start, out) {

@@ -1,7 +1,7 @@
 // Files that pass so many calls to the files inside, and then fail each.
 ghost use Rattle.std.specs.Prelude.{◌≡◌, ◌-◌, ◌<◌, length, is_err, IsErr, IsSomeAnd};
-ghost use Rattle.cord_io.specs.Device.{Folder, count_after, open_failed};
-ghost use Rattle.cord_io.specs.Passing.{TellsOpening, TellsReading};
+ghost use Rattle.cord_io.specs.Device.{FileSystem, count_after, open_failed};
+ghost use Rattle.cord_io.specs.Passing.{ReportsOpening, ReportsReading};
 
 use crate::failures::Failures;
 use crate::{FileNo, Files, OpenFault, ReadFault};
@@ -21,8 +21,9 @@ impl<F: Files> FuseFiles<F> {
     /// Files that pass `k` calls to `inner`.
     pub fn new(inner: F, k: u64) -> Self
         ensures inner { files_inside result ≡ inner }
-        ensures keeps { (folder : Folder) → (⟦<FuseFiles<F> as Files>⟧.keeps result folder → F.keeps inner folder)
-            × (F.keeps inner folder → ⟦<FuseFiles<F> as Files>⟧.keeps result folder) }
+        ensures consistent { (file_system : FileSystem) → (⟦<FuseFiles<F> as Files>⟧.consistent result file_system →
+            F.consistent inner file_system)
+            × (F.consistent inner file_system → ⟦<FuseFiles<F> as Files>⟧.consistent result file_system) }
         ensures opened { ⟦<FuseFiles<F> as Files>⟧.opened result ≡ F.opened inner }
         ensures passes { passes_left result ≡ k }
         ensures count { ⟦<FuseFiles<F> as Files>⟧.failures result ≡ 0 }
@@ -37,9 +38,9 @@ impl<F: Files> FuseFiles<F> {
     /// The files inside: it keeps what they keep.
     pub fn inner(&self) -> &F
         ensures value { result.now ≡ files_inside self.now }
-        ensures keeps { (folder : Folder) → (⟦<FuseFiles<F> as Files>⟧.keeps self.now folder →
-            F.keeps result.now folder)
-            × (F.keeps result.now folder → ⟦<FuseFiles<F> as Files>⟧.keeps self.now folder) }
+        ensures consistent { (file_system : FileSystem) → (⟦<FuseFiles<F> as Files>⟧.consistent self.now file_system →
+            F.consistent result.now file_system)
+            × (F.consistent result.now file_system → ⟦<FuseFiles<F> as Files>⟧.consistent self.now file_system) }
         ensures opened { ⟦<FuseFiles<F> as Files>⟧.opened self.now ≡ F.opened result.now }
     {
         &self.inner
@@ -49,7 +50,7 @@ impl<F: Files> FuseFiles<F> {
 impl<F: Files> Files for FuseFiles<F> {
     ghost use Rattle.cord_io.specs.FusedFiles.{files_inside, passes_left};
 
-    ghost keeps = { λ s. F.keeps s.inner };
+    ghost consistent = { λ s. F.consistent s.inner };
 
     ghost steady = { F.steady };
 
@@ -62,7 +63,7 @@ impl<F: Files> Files for FuseFiles<F> {
     }
 
     fn open(&mut self, path: &str) -> Result<(FileNo, u64), OpenFault>
-        ensures told { TellsOpening ⟦<FuseFiles<F> as Files>⟧ self.old self.new path.now result }
+        ensures reported { ReportsOpening ⟦<FuseFiles<F> as Files>⟧ self.old self.new path.now result }
 
         // A call that passes is a call of the files inside, one that doesn't is none.
         ensures left { passes_left self.new ≡ passes_left self.old - 1 }
@@ -87,9 +88,9 @@ impl<F: Files> Files for FuseFiles<F> {
     }
 
     fn read_at(&mut self, no: FileNo, start: u64, out: &mut [u8]) -> Result<usize, ReadFault>
-        requires inside { IsSomeAnd (F.opened (files_inside self.old) no.0) (λ told. start < told.1) }
+        requires inside { IsSomeAnd (F.opened (files_inside self.old) no.0) (λ reported. start < reported.1) }
         requires room { 0 < length out.old }
-        ensures told { TellsReading ⟦<FuseFiles<F> as Files>⟧ self.old self.new no.0 start out.new result }
+        ensures reported { ReportsReading ⟦<FuseFiles<F> as Files>⟧ self.old self.new no.0 start out.new result }
 
         // A call that passes is a call of the files inside, one that doesn't is none.
         ensures left { passes_left self.new ≡ passes_left self.old - 1 }

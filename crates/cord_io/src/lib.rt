@@ -28,7 +28,7 @@ pub use disk::DiskFiles;
 pub use faults::{CordError, OpenFault, ReadFault, WriteFault};
 pub use fuse_files::FuseFiles;
 pub use fuse_sink::FuseSink;
-pub use given::tells_what_the_machine_gave;
+pub use given::reports_what_the_machine_gave;
 pub use limits::limits_are;
 pub use memory::{MemFiles, keeps_what_was_added};
 pub use memory_sink::MemSink;

@@ -2,8 +2,8 @@
 ghost use Rattle.std.specs.Prelude.{◌≡◌, ◌<◌, ◌≤◌, ℕ, None, length, take, drop, IfSome, IfNone, IsTrue, ◌-◌, min};
 ghost use Rattle.std.specs.Prelude.{is_err, IsOk, IfOk, IsSomeAnd, ⊤};
 ghost use Rattle.std.specs.Vec.{vec_len};
-ghost use Rattle.cord_io.specs.Device.{Folder, file_at, bytes_at, count_after};
-ghost use Rattle.cord_io.specs.Memory.{folder_of, paths_differ};
+ghost use Rattle.cord_io.specs.Device.{FileSystem, file_at, bytes_at, count_after};
+ghost use Rattle.cord_io.specs.Memory.{file_system_of, paths_differ};
 ghost use Rattle.cord_io.specs.inner.Memory.{IsAt, Marks, Rewrites};
 
 mod adding;
@@ -23,13 +23,13 @@ struct Entry {
 pub struct MemFiles {
     entries: Vec<Entry>,
     ghost few: { vec_len entries ≤ 65536 },
-    ghost distinct: { IsTrue (paths_differ (folder_of entries.items)) },
+    ghost distinct: { IsTrue (paths_differ (file_system_of entries.items)) },
 }
 
 // The entry at a path.
 fn place_of(entries: &[Entry], path: &str) -> Option<usize>
     ensures found { IfSome result (λ n. (e : _) × IsAt entries.now path.now n e) }
-    ensures none { IfNone result (file_at (folder_of entries.now) path.now ≡ None) }
+    ensures none { IfNone result (file_at (file_system_of entries.now) path.now ≡ None) }
 {
     for (i, entry) in entries.iter().enumerate() {
         if entry.path.as_str() == path {
@@ -72,10 +72,10 @@ pub(crate) fn copy_from(bytes: &[u8], start: usize, out: &mut [u8]) -> usize
 }
 
 impl Files for MemFiles {
-    ghost use Rattle.cord_io.specs.Memory.{folder_of, opened_of};
+    ghost use Rattle.cord_io.specs.Memory.{file_system_of, opened_of};
 
     // The map that was added.
-    ghost keeps = { λ s folder. folder ≡ folder_of s.entries.items };
+    ghost consistent = { λ s file_system. file_system ≡ file_system_of s.entries.items };
 
     ghost steady = { ⊤ };
 
@@ -98,24 +98,25 @@ impl Files for MemFiles {
     }
 
     fn read_at(&mut self, no: FileNo, start: u64, out: &mut [u8]) -> Result<usize, ReadFault>
-        requires inside { IsSomeAnd (⟦<MemFiles as Files>⟧.opened self.old no.0) (λ told. start < told.1) }
+        requires inside { IsSomeAnd (⟦<MemFiles as Files>⟧.opened self.old no.0) (λ reported. start < reported.1) }
         requires room { 0 < length out.old }
-        ensures earlier { (folder : Folder) → ⟦<MemFiles as Files>⟧.keeps self.new folder →
-            ⟦<MemFiles as Files>⟧.keeps self.old folder }
-        ensures later { (folder : Folder) → ⟦<MemFiles as Files>⟧.keeps self.old folder →
-            ⟦<MemFiles as Files>⟧.keeps self.new folder }
+        ensures earlier { (file_system : FileSystem) → ⟦<MemFiles as Files>⟧.consistent self.new file_system →
+            ⟦<MemFiles as Files>⟧.consistent self.old file_system }
+        ensures later { (file_system : FileSystem) → ⟦<MemFiles as Files>⟧.consistent self.old file_system →
+            ⟦<MemFiles as Files>⟧.consistent self.new file_system }
         ensures ok { IsOk result }
         ensures count { ⟦<MemFiles as Files>⟧.failures self.new
             ≡ count_after (is_err result) (⟦<MemFiles as Files>⟧.failures self.old) }
         ensures opened { (n : ℕ) → ⟦<MemFiles as Files>⟧.opened self.new n ≡ ⟦<MemFiles as Files>⟧.opened self.old n }
         ensures some { IfOk result (λ k. (0 < k) × (k ≤ length out.new)) }
-        ensures bytes { (folder : Folder) → ⟦<MemFiles as Files>⟧.keeps self.new folder → IfOk result (λ k.
-            IsSomeAnd (⟦<MemFiles as Files>⟧.opened self.old no.0) (λ told.
-            take k out.new ≡ take k (drop start (bytes_at folder told.0)))) }
+        ensures bytes { (file_system : FileSystem) → ⟦<MemFiles as Files>⟧.consistent self.new file_system → IfOk result
+            (λ k.
+            IsSomeAnd (⟦<MemFiles as Files>⟧.opened self.old no.0) (λ reported.
+            take k out.new ≡ take k (drop start (bytes_at file_system reported.0)))) }
 
         // It fills as much of `out` as lies inside the file.
-        ensures fills { IfOk result (λ k. IsSomeAnd (⟦<MemFiles as Files>⟧.opened self.old no.0) (λ told.
-            k ≡ min (length out.new) (told.1 - start))) }
+        ensures fills { IfOk result (λ k. IsSomeAnd (⟦<MemFiles as Files>⟧.opened self.old no.0) (λ reported.
+            k ≡ min (length out.new) (reported.1 - start))) }
     {
         let bytes = self.entries[no.0 as usize].bytes.as_slice();
         Ok(copy_from(bytes, start as usize, out))

@@ -1,8 +1,8 @@
 // A file of the machine that is read ahead.
 ghost use Rattle.std.specs.Prelude.{◌≡◌, ◌<◌, ◌≤◌, [], ◌∷◌, length, take, drop, IfOk, IfSome};
 ghost use Rattle.std.specs.String.{string_bytes};
-ghost use Rattle.cord_io.specs.Device.{Folder, bytes_at};
-ghost use Rattle.cord_io.specs.Told.{Agrees, has_len};
+ghost use Rattle.cord_io.specs.Device.{FileSystem, bytes_at};
+ghost use Rattle.cord_io.specs.Reported.{Agrees, has_len};
 ghost use Rattle.cord_io.specs.inner.ReadAhead.{IsAhead};
 
 use crate::memory::copy_from;
@@ -27,14 +27,14 @@ pub(crate) struct OpenedFile<F> {
     start: u64,
     count: usize,
     span: Span,
-    ghost ahead: { IsAhead reader.trace.told (string_bytes reader.path) start count bytes.items },
+    ghost ahead: { IsAhead reader.trace.reported (string_bytes reader.path) start count bytes.items },
 }
 
 impl<F: Seek + OpenFile + Drop> OpenedFile<F> {
     // A file that was opened, whose length the machine gave, and of which nothing is read.
     pub(crate) fn new(alloc: Global, file: F, path: String) -> io::Result<Self>
         ensures path { IfOk result (λ f. f.reader.path ≡ path) }
-        ensures trace { IfOk result (λ f. f.reader.trace.told ≡ has_len (string_bytes path) f.len ∷ []) }
+        ensures trace { IfOk result (λ f. f.reader.trace.reported ≡ has_len (string_bytes path) f.len ∷ []) }
     {
         let mut reader = Reader::new(file, path);
         let len = reader.measure()?;
@@ -56,10 +56,11 @@ impl<F: FileExt> OpenedFile<F> {
         ensures some { IfOk result (λ k. (0 < k) × (k ≤ length out.new)) }
         ensures path { self.new.reader.path ≡ self.old.reader.path }
         ensures len { self.new.len ≡ self.old.len }
-        ensures earlier { (folder : Folder) →
-            Agrees folder self.new.reader.trace.told → Agrees folder self.old.reader.trace.told }
-        ensures bytes { (folder : Folder) → Agrees folder self.new.reader.trace.told → IfOk result (λ k.
-            take k out.new ≡ take k (drop start (bytes_at folder (string_bytes self.old.reader.path)))) }
+        ensures earlier { (file_system : FileSystem) →
+            Agrees file_system self.new.reader.trace.reported → Agrees file_system self.old.reader.trace.reported }
+        ensures bytes { (file_system : FileSystem) → Agrees file_system self.new.reader.trace.reported → IfOk result
+            (λ k.
+            take k out.new ≡ take k (drop start (bytes_at file_system (string_bytes self.old.reader.path)))) }
     {
         self.span.turn_to(start);
         if let Some(count) = self.take_ahead(alloc, start, out) {
@@ -67,7 +68,7 @@ impl<F: FileExt> OpenedFile<F> {
             return Ok(count);
         }
         let wanted = out.len().min(MAX_READ);
-        let count = self.reader.ask_front(start, wanted, out)?;
+        let count = self.reader.ask_prefix(start, wanted, out)?;
         self.span.grow(count);
         Ok(count)
     }
@@ -79,10 +80,11 @@ impl<F: FileExt> OpenedFile<F> {
         ensures some { IfSome result (λ k. (0 < k) × (k ≤ length out.new)) }
         ensures path { self.new.reader.path ≡ self.old.reader.path }
         ensures len { self.new.len ≡ self.old.len }
-        ensures earlier { (folder : Folder) →
-            Agrees folder self.new.reader.trace.told → Agrees folder self.old.reader.trace.told }
-        ensures bytes { (folder : Folder) → Agrees folder self.new.reader.trace.told → IfSome result (λ k.
-            take k out.new ≡ take k (drop start (bytes_at folder (string_bytes self.old.reader.path)))) }
+        ensures earlier { (file_system : FileSystem) →
+            Agrees file_system self.new.reader.trace.reported → Agrees file_system self.old.reader.trace.reported }
+        ensures bytes { (file_system : FileSystem) → Agrees file_system self.new.reader.trace.reported → IfSome result
+            (λ k.
+            take k out.new ≡ take k (drop start (bytes_at file_system (string_bytes self.old.reader.path)))) }
     {
         if let Some(count) = self.copy_ahead(start, out) {
             return Some(count);
@@ -103,8 +105,9 @@ impl<F: FileExt> OpenedFile<F> {
     fn copy_ahead(&self, start: u64, out: &mut [u8]) -> Option<usize>
         requires room { 0 < length out.old }
         ensures some { IfSome result (λ k. (0 < k) × (k ≤ length out.new)) }
-        ensures bytes { (folder : Folder) → Agrees folder self.now.reader.trace.told → IfSome result (λ k.
-            take k out.new ≡ take k (drop start (bytes_at folder (string_bytes self.now.reader.path)))) }
+        ensures bytes { (file_system : FileSystem) → Agrees file_system self.now.reader.trace.reported → IfSome result
+            (λ k.
+            take k out.new ≡ take k (drop start (bytes_at file_system (string_bytes self.now.reader.path)))) }
     {
         let skipped = start.checked_sub(self.start)?;
         if skipped >= self.count as u64 {
@@ -118,8 +121,8 @@ impl<F: FileExt> OpenedFile<F> {
     fn read_ahead(&mut self, alloc: Global, start: u64, wanted: usize)
         ensures path { self.new.reader.path ≡ self.old.reader.path }
         ensures len { self.new.len ≡ self.old.len }
-        ensures earlier { (folder : Folder) →
-            Agrees folder self.new.reader.trace.told → Agrees folder self.old.reader.trace.told }
+        ensures earlier { (file_system : FileSystem) →
+            Agrees file_system self.new.reader.trace.reported → Agrees file_system self.old.reader.trace.reported }
     {
         self.count = 0;
         if self.bytes.len() < wanted {
@@ -129,7 +132,7 @@ impl<F: FileExt> OpenedFile<F> {
             }
         }
         self.start = start;
-        if let Ok(count) = self.reader.ask_front(start, wanted, &mut self.bytes) {
+        if let Ok(count) = self.reader.ask_prefix(start, wanted, &mut self.bytes) {
             self.count = count;
         }
     }

@@ -1,8 +1,8 @@
 // A file of the machine that is read.
 ghost use Rattle.std.specs.Prelude.{◌≡◌, ◌<◌, ◌≤◌, [], length, IfOk};
 ghost use Rattle.std.specs.String.{string_bytes};
-ghost use Rattle.cord_io.specs.Device.{Folder};
-ghost use Rattle.cord_io.specs.Told.{Agrees};
+ghost use Rattle.cord_io.specs.Device.{FileSystem};
+ghost use Rattle.cord_io.specs.Reported.{Agrees};
 ghost use Rattle.cord_io.specs.ReadAhead.{after_asking, after_measuring};
 
 use crate::trace::{Answer, Trace};
@@ -22,7 +22,7 @@ impl<F: Seek + OpenFile> Reader<F> {
     // A file that has given nothing.
     pub(crate) fn new(file: F, path: String) -> Self
         ensures path { result.path ≡ path }
-        ensures trace { result.trace.told ≡ [] }
+        ensures trace { result.trace.reported ≡ [] }
     {
         Reader {
             file,
@@ -34,8 +34,8 @@ impl<F: Seek + OpenFile> Reader<F> {
     // Asks the machine for the length of the file, which isn't a directory.
     pub(crate) fn measure(&mut self) -> io::Result<u64>
         ensures path { self.new.path ≡ self.old.path }
-        ensures trace { self.new.trace.told
-            ≡ after_measuring (string_bytes self.old.path) result self.old.trace.told }
+        ensures trace { self.new.trace.reported
+            ≡ after_measuring (string_bytes self.old.path) result self.old.trace.reported }
     {
         let len = self.end()?;
         self.trace = self.trace.then(&Answer::Len(self.path.as_str(), len));
@@ -45,7 +45,7 @@ impl<F: Seek + OpenFile> Reader<F> {
     // The machine's own answer: the place that a seek to the end answers.
     fn end(&mut self) -> io::Result<u64>
         ensures path { self.new.path ≡ self.old.path }
-        ensures trace { self.new.trace.told ≡ self.old.trace.told }
+        ensures trace { self.new.trace.reported ≡ self.old.trace.reported }
     {
         if self.file.metadata()?.is_dir() {
             return Err(io::Error::from(ErrorKind::IsADirectory));
@@ -59,11 +59,12 @@ impl<F: FileExt> Reader<F> {
     pub(crate) fn ask(&mut self, start: u64, out: &mut [u8]) -> io::Result<usize>
         ensures some { IfOk result (λ k. (0 < k) × (k ≤ length out.new)) }
         ensures path { self.new.path ≡ self.old.path }
-        ensures earlier { (folder : Folder) → Agrees folder self.new.trace.told → Agrees folder self.old.trace.told }
+        ensures earlier { (file_system : FileSystem) → Agrees file_system self.new.trace.reported → Agrees file_system
+            self.old.trace.reported }
 
         // Each answer of the machine is given once, and nothing else is.
-        ensures trace { self.new.trace.told
-            ≡ after_asking (string_bytes self.old.path) start out.new result self.old.trace.told }
+        ensures trace { self.new.trace.reported
+            ≡ after_asking (string_bytes self.old.path) start out.new result self.old.trace.reported }
     {
         let count = self.read_some(start, out)?;
         self.trace = self
@@ -72,8 +73,8 @@ impl<F: FileExt> Reader<F> {
         Ok(count)
     }
 
-    // Asks the machine for at most so many bytes from a place on, into the front of a buffer.
-    pub(crate) fn ask_front(
+    // Asks the machine for at most so many bytes from a place on, into the prefix of a buffer.
+    pub(crate) fn ask_prefix(
         &mut self,
         start: u64,
         wanted: usize,
@@ -82,9 +83,10 @@ impl<F: FileExt> Reader<F> {
         requires room { wanted ≤ length out.old }
         ensures some { IfOk result (λ k. (0 < k) × (k ≤ length out.new)) }
         ensures path { self.new.path ≡ self.old.path }
-        ensures earlier { (folder : Folder) → Agrees folder self.new.trace.told → Agrees folder self.old.trace.told }
-        ensures trace { self.new.trace.told
-            ≡ after_asking (string_bytes self.old.path) start out.new result self.old.trace.told }
+        ensures earlier { (file_system : FileSystem) → Agrees file_system self.new.trace.reported → Agrees file_system
+            self.old.trace.reported }
+        ensures trace { self.new.trace.reported
+            ≡ after_asking (string_bytes self.old.path) start out.new result self.old.trace.reported }
         ensures len { length out.new ≡ length out.old }
     {
         self.ask(start, &mut out[..wanted])

@@ -68,7 +68,7 @@ impl<W: Write> Sink for StdSink<W> {
         ensures count { ⟦<StdSink<W> as Sink>⟧.failures self.new
             ≡ count_after (is_err result) (⟦<StdSink<W> as Sink>⟧.failures self.old) }
 
-        // Where the writer tells its bytes, they grow by those that are told to be taken.
+        // Where the writer tells its bytes, they grow by those that are reported to be taken.
         ensures written { WriteAppends (W.contents (writer_in self.old)) (W.contents (writer_in self.new)) result
             bytes.now }
 

@@ -6,10 +6,10 @@ use Rattle.std.proofs.lemmas.List.{take_more, get_or-reverse, get_or-take, lengt
 use Rattle.std.proofs.lemmas.Option.{unwrap_or-slice_get}
 use Rattle.cord_io.specs.Table.{Table, Lengths, HasLengths}
 use Rattle.cord_node.specs.declared.Node.{Node}
-use Rattle.cord_node.proofs.TableLemmas.{Fits-told}
+use Rattle.cord_node.proofs.TableLemmas.{Fits-reported}
 use Rattle.cord_core.specs.Cord.{text_len, bytes_of, IsCord, CordFitsIn}
 use Rattle.cord_pos.specs.Position.{prev_index, IsByteAt}
-use Rattle.cord_iter.specs.Walk.{walk, WalkedFront}
+use Rattle.cord_iter.specs.Walk.{walk, WalkedPrefix}
 use Rattle.cord_iter.specs.inner.Walk.{left_of}
 use Rattle.cord_iter.proofs.Lengths.{length-bytes_over}
 use Rattle.cord_iter.proofs.Walks.{walk_on, walk_one, walk_stop_in}
@@ -17,8 +17,8 @@ use Rattle.cord_iter.proofs.Walks.{walk_on, walk_one, walk_stop_in}
 -- a cord that fits has as long a text as it stores
 pub cord_len : (ls : Lengths) (t : Table) (c : Option Node) → HasLengths ls t → IsCord c → CordFitsIn ls c →
     length (bytes_of t c) ≡ text_len c
-cord_len ls t None told s f = refl
-cord_len ls t (Some n) told s f = length-bytes_over t n s (Fits-told ls t n told f)
+cord_len ls t None reported s f = refl
+cord_len ls t (Some n) reported s f = length-bytes_over t n s (Fits-reported ls t n reported f)
 
 -- the bytes from the place `i` down
 abbrev pub downward : List ℕ → ℕ → List ℕ
@@ -78,10 +78,10 @@ back_stop step s a d t c i index b len inside below byte e h =
     ∙ walk_on step s a (d, true) (take (i + 1 - left_of index) whole) (b ∷ []) h (walk_one step a d true b e))
 
 -- the next one could not be read
-pub back_front : {S : Type 0} (step : S → ℕ → S × Bool) (s a : S) (t : Table) (c : Option Node) (i n : ℕ) →
-    walk step s (take n (downward (bytes_of t c) i)) ≡ (a, false) → WalkedFront step s a (downward (bytes_of t c) i)
-back_front step s a t c i n h = record {
-  front = take n (downward (bytes_of t c) i);
+pub back_prefix : {S : Type 0} (step : S → ℕ → S × Bool) (s a : S) (t : Table) (c : Option Node) (i n : ℕ) →
+    walk step s (take n (downward (bytes_of t c) i)) ≡ (a, false) → WalkedPrefix step s a (downward (bytes_of t c) i)
+back_prefix step s a t c i n h = record {
+  prefix = take n (downward (bytes_of t c) i);
   rest = drop n (downward (bytes_of t c) i);
   split = sym (take-append-drop n (downward (bytes_of t c) i));
   walked = h;
@@ -111,7 +111,7 @@ pub all_walk : {S : Type 0} (step : S → ℕ → S × Bool) (s : S) (p : S × B
     walk step s (reverse (bytes_of t c)) ≡ p
 all_walk step s p t c n len e k h = rw (← whole_down (bytes_of t c) n (len ∙ sym e) k) h
 
-pub all_front : {S : Type 0} (step : S → ℕ → S × Bool) (s a : S) (t : Table) (c : Option Node) (n : ℕ) →
-    length (bytes_of t c) ≡ text_len c → n ≡ text_len c → 0 < n → WalkedFront step s a (reverse (take (n - 1 + 1) (bytes_of t c))) →
-    WalkedFront step s a (reverse (bytes_of t c))
-all_front step s a t c n len e k h = subst (WalkedFront step s a) (whole_down (bytes_of t c) n (len ∙ sym e) k) h
+pub all_prefix : {S : Type 0} (step : S → ℕ → S × Bool) (s a : S) (t : Table) (c : Option Node) (n : ℕ) →
+    length (bytes_of t c) ≡ text_len c → n ≡ text_len c → 0 < n → WalkedPrefix step s a (reverse (take (n - 1 + 1) (bytes_of t c))) →
+    WalkedPrefix step s a (reverse (bytes_of t c))
+all_prefix step s a t c n len e k h = subst (WalkedPrefix step s a) (whole_down (bytes_of t c) n (len ∙ sym e) k) h

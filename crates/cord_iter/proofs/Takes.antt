@@ -9,16 +9,16 @@ use Rattle.std.specs.Global.{Global}
 use Rattle.std.specs.Result.{OnErr}
 use Rattle.std.specs.declared.result.Result.{Result}
 use Rattle.std.proofs.Math.Seq.{take-add}
-use Rattle.cord_io.specs.Device.{Folder, raised}
+use Rattle.cord_io.specs.Device.{FileSystem, raised}
 use Rattle.cord_io.specs.Table.{Table}
 use Rattle.cord_io.specs.declared.SourceId.{SourceId}
 use Rattle.cord_io.specs.declared.writing.Sink as sinks
-use Rattle.cord_node.specs.Kept.{Part}
+use Rattle.cord_node.specs.PartsFrom.{Part}
 use Rattle.cord_node.specs.declared.Node.{Node}
 use Rattle.cord_node.specs.declared.Node.TheVariants.{Func, Cat'}
 use Rattle.cord_node.specs.Tree.{len_of, IsSound}
 use Rattle.cord_node.specs.Tables.{bytes_over}
-use Rattle.cord_iter.specs.Output.{IsFrontOf, Takes, Writes}
+use Rattle.cord_iter.specs.Output.{IsPrefixOf, Takes, Writes}
 use Rattle.cord_iter.specs.inner.Output.{IsTextOver, IsPrefixOver}
 
 -- bytes after bytes
@@ -39,16 +39,16 @@ pub takes_such : {P Q : List ℕ → Type 0} {a b : List ℕ} → Takes P a b �
 takes_such s h = record { out = s.out; such = h s.out s.such; taken = s.taken }
 
 -- a first part, and a prefix of what is after it
-pub front_join : (whole x more y : List ℕ) → whole ≡ x ++ more → IsFrontOf more y → IsFrontOf whole (x ++ y)
-front_join whole x more y h k = (k.0, h ∙ ap (λ (l : List ℕ). x ++ l) k.1 ∙ sym (append_assoc x y k.0))
+pub prefix_join : (whole x more y : List ℕ) → whole ≡ x ++ more → IsPrefixOf more y → IsPrefixOf whole (x ++ y)
+prefix_join whole x more y h k = (k.0, h ∙ ap (λ (l : List ℕ). x ++ l) k.1 ∙ sym (append_assoc x y k.0))
 
 -- a prefix of a first part
-pub front_more : (whole first rest x : List ℕ) → whole ≡ first ++ rest → IsFrontOf first x → IsFrontOf whole x
-front_more whole first rest x h k = (k.0 ++ rest, h ∙ ap (λ (l : List ℕ). l ++ rest) k.1 ∙ append_assoc x k.0 rest)
+pub prefix_more : (whole first rest x : List ℕ) → whole ≡ first ++ rest → IsPrefixOf first x → IsPrefixOf whole x
+prefix_more whole first rest x h k = (k.0 ++ rest, h ∙ ap (λ (l : List ℕ). l ++ rest) k.1 ∙ append_assoc x k.0 rest)
 
 -- the first so many bytes
-pub front_take : (whole : List ℕ) (n : ℕ) → IsFrontOf whole (take n whole)
-front_take whole n = (drop n whole, sym (take-append-drop n whole))
+pub prefix_take : (whole : List ℕ) (n : ℕ) → IsPrefixOf whole (take n whole)
+prefix_take whole n = (drop n whole, sym (take-append-drop n whole))
 
 -- a range, and the one after it
 range_join : (xs : List ℕ) (s a b : ℕ) → take (a + b) (drop s xs) ≡ take a (drop s xs) ++ take b (drop (s + a) xs)
@@ -58,30 +58,33 @@ range_join xs s a b = take-add a b (drop s xs) ∙ ap (λ (l : List ℕ). take a
 func_range : (xs x y : List ℕ) (s a b : ℕ) → x ≡ take a (drop s xs) → y ≡ take b (drop (s + a) xs) → x ++ y ≡ take (a + b) (drop s xs)
 func_range xs x y s a b h k = rw (h, k) (sym (range_join xs s a b))
 
-pub func_text : {before keeps : Folder → Type 0} (table : Folder → Table) (id : SourceId) (s a b : ℕ) (x y : List ℕ) →
-    ((folder : Folder) → keeps folder → before folder) → IsTextOver before table (Func id a s) x →
-    IsTextOver keeps table (Func id b (s + a)) y → IsTextOver keeps table (Func id (a + b) s) (x ++ y)
+pub func_text : {before consistent : FileSystem → Type 0} (table : FileSystem → Table) (id : SourceId) (s a b : ℕ) (x y : List ℕ) →
+    ((file_system : FileSystem) → consistent file_system → before file_system) → IsTextOver before table (Func id a s) x →
+    IsTextOver consistent table (Func id b (s + a)) y → IsTextOver consistent table (Func id (a + b) s) (x ++ y)
 func_text table id s a b x y earlier h k = record {
   len = length-append x y ∙ (let i : length x ≡ a = h.len in let j : length y ≡ b = k.len in omega arith);
-  text = λ folder kept. func_range (table folder id.0) x y s a b (h.text folder (earlier folder kept)) (k.text folder kept);
+  text = λ file_system kept. func_range (table file_system id.0) x y s a b (h.text file_system (earlier file_system kept))
+      (k.text file_system kept);
 }
 
 -- a range of an entry and a prefix of the range after it
-range_front : (xs x y : List ℕ) (s a b n : ℕ) → a + b ≤ n → x ≡ take a (drop s xs) → IsFrontOf (take b (drop (s + a) xs)) y →
-    IsFrontOf (take n (drop s xs)) (x ++ y)
-range_front xs x y s a b n e h k =
+range_prefix : (xs x y : List ℕ) (s a b n : ℕ) → a + b ≤ n → x ≡ take a (drop s xs) → IsPrefixOf (take b (drop (s + a) xs)) y →
+    IsPrefixOf (take n (drop s xs)) (x ++ y)
+range_prefix xs x y s a b n e h k =
     let m : n ≡ (a + b) + (n - (a + b)) = omega arith in
     let first : take n (drop s xs) ≡ take (a + b) (drop s xs) ++ take (n - (a + b)) (drop (a + b) (drop s xs)) =
     ap (λ (l : ℕ). take l (drop s xs)) m ∙ take-add (a + b) (n - (a + b)) (drop s xs) in
-    front_more (take n (drop s xs)) (take (a + b) (drop s xs)) (take (n - (a + b)) (drop (a + b) (drop s xs))) (x ++ y) first
-    (rw h (front_join (take (a + b) (drop s xs)) (take a (drop s xs)) (take b (drop (s + a) xs)) y (range_join xs s a b) k))
+    prefix_more (take n (drop s xs)) (take (a + b) (drop s xs)) (take (n - (a + b)) (drop (a + b) (drop s xs))) (x ++ y) first
+    (rw h (prefix_join (take (a + b) (drop s xs)) (take a (drop s xs)) (take b (drop (s + a) xs)) y (range_join xs s a b) k))
 
-pub func_prefix : {before keeps : Folder → Type 0} (table : Folder → Table) (id : SourceId) (s a b n : ℕ) (x y : List ℕ) → a + b ≤ n →
-    ((folder : Folder) → keeps folder → before folder) → IsTextOver before table (Func id a s) x →
-    IsPrefixOver keeps table (Func id b (s + a)) y → IsPrefixOver keeps table (Func id n s) (x ++ y)
+pub func_prefix : {before consistent : FileSystem → Type 0} (table : FileSystem → Table) (id : SourceId) (s a b n : ℕ) (x y : List ℕ) → a +
+    b ≤ n →
+    ((file_system : FileSystem) → consistent file_system → before file_system) → IsTextOver before table (Func id a s) x →
+    IsPrefixOver consistent table (Func id b (s + a)) y → IsPrefixOver consistent table (Func id n s) (x ++ y)
 func_prefix table id s a b n x y e earlier h k = record {
   len = rw (length-append x y) (let i : length x ≡ a = h.len in let j : length y ≤ b = k.len in omega arith);
-  front = λ folder kept. range_front (table folder id.0) x y s a b n e (h.text folder (earlier folder kept)) (k.front folder kept);
+  prefix = λ file_system kept. range_prefix (table file_system id.0) x y s a b n e (h.text file_system (earlier file_system kept))
+      (k.prefix file_system kept);
 }
 
 -- the two sides of a concatenation
@@ -90,34 +93,37 @@ pub record AreSides (l r n : Node) : Type 0 where
   pub bytes : (t : Table) → bytes_over t n ≡ bytes_over t l ++ bytes_over t r
 
 -- the texts of both
-pub cat_text : {before keeps : Folder → Type 0} (table : Folder → Table) (l r n : Node) (x y : List ℕ) → AreSides l r n →
-    ((folder : Folder) → keeps folder → before folder) → IsTextOver before table l x → IsTextOver keeps table r y →
-    IsTextOver keeps table n (x ++ y)
+pub cat_text : {before consistent : FileSystem → Type 0} (table : FileSystem → Table) (l r n : Node) (x y : List ℕ) → AreSides l r n →
+    ((file_system : FileSystem) → consistent file_system → before file_system) → IsTextOver before table l x → IsTextOver consistent table r
+    y →
+    IsTextOver consistent table n (x ++ y)
 cat_text table l r n x y e earlier h k = record {
   len = length-append x y ∙ (let i : length x ≡ len_of l = h.len in let j : length y ≡ len_of r = k.len in
       let m : len_of n ≡ len_of l + len_of r = e.len in omega arith);
-  text = λ folder kept. rw (h.text folder (earlier folder kept), k.text folder kept) (sym (e.bytes (table folder)));
+  text = λ file_system kept. rw (h.text file_system (earlier file_system kept), k.text file_system kept)
+      (sym (e.bytes (table file_system)));
 }
 
 -- a prefix of the left one
-pub cat_left : {keeps : Folder → Type 0} (table : Folder → Table) (l r n : Node) (x : List ℕ) → AreSides l r n →
-    IsPrefixOver keeps table l x → IsPrefixOver keeps table n x
+pub cat_left : {consistent : FileSystem → Type 0} (table : FileSystem → Table) (l r n : Node) (x : List ℕ) → AreSides l r n →
+    IsPrefixOver consistent table l x → IsPrefixOver consistent table n x
 cat_left table l r n x e h = record {
   len = let i : length x ≤ len_of l = h.len in let m : len_of n ≡ len_of l + len_of r = e.len in omega arith;
-  front = λ folder kept. let t = table folder in
-      front_more (bytes_over t n) (bytes_over t l) (bytes_over t r) x (e.bytes t) (h.front folder kept);
+  prefix = λ file_system kept. let t = table file_system in
+      prefix_more (bytes_over t n) (bytes_over t l) (bytes_over t r) x (e.bytes t) (h.prefix file_system kept);
 }
 
 -- the left one and a prefix of the right one
-pub cat_right : {before keeps : Folder → Type 0} (table : Folder → Table) (l r n : Node) (x y : List ℕ) → AreSides l r n →
-    ((folder : Folder) → keeps folder → before folder) → IsTextOver before table l x → IsPrefixOver keeps table r y →
-    IsPrefixOver keeps table n (x ++ y)
+pub cat_right : {before consistent : FileSystem → Type 0} (table : FileSystem → Table) (l r n : Node) (x y : List ℕ) → AreSides l r n →
+    ((file_system : FileSystem) → consistent file_system → before file_system) → IsTextOver before table l x → IsPrefixOver consistent table
+    r y →
+    IsPrefixOver consistent table n (x ++ y)
 cat_right table l r n x y e earlier h k = record {
   len = rw (length-append x y) (let i : length x ≡ len_of l = h.len in let j : length y ≤ len_of r = k.len in
       let m : len_of n ≡ len_of l + len_of r = e.len in omega arith);
-  front = λ folder kept. let t = table folder in
-      rw (h.text folder (earlier folder kept))
-      (front_join (bytes_over t n) (bytes_over t l) (bytes_over t r) y (e.bytes t) (k.front folder kept));
+  prefix = λ file_system kept. let t = table file_system in
+      rw (h.text file_system (earlier file_system kept))
+      (prefix_join (bytes_over t n) (bytes_over t l) (bytes_over t r) y (e.bytes t) (k.prefix file_system kept));
 }
 
 -- what holds where there is an error
@@ -127,30 +133,30 @@ on_err (Err e) h = h
 
 -- a call that failed, after a prefix of the text
 pub writes_err : {S E : Type 0} {sink : sinks.Ghosts S} {text : List ℕ} {a b : S} {r : Result (Unit {0}) E} → IsErr r →
-    Takes (IsFrontOf text) (sink.taken a) (sink.taken b) → sink.failures b ≡ raised (sink.failures a) →
+    Takes (IsPrefixOf text) (sink.taken a) (sink.taken b) → sink.failures b ≡ raised (sink.failures a) →
     sink.finished b ≡ sink.finished a → Writes sink text a b r
 writes_err {r = Ok x} is taken count finished = absurd (false≢true is)
 writes_err {r = Err e} is taken count finished = record { ok = tt; err = (taken, count); finished = finished }
 
 -- a prefix of the next bytes of a run
-run_front : (byte len done count : ℕ) (y : List ℕ) → done + count ≤ len → IsFrontOf (replicate count byte) y →
-    IsFrontOf (replicate len byte) (replicate done byte ++ y)
-run_front byte len done count y h k =
+run_prefix : (byte len done count : ℕ) (y : List ℕ) → done + count ≤ len → IsPrefixOf (replicate count byte) y →
+    IsPrefixOf (replicate len byte) (replicate done byte ++ y)
+run_prefix byte len done count y h k =
     let e : done + (len - done) ≡ len = omega arith in
     let f : count + (len - done - count) ≡ len - done = omega arith in
     let first : replicate len byte ≡ replicate done byte ++ replicate (len - done) byte =
     sym (replicate-append-replicate done (len - done) byte ∙ ap (λ (n : ℕ). replicate n byte) e) in
     let next : replicate (len - done) byte ≡ replicate count byte ++ replicate (len - done - count) byte =
     sym (replicate-append-replicate count (len - done - count) byte ∙ ap (λ (n : ℕ). replicate n byte) f) in
-    front_join (replicate len byte) (replicate done byte) (replicate (len - done) byte) y first
-    (front_more (replicate (len - done) byte) (replicate count byte) (replicate (len - done - count) byte) y next k)
+    prefix_join (replicate len byte) (replicate done byte) (replicate (len - done) byte) y first
+    (prefix_more (replicate (len - done) byte) (replicate count byte) (replicate (len - done - count) byte) y next k)
 
 -- some of a run, and a prefix of the next piece of it
 pub run_stopped : (a b c : List ℕ) (byte len done count n : ℕ) → done + count ≤ len → count ≤ n → b ≡ a ++ replicate done byte →
-    Takes (IsFrontOf (take count (replicate n byte))) b c → Takes (IsFrontOf (replicate len byte)) a c
+    Takes (IsPrefixOf (take count (replicate n byte))) b c → Takes (IsPrefixOf (replicate len byte)) a c
 run_stopped a b c byte len done count n h k s t = record {
   out = replicate done byte ++ t.out;
-  such = run_front byte len done count t.out h (rw (take-replicate count n byte k) at t.such);
+  such = run_prefix byte len done count t.out h (rw (take-replicate count n byte k) at t.such);
   taken = appends_both a b c (replicate done byte) t.out s t.taken;
 }
 

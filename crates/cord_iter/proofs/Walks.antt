@@ -5,7 +5,7 @@ use Rattle.std.specs.Prelude.{replicate, if◌then◌else◌}
 use Rattle.std.proofs.lemmas.List.{drop-take, drop-drop, take_more, take-append-drop, take-replicate, replicate-append-replicate}
 use Rattle.std.proofs.Math.Seq.{take-add}
 use Rattle.cord_io.specs.Table.{Table}
-use Rattle.cord_iter.specs.Walk.{walk, WalkedFront}
+use Rattle.cord_iter.specs.Walk.{walk, WalkedPrefix}
 
 -- from where a walk ended, on over more bytes unless it stopped
 go_on : {S : Type 0} → (S → ℕ → S × Bool) → S × Bool → List ℕ → S × Bool
@@ -60,23 +60,23 @@ walk_stop_between step a b c whole x y z e h k = ap (λ (l : List ℕ). walk ste
     ∙ walk_stop step a c (x ++ y) z (walk_on step a b (c, true) x y h k)
 
 -- a prefix of the first of two lists
-pub front_first : {S : Type 0} (step : S → ℕ → S × Bool) (a b : S) (whole x y : List ℕ) → whole ≡ x ++ y → WalkedFront step a b x →
-    WalkedFront step a b whole
-front_first step a b whole x y e h = record {
-  front = h.front;
+pub prefix_first : {S : Type 0} (step : S → ℕ → S × Bool) (a b : S) (whole x y : List ℕ) → whole ≡ x ++ y → WalkedPrefix step a b x →
+    WalkedPrefix step a b whole
+prefix_first step a b whole x y e h = record {
+  prefix = h.prefix;
   rest = h.rest ++ y;
-  split = e ∙ ap (λ (l : List ℕ). l ++ y) h.split ∙ append_assoc h.front h.rest y;
+  split = e ∙ ap (λ (l : List ℕ). l ++ y) h.split ∙ append_assoc h.prefix h.rest y;
   walked = h.walked;
 }
 
 -- the first list, and a prefix of the second one
-pub front_second : {S : Type 0} (step : S → ℕ → S × Bool) (a b c : S) (whole x y : List ℕ) → whole ≡ x ++ y → walk step a x ≡ (b, false) →
-    WalkedFront step b c y → WalkedFront step a c whole
-front_second step a b c whole x y e h k = record {
-  front = x ++ k.front;
+pub prefix_second : {S : Type 0} (step : S → ℕ → S × Bool) (a b c : S) (whole x y : List ℕ) → whole ≡ x ++ y → walk step a x ≡ (b, false) →
+    WalkedPrefix step b c y → WalkedPrefix step a c whole
+prefix_second step a b c whole x y e h k = record {
+  prefix = x ++ k.prefix;
   rest = k.rest;
-  split = e ∙ ap (λ (l : List ℕ). x ++ l) k.split ∙ sym (append_assoc x k.front k.rest);
-  walked = walk_on step a b (c, false) x k.front h k.walked;
+  split = e ∙ ap (λ (l : List ℕ). x ++ l) k.split ∙ sym (append_assoc x k.prefix k.rest);
+  walked = walk_on step a b (c, false) x k.prefix h k.walked;
 }
 
 -- a run: some of it, a piece, and the rest
@@ -126,12 +126,12 @@ func_on step a b p t id s done count h k = ap (λ (l : List ℕ). walk step a l)
     ∙ walk_on step a b p (take done (drop s (t id))) (take count (drop (s + done) (t id))) h k
 
 -- some of a range was walked over, and the next piece was not read
-pub func_front : {S : Type 0} (step : S → ℕ → S × Bool) (a b c : S) (t : Table) (id s len done : ℕ) → done ≤ len → c ≡ b →
-    walk step a (take done (drop s (t id))) ≡ (b, false) → WalkedFront step a c (take len (drop s (t id)))
-func_front step a b c t id s len done inside e h =
+pub func_prefix : {S : Type 0} (step : S → ℕ → S × Bool) (a b c : S) (t : Table) (id s len done : ℕ) → done ≤ len → c ≡ b →
+    walk step a (take done (drop s (t id))) ≡ (b, false) → WalkedPrefix step a c (take len (drop s (t id)))
+func_prefix step a b c t id s len done inside e h =
     let m : len ≡ done + (len - done) = omega arith in
     record {
-      front = take done (drop s (t id));
+      prefix = take done (drop s (t id));
       rest = take (len - done) (drop (s + done) (t id));
       split = ap (λ (k : ℕ). take k (drop s (t id))) m ∙ range_next (t id) s done (len - done);
       walked = rw e h;

@@ -8,9 +8,9 @@ use Rattle.cord_io.specs.declared.faults.CordError.TheVariants.{NoMemory, TooLon
 use Rattle.cord_io.specs.declared.sources.Source as sources
 use Rattle.cord_io.specs.declared.writing.Sink as sinks
 
--- the second list stands at the front of the first one
-abbrev pub IsFrontOf : List ℕ → List ℕ → Type 0
-IsFrontOf whole out = (rest : List ℕ) × (whole ≡ out ++ rest)
+-- the second list stands at the prefix of the first one
+abbrev pub IsPrefixOf : List ℕ → List ℕ → Type 0
+IsPrefixOf whole out = (rest : List ℕ) × (whole ≡ out ++ rest)
 
 -- a sink took bytes of which this holds
 pub record Takes (P : List ℕ → Type 0) (old new : List ℕ) : Type 0 where
@@ -21,7 +21,7 @@ pub record Takes (P : List ℕ → Type 0) (old new : List ℕ) : Type 0 where
 -- at Ok a sink took exactly this text and didn't fail; at Err it took a prefix of it and failed once; it wasn't ended
 pub record Writes {S E : Type 0} (sink : sinks.Ghosts S) (text : List ℕ) (old new : S) (r : Result (Unit {0}) E) : Type 0 where
   pub ok : OnOk r ((sink.taken new ≡ sink.taken old ++ text) × (sink.failures new ≡ sink.failures old))
-  pub err : OnErr r (Takes (IsFrontOf text) (sink.taken old) (sink.taken new) × (sink.failures new ≡ raised (sink.failures old)))
+  pub err : OnErr r (Takes (IsPrefixOf text) (sink.taken old) (sink.taken new) × (sink.failures new ≡ raised (sink.failures old)))
   pub finished : sink.finished new ≡ sink.finished old
 
 -- how often a source and a sink have failed
@@ -41,7 +41,7 @@ CountsFaults old new (Err WriteFailed) = (new.source ≡ old.source) × (new.sin
 CountsFaults old new (Err NoMemory) = ⊥
 CountsFaults old new (Err TooLong) = ⊥
 
--- a fault of the source was counted once, and other calls weren't refused but for want of memory
+-- a fault of the source was counted once, and other calls weren't refused but when out of memory
 abbrev pub CountsReads : {T : Type 0} → ℕ → ℕ → Result T CordError → Type 0
 CountsReads old new (Ok x) = new ≡ old
 CountsReads old new (Err ReadFailed) = new ≡ raised old

@@ -7,8 +7,8 @@ walk step s [] = (s, false)
 walk step s (b ∷ bs) = if (step s b).1 then ((step s b).0, true) else walk step (step s b).0 bs
 
 -- from one state to another a prefix of the bytes was walked over without a stop
-pub record WalkedFront {S : Type 0} (step : S → ℕ → S × Bool) (old new : S) (bs : List ℕ) : Type 0 where
-  pub front : List ℕ
+pub record WalkedPrefix {S : Type 0} (step : S → ℕ → S × Bool) (old new : S) (bs : List ℕ) : Type 0 where
+  pub prefix : List ℕ
   pub rest : List ℕ
-  pub split : bs ≡ front ++ rest
-  pub walked : walk step old front ≡ (new, false)
+  pub split : bs ≡ prefix ++ rest
+  pub walked : walk step old prefix ≡ (new, false)

@@ -1,9 +1,9 @@
 // Walks from a place to the beginning.
 ghost use Rattle.std.specs.Prelude.{◌≡◌, ◌+◌, ◌<◌, take, reverse, is_err, IsOk, IfOk, IfErr, OnErr};
-ghost use Rattle.cord_io.specs.Device.{Folder, count_after};
+ghost use Rattle.cord_io.specs.Device.{FileSystem, count_after};
 ghost use Rattle.cord_io.specs.Frames.{LeavesSource};
 ghost use Rattle.cord_core.specs.Cord.{text_len, bytes_of, CordFitsIn};
-ghost use Rattle.cord_iter.specs.Walk.{walk, WalkedFront};
+ghost use Rattle.cord_iter.specs.Walk.{walk, WalkedPrefix};
 
 use crate::Visitor;
 use cord_core::Cord;
@@ -22,12 +22,12 @@ pub fn riter4<S: Source, V: Visitor>(
 ) -> Result<bool, CordError>
     requires inside { i < text_len cord.now }
     requires fits { CordFitsIn (S.lengths src.old) cord.now }
-    ensures walked { (folder : Folder) → S.keeps src.new folder →
+    ensures walked { (file_system : FileSystem) → S.consistent src.new file_system →
         IfOk result (λ stopped. walk V.step (V.state visitor.old)
-        (reverse (take (i + 1) (bytes_of (S.table src.old folder) cord.now))) ≡ (V.state visitor.new, stopped)) }
-    ensures prefix { (folder : Folder) → S.keeps src.new folder →
-        OnErr result (WalkedFront V.step (V.state visitor.old) (V.state visitor.new)
-        (reverse (take (i + 1) (bytes_of (S.table src.old folder) cord.now)))) }
+        (reverse (take (i + 1) (bytes_of (S.table src.old file_system) cord.now))) ≡ (V.state visitor.new, stopped)) }
+    ensures prefix { (file_system : FileSystem) → S.consistent src.new file_system →
+        OnErr result (WalkedPrefix V.step (V.state visitor.old) (V.state visitor.new)
+        (reverse (take (i + 1) (bytes_of (S.table src.old file_system) cord.now)))) }
     ensures refused { IfErr result (λ e. e ≡ CordError.ReadFailed) }
     ensures count { S.failures src.new ≡ count_after (is_err result) (S.failures src.old) }
     ensures steady { S.failures src.old < u64.MAX → S.failures src.new ≡ S.failures src.old → IsOk result }
@@ -52,12 +52,12 @@ pub fn riter<S: Source, V: Visitor>(
     visitor: &mut V,
 ) -> Result<bool, CordError>
     requires fits { CordFitsIn (S.lengths src.old) cord.now }
-    ensures walked { (folder : Folder) → S.keeps src.new folder →
+    ensures walked { (file_system : FileSystem) → S.consistent src.new file_system →
         IfOk result (λ stopped. walk V.step (V.state visitor.old)
-        (reverse (bytes_of (S.table src.old folder) cord.now)) ≡ (V.state visitor.new, stopped)) }
-    ensures prefix { (folder : Folder) → S.keeps src.new folder →
-        OnErr result (WalkedFront V.step (V.state visitor.old) (V.state visitor.new)
-        (reverse (bytes_of (S.table src.old folder) cord.now))) }
+        (reverse (bytes_of (S.table src.old file_system) cord.now)) ≡ (V.state visitor.new, stopped)) }
+    ensures prefix { (file_system : FileSystem) → S.consistent src.new file_system →
+        OnErr result (WalkedPrefix V.step (V.state visitor.old) (V.state visitor.new)
+        (reverse (bytes_of (S.table src.old file_system) cord.now))) }
     ensures refused { IfErr result (λ e. e ≡ CordError.ReadFailed) }
     ensures count { S.failures src.new ≡ count_after (is_err result) (S.failures src.old) }
     ensures steady { S.failures src.old < u64.MAX → S.failures src.new ≡ S.failures src.old → IsOk result }

@@ -1,6 +1,6 @@
 // The text of a cord in a vector.
 ghost use Rattle.std.specs.Prelude.{◌≡◌, ◌<◌, length, is_err, IfOk, refl};
-ghost use Rattle.cord_io.specs.Device.{Folder, failed_calls};
+ghost use Rattle.cord_io.specs.Device.{FileSystem, failed_calls};
 ghost use Rattle.cord_io.specs.Frames.{LeavesSource};
 ghost use Rattle.cord_core.specs.Cord.{text_len, bytes_of, CordFitsIn};
 ghost use Rattle.cord_iter.specs.Output.{CountsReads};
@@ -11,8 +11,8 @@ use cord_io::{CordError, Sink, Source, WriteFault};
 use std::alloc::Global;
 
 /// The text of a cord over a source, in a vector of that length. Refused with `ReadFailed` where a read failed, and
-/// with `NoMemory` where the vector was refused memory. The text is that over the table of each folder that `src` keeps
-/// after the call, and as many bytes are there whatever it keeps.
+/// with `NoMemory` where the vector was refused memory. The text is that over the table of each file system that `src`
+/// keeps after the call, and as many bytes are there whatever it keeps.
 ///
 /// Each function part lies inside an entry of `src`: so it is with every cord over no files, with those that `src` made
 /// where it is a `Sources`, and with what `cat`, `substr` and the others make of them.
@@ -36,8 +36,8 @@ use std::alloc::Global;
 /// ```
 pub fn to_vec<S: Source>(alloc: Global, cord: &Cord, src: &mut S) -> Result<Vec<u8>, CordError>
     requires fits { CordFitsIn (S.lengths src.old) cord.now }
-    ensures text { (folder : Folder) → S.keeps src.new folder →
-        IfOk result (λ v. v.items ≡ bytes_of (S.table src.old folder) cord.now) }
+    ensures text { (file_system : FileSystem) → S.consistent src.new file_system →
+        IfOk result (λ v. v.items ≡ bytes_of (S.table src.old file_system) cord.now) }
     ensures len { IfOk result (λ v. length v.items ≡ text_len cord.now) }
     ensures reads { CountsReads (S.failures src.old) (S.failures src.new) result }
     ensures source { LeavesSource ⟦<S as Source>⟧ src.old src.new }

@@ -1,13 +1,13 @@
 // Walks from a place to the end.
 ghost use Rattle.std.specs.Prelude.{◌≡◌, ◌+◌, ◌<◌, ◌≤◌, length, take, drop, replicate, is_err, IsOk, IfOk, IfErr};
 ghost use Rattle.std.specs.Prelude.{OnErr};
-ghost use Rattle.cord_io.specs.Device.{Folder, count_after};
+ghost use Rattle.cord_io.specs.Device.{FileSystem, count_after};
 ghost use Rattle.cord_io.specs.Frames.{LeavesSource};
 ghost use Rattle.cord_io.specs.Table.{length_at};
 ghost use Rattle.cord_node.specs.Tree.{len_of, IsSound};
 ghost use Rattle.cord_node.specs.Tables.{bytes_over, FitsIn};
 ghost use Rattle.cord_core.specs.Cord.{text_len, bytes_of, CordFitsIn};
-ghost use Rattle.cord_iter.specs.Walk.{walk, WalkedFront};
+ghost use Rattle.cord_iter.specs.Walk.{walk, WalkedPrefix};
 
 use crate::pieces::piece_len;
 use crate::{PIECE_LEN, Visitor};
@@ -26,12 +26,13 @@ pub fn iter5<S: Source, V: Visitor>(
 ) -> Result<bool, CordError>
     requires inside { i < text_len cord.now }
     requires fits { CordFitsIn (S.lengths src.old) cord.now }
-    ensures walked { (folder : Folder) → S.keeps src.new folder →
-        IfOk result (λ stopped. walk V.step (V.state visitor.old) (drop i (bytes_of (S.table src.old folder) cord.now))
+    ensures walked { (file_system : FileSystem) → S.consistent src.new file_system →
+        IfOk result (λ stopped. walk V.step (V.state visitor.old)
+        (drop i (bytes_of (S.table src.old file_system) cord.now))
         ≡ (V.state visitor.new, stopped)) }
-    ensures prefix { (folder : Folder) → S.keeps src.new folder →
-        OnErr result (WalkedFront V.step (V.state visitor.old) (V.state visitor.new)
-        (drop i (bytes_of (S.table src.old folder) cord.now))) }
+    ensures prefix { (file_system : FileSystem) → S.consistent src.new file_system →
+        OnErr result (WalkedPrefix V.step (V.state visitor.old) (V.state visitor.new)
+        (drop i (bytes_of (S.table src.old file_system) cord.now))) }
     ensures refused { IfErr result (λ e. e ≡ CordError.ReadFailed) }
     ensures count { S.failures src.new ≡ count_after (is_err result) (S.failures src.old) }
     ensures steady { S.failures src.old < u64.MAX → S.failures src.new ≡ S.failures src.old → IsOk result }
@@ -52,12 +53,12 @@ pub fn iter<S: Source, V: Visitor>(
     visitor: &mut V,
 ) -> Result<bool, CordError>
     requires fits { CordFitsIn (S.lengths src.old) cord.now }
-    ensures walked { (folder : Folder) → S.keeps src.new folder →
-        IfOk result (λ stopped. walk V.step (V.state visitor.old) (bytes_of (S.table src.old folder) cord.now)
+    ensures walked { (file_system : FileSystem) → S.consistent src.new file_system →
+        IfOk result (λ stopped. walk V.step (V.state visitor.old) (bytes_of (S.table src.old file_system) cord.now)
         ≡ (V.state visitor.new, stopped)) }
-    ensures prefix { (folder : Folder) → S.keeps src.new folder →
-        OnErr result (WalkedFront V.step (V.state visitor.old) (V.state visitor.new)
-        (bytes_of (S.table src.old folder) cord.now)) }
+    ensures prefix { (file_system : FileSystem) → S.consistent src.new file_system →
+        OnErr result (WalkedPrefix V.step (V.state visitor.old) (V.state visitor.new)
+        (bytes_of (S.table src.old file_system) cord.now)) }
     ensures refused { IfErr result (λ e. e ≡ CordError.ReadFailed) }
     ensures count { S.failures src.new ≡ count_after (is_err result) (S.failures src.old) }
     ensures steady { S.failures src.old < u64.MAX → S.failures src.new ≡ S.failures src.old → IsOk result }
@@ -80,12 +81,12 @@ fn walk_node<S: Source, V: Visitor>(
     requires sound { IsSound node.now }
     requires inside { from ≤ len_of node.now }
     requires fits { FitsIn (S.lengths src.old) node.now }
-    ensures walked { (folder : Folder) → S.keeps src.new folder →
+    ensures walked { (file_system : FileSystem) → S.consistent src.new file_system →
         IfOk result (λ stopped. walk V.step (V.state visitor.old)
-        (drop from (bytes_over (S.table src.old folder) node.now)) ≡ (V.state visitor.new, stopped)) }
-    ensures prefix { (folder : Folder) → S.keeps src.new folder →
-        OnErr result (WalkedFront V.step (V.state visitor.old) (V.state visitor.new)
-        (drop from (bytes_over (S.table src.old folder) node.now))) }
+        (drop from (bytes_over (S.table src.old file_system) node.now)) ≡ (V.state visitor.new, stopped)) }
+    ensures prefix { (file_system : FileSystem) → S.consistent src.new file_system →
+        OnErr result (WalkedPrefix V.step (V.state visitor.old) (V.state visitor.new)
+        (drop from (bytes_over (S.table src.old file_system) node.now))) }
     ensures count { S.failures src.new ≡ count_after (is_err result) (S.failures src.old) }
     ensures source { LeavesSource ⟦<S as Source>⟧ src.old src.new }
 {
@@ -140,12 +141,13 @@ fn walk_func<S: Source, V: Visitor>(
 ) -> Result<bool, ReadFault>
     requires fits { start + len ≤ length_at (S.lengths src.old) id.0 }
     requires limit { start + len ≤ MAX_LEN }
-    ensures walked { (folder : Folder) → S.keeps src.new folder →
-        IfOk result (λ stopped. walk V.step (V.state visitor.old) (take len (drop start (S.table src.old folder id.0)))
+    ensures walked { (file_system : FileSystem) → S.consistent src.new file_system →
+        IfOk result (λ stopped. walk V.step (V.state visitor.old)
+        (take len (drop start (S.table src.old file_system id.0)))
         ≡ (V.state visitor.new, stopped)) }
-    ensures prefix { (folder : Folder) → S.keeps src.new folder →
-        OnErr result (WalkedFront V.step (V.state visitor.old) (V.state visitor.new)
-        (take len (drop start (S.table src.old folder id.0)))) }
+    ensures prefix { (file_system : FileSystem) → S.consistent src.new file_system →
+        OnErr result (WalkedPrefix V.step (V.state visitor.old) (V.state visitor.new)
+        (take len (drop start (S.table src.old file_system id.0)))) }
     ensures count { S.failures src.new ≡ count_after (is_err result) (S.failures src.old) }
     ensures source { LeavesSource ⟦<S as Source>⟧ src.old src.new }
 {
@@ -171,9 +173,9 @@ fn walk_piece<S: Source, V: Visitor>(
     requires some { 0 < count }
     requires piece { count ≤ PIECE_LEN }
     requires fits { start + count ≤ length_at (S.lengths src.old) id.0 }
-    ensures walked { (folder : Folder) → S.keeps src.new folder →
+    ensures walked { (file_system : FileSystem) → S.consistent src.new file_system →
         IfOk result (λ stopped. walk V.step (V.state visitor.old)
-        (take count (drop start (S.table src.old folder id.0))) ≡ (V.state visitor.new, stopped)) }
+        (take count (drop start (S.table src.old file_system id.0))) ≡ (V.state visitor.new, stopped)) }
     ensures stays { OnErr result (V.state visitor.new ≡ V.state visitor.old) }
     ensures count { S.failures src.new ≡ count_after (is_err result) (S.failures src.old) }
     ensures source { LeavesSource ⟦<S as Source>⟧ src.old src.new }

@@ -1,12 +1,12 @@
 // Output of cords.
 ghost use Rattle.std.specs.Prelude.{◌≡◌, ◌+◌, ◌<◌, ◌≤◌, ◌++◌, OnOk, OnErr, IsOk, length};
-ghost use Rattle.cord_io.specs.Device.{Folder};
+ghost use Rattle.cord_io.specs.Device.{FileSystem};
 ghost use Rattle.cord_io.specs.Frames.{LeavesSource};
 ghost use Rattle.cord_io.specs.Table.{length_at};
 ghost use Rattle.cord_node.specs.Tree.{IsSound};
 ghost use Rattle.cord_node.specs.Tables.{FitsIn};
 ghost use Rattle.cord_core.specs.Cord.{text_len, bytes_of, CordFitsIn};
-ghost use Rattle.cord_iter.specs.Output.{IsFrontOf, Takes, CountsFaults, failures_of};
+ghost use Rattle.cord_iter.specs.Output.{IsPrefixOf, Takes, CountsFaults, failures_of};
 ghost use Rattle.cord_iter.specs.inner.Output.{IsTextOver, IsPrefixOver};
 
 use crate::pieces::{piece_len, put_all, put_run};
@@ -18,8 +18,8 @@ use cord_io::{CordError, MAX_LEN, Sink, Source, SourceId};
 /// after a short `put` the rest, a run in pieces of at most 512 bytes, a function part of more than 512 bytes in pieces
 /// of at most 4,096, and either by 65,536 bytes where it is that long, a function part behind its first 512. Refused
 /// with `ReadFailed` where a read failed and with `WriteFailed` where a `put` failed: then the sink has taken a prefix
-/// of the text. The text is that over the table of each folder that `src` keeps after the call, and as many bytes are
-/// taken whatever it keeps. It doesn't finish the sink.
+/// of the text. The text is that over the table of each file system that `src` keeps after the call, and as many bytes
+/// are taken whatever it keeps. It doesn't finish the sink.
 ///
 /// Each function part lies inside an entry of `src`: so it is with every cord over no files, with those that `src` made
 /// where it is a `Sources`, and with what `cat`, `substr` and the others make of them.
@@ -45,10 +45,10 @@ use cord_io::{CordError, MAX_LEN, Sink, Source, SourceId};
 /// ```
 pub fn put<S: Source, W: Sink>(cord: &Cord, src: &mut S, sink: &mut W) -> Result<(), CordError>
     requires fits { CordFitsIn (S.lengths src.old) cord.now }
-    ensures text { (folder : Folder) → S.keeps src.new folder →
-        OnOk result (W.taken sink.new ≡ W.taken sink.old ++ bytes_of (S.table src.old folder) cord.now) }
-    ensures prefix { (folder : Folder) → S.keeps src.new folder →
-        OnErr result (Takes (IsFrontOf (bytes_of (S.table src.old folder) cord.now)) (W.taken sink.old)
+    ensures text { (file_system : FileSystem) → S.consistent src.new file_system →
+        OnOk result (W.taken sink.new ≡ W.taken sink.old ++ bytes_of (S.table src.old file_system) cord.now) }
+    ensures prefix { (file_system : FileSystem) → S.consistent src.new file_system →
+        OnErr result (Takes (IsPrefixOf (bytes_of (S.table src.old file_system) cord.now)) (W.taken sink.old)
         (W.taken sink.new)) }
     ensures len { OnOk result (Takes (λ out. length out ≡ text_len cord.now) (W.taken sink.old) (W.taken sink.new)) }
     ensures most { OnErr result (Takes (λ out. length out ≤ text_len cord.now) (W.taken sink.old) (W.taken sink.new)) }
@@ -69,9 +69,10 @@ pub fn put<S: Source, W: Sink>(cord: &Cord, src: &mut S, sink: &mut W) -> Result
 fn put_node<S: Source, W: Sink>(node: &Node, src: &mut S, sink: &mut W) -> Result<(), CordError>
     requires sound { IsSound node.now }
     requires fits { FitsIn (S.lengths src.old) node.now }
-    ensures text { OnOk result (Takes (IsTextOver (S.keeps src.new) (S.table src.old) node.now) (W.taken sink.old)
+    ensures text { OnOk result (Takes (IsTextOver (S.consistent src.new) (S.table src.old) node.now) (W.taken sink.old)
         (W.taken sink.new)) }
-    ensures prefix { OnErr result (Takes (IsPrefixOver (S.keeps src.new) (S.table src.old) node.now) (W.taken sink.old)
+    ensures prefix { OnErr result (Takes (IsPrefixOver (S.consistent src.new) (S.table src.old) node.now)
+        (W.taken sink.old)
         (W.taken sink.new)) }
     ensures faults { CountsFaults (failures_of ⟦<S as Source>⟧ ⟦<W as Sink>⟧ src.old sink.old)
         (failures_of ⟦<S as Source>⟧ ⟦<W as Sink>⟧ src.new sink.new) result }
@@ -110,9 +111,10 @@ fn put_func<S: Source, W: Sink>(
 ) -> Result<(), CordError>
     requires fits { start + len ≤ length_at (S.lengths src.old) id.0 }
     requires limit { start + len ≤ MAX_LEN }
-    ensures text { OnOk result (Takes (IsTextOver (S.keeps src.new) (S.table src.old) (Node.Func id len start))
+    ensures text { OnOk result (Takes (IsTextOver (S.consistent src.new) (S.table src.old) (Node.Func id len start))
         (W.taken sink.old) (W.taken sink.new)) }
-    ensures prefix { OnErr result (Takes (IsPrefixOver (S.keeps src.new) (S.table src.old) (Node.Func id len start))
+    ensures prefix { OnErr result (Takes (IsPrefixOver (S.consistent src.new) (S.table src.old)
+        (Node.Func id len start))
         (W.taken sink.old) (W.taken sink.new)) }
     ensures faults { CountsFaults (failures_of ⟦<S as Source>⟧ ⟦<W as Sink>⟧ src.old sink.old)
         (failures_of ⟦<S as Source>⟧ ⟦<W as Sink>⟧ src.new sink.new) result }
@@ -142,9 +144,10 @@ fn put_range<const N: usize, S: Source, W: Sink>(
     requires few { N ≤ BLOCK_LEN }
     requires fits { start + len ≤ length_at (S.lengths src.old) id.0 }
     requires limit { start + len ≤ MAX_LEN }
-    ensures text { OnOk result (Takes (IsTextOver (S.keeps src.new) (S.table src.old) (Node.Func id len start))
+    ensures text { OnOk result (Takes (IsTextOver (S.consistent src.new) (S.table src.old) (Node.Func id len start))
         (W.taken sink.old) (W.taken sink.new)) }
-    ensures prefix { OnErr result (Takes (IsPrefixOver (S.keeps src.new) (S.table src.old) (Node.Func id len start))
+    ensures prefix { OnErr result (Takes (IsPrefixOver (S.consistent src.new) (S.table src.old)
+        (Node.Func id len start))
         (W.taken sink.old) (W.taken sink.new)) }
     ensures faults { CountsFaults (failures_of ⟦<S as Source>⟧ ⟦<W as Sink>⟧ src.old sink.old)
         (failures_of ⟦<S as Source>⟧ ⟦<W as Sink>⟧ src.new sink.new) result }
@@ -186,10 +189,10 @@ fn put_piece<S: Source, W: Sink>(
     requires some { 0 < length piece.old }
     requires fits { start + length piece.old ≤ length_at (S.lengths src.old) id.0 }
     ensures text { OnOk result
-        (Takes (IsTextOver (S.keeps src.new) (S.table src.old) (Node.Func id (length piece.old) start))
+        (Takes (IsTextOver (S.consistent src.new) (S.table src.old) (Node.Func id (length piece.old) start))
         (W.taken sink.old) (W.taken sink.new)) }
     ensures prefix { OnErr result
-        (Takes (IsPrefixOver (S.keeps src.new) (S.table src.old) (Node.Func id (length piece.old) start))
+        (Takes (IsPrefixOver (S.consistent src.new) (S.table src.old) (Node.Func id (length piece.old) start))
         (W.taken sink.old) (W.taken sink.new)) }
     ensures faults { CountsFaults (failures_of ⟦<S as Source>⟧ ⟦<W as Sink>⟧ src.old sink.old)
         (failures_of ⟦<S as Source>⟧ ⟦<W as Sink>⟧ src.new sink.new) result }

@@ -26,9 +26,9 @@ plus_assoc a b c = same_counts (plus (plus a b) c) (plus a (plus b c)) (omega ar
 -- a chunk more is counted
 pub counted_more : (all have next : Counts) (left less : ℕ) (old chunk new : List ℕ) → plus have (counts_of (take left old)) ≡ all → old ≡ chunk ++ new →
     length chunk ≤ left → next ≡ plus have (counts_of chunk) → less ≡ left - length chunk → plus next (counts_of (take less new)) ≡ all
-counted_more all have next left less old chunk new whole front le is fewer =
+counted_more all have next left less old chunk new whole prefix le is fewer =
     let cut : take left old ≡ chunk ++ take less new =
-    ap (take left) front ∙ take-append_right chunk new left le ∙ ap (λ (k : ℕ). chunk ++ take k new) (sym fewer) in
+    ap (take left) prefix ∙ take-append_right chunk new left le ∙ ap (λ (k : ℕ). chunk ++ take k new) (sym fewer) in
     ap (λ (a : Counts). plus a (counts_of (take less new))) is ∙ plus_assoc have (counts_of chunk) (counts_of (take less new))
     ∙ ap (plus have) (sym (counts-append chunk (take less new)) ∙ ap counts_of (sym cut)) ∙ whole
 
@@ -47,13 +47,14 @@ after-le n (b ∷ x) = step (n == 0) (after-le (if is_end b then n - 1 else n) x
     step true le = omega arith
     step false le = omega (arith, le)
 
-module _ (n place target : ℕ) (old chunk new : List ℕ) (found : place + after_ends n old ≡ target) (front : old ≡ chunk ++ new) where
+module _ (n place target : ℕ) (old chunk new : List ℕ) (found : place + after_ends n old ≡ target) (prefix : old ≡ chunk ++ new) where
   -- the end is not in this chunk
   pub end_later : ends_in chunk < n → place + length chunk + after_ends (n - ends_in chunk) new ≡ target
-  end_later lt = let all : after_ends n old ≡ length chunk + after_ends (n - ends_in chunk) new = ap (after_ends n) front ∙ past_all n chunk new lt in
+  end_later lt = let all : after_ends n old ≡ length chunk + after_ends (n - ends_in chunk) new = ap (after_ends n) prefix ∙ past_all n
+      chunk new lt in
       omega (arith, found, all)
 
   -- it is in this one
   pub end_here : n ≤ ends_in chunk → place + after_ends n chunk ≡ target
-  end_here le = let all : after_ends n old ≡ after_ends n chunk = ap (after_ends n) front ∙ in_first n chunk new le in
+  end_here le = let all : after_ends n old ≡ after_ends n chunk = ap (after_ends n) prefix ∙ in_first n chunk new le in
       omega (arith, found, all)

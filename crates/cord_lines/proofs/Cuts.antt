@@ -13,7 +13,7 @@ use Rattle.cord_lines.specs.Counts.{counts_of, ends_in, plus, AreFew, AreNarrow}
 use Rattle.cord_lines.specs.inner.Blocks.{block_counts, total}
 use Rattle.cord_lines.specs.inner.Cuts.{IsCut, AreModest}
 use Rattle.cord_lines.proofs.Countings.{counts-append, ends-le, chars-le}
-use Rattle.cord_lines.proofs.Sums.{min_front, total-cons}
+use Rattle.cord_lines.proofs.Sums.{min_prefix, total-cons}
 
 pub total_is : (bs : List Block) (x : List ℕ) → IsCut bs x → total bs ≡ counts_of x
 total_is [] x c = ap counts_of (sym c)
@@ -23,22 +23,22 @@ total_is (b ∷ bs) x (piece, rest, text, here, more) =
 
 -- a text in two, between two blocks
 pub record Split (i : ℕ) (bs : List Block) (x : List ℕ) : Type 0 where
-  pub front : List ℕ
+  pub prefix : List ℕ
   pub back : List ℕ
-  pub text : x ≡ front ++ back
-  pub first : IsCut (take i bs) front
+  pub text : x ≡ prefix ++ back
+  pub first : IsCut (take i bs) prefix
   pub second : IsCut (drop i bs) back
 
 pub split : (i : ℕ) (bs : List Block) (x : List ℕ) → IsCut bs x → Split i bs x
-split zero bs x c = record { front = []; back = x; text = refl; first = refl; second = c }
-split (suc i) [] x c = record { front = []; back = x; text = refl; first = refl; second = c }
+split zero bs x c = record { prefix = []; back = x; text = refl; first = refl; second = c }
+split (suc i) [] x c = record { prefix = []; back = x; text = refl; first = refl; second = c }
 split (suc i) (b ∷ bs) x (piece, rest, text, here, more) =
     let s = split i bs rest more in
     record {
-      front = piece ++ s.front;
+      prefix = piece ++ s.prefix;
       back = s.back;
-      text = text ∙ ap (λ (y : List ℕ). piece ++ y) s.text ∙ sym (append_assoc piece s.front s.back);
-      first = (piece, s.front, refl, here, s.first);
+      text = text ∙ ap (λ (y : List ℕ). piece ++ y) s.text ∙ sym (append_assoc piece s.prefix s.back);
+      first = (piece, s.prefix, refl, here, s.first);
       second = s.second;
     }
 
@@ -48,8 +48,8 @@ joined (a ∷ cs) bs x y (piece, rest, text, here, more) d =
     (piece, rest ++ y, ap (λ (z : List ℕ). z ++ y) text ∙ append_assoc piece rest y, here, joined cs bs rest y more d)
 
 -- what is before a block
-pub front_counts : (i : ℕ) (bs : List Block) (x : List ℕ) (c : IsCut bs x) → total (take i bs) ≡ counts_of (split i bs x c).front
-front_counts i bs x c = total_is (take i bs) (split i bs x c).front (split i bs x c).first
+pub prefix_counts : (i : ℕ) (bs : List Block) (x : List ℕ) (c : IsCut bs x) → total (take i bs) ≡ counts_of (split i bs x c).prefix
+prefix_counts i bs x c = total_is (take i bs) (split i bs x c).prefix (split i bs x c).first
 
 pub few : (bs : List Block) → AreModest bs → AreFew (total bs)
 few bs m = record { bytes = omega (arith, m.bytes); ends = omega (arith, m.ends); chars = omega (arith, m.chars) }
@@ -100,32 +100,32 @@ module _ (bs : List Block) (x : List ℕ) (c : IsCut bs x) (i : ℕ) where
   abbrev s : Split i bs x
   s = split i bs x c
 
-  before : total (take i bs) ≡ counts_of s.front
-  before = front_counts i bs x c
+  before : total (take i bs) ≡ counts_of s.prefix
+  before = prefix_counts i bs x c
 
-  starts : (total (take i bs)).bytes ≡ length s.front
+  starts : (total (take i bs)).bytes ≡ length s.prefix
   starts = ap (λ (a : Counts). a.bytes) before
 
-  rest : (p : ℕ) → p ≡ length s.front → drop p x ≡ s.back
-  rest p e = ap (λ (n : ℕ). drop n x) e ∙ ap (drop (length s.front)) s.text ∙ drop-append_seam s.front s.back
+  rest : (p : ℕ) → p ≡ length s.prefix → drop p x ≡ s.back
+  rest p e = ap (λ (n : ℕ). drop n x) e ∙ ap (drop (length s.prefix)) s.text ∙ drop-append_seam s.prefix s.back
 
   pub counts_to : (p end place : ℕ) → p ≡ (total (take i bs)).bytes → p ≤ end → end ≡ min (length x) place →
       plus (total (take i bs)) (counts_of (take (end - p) (drop p x))) ≡ counts_of (take place x)
   counts_to p end place e le min-is =
-      let p-is : p ≡ length s.front = e ∙ starts in
-      let reach : length s.front ≤ end = omega (arith, p-is, le) in
+      let p-is : p ≡ length s.prefix = e ∙ starts in
+      let reach : length s.prefix ≤ end = omega (arith, p-is, le) in
       ap (λ (a : Counts). plus a (counts_of (take (end - p) (drop p x)))) before
-      ∙ ap (λ (y : List ℕ). plus (counts_of s.front) (counts_of (take (end - p) y))) (rest p p-is)
-      ∙ ap (λ (n : ℕ). plus (counts_of s.front) (counts_of (take (end - n) s.back))) p-is
-      ∙ sym (counts-append s.front (take (end - length s.front) s.back))
-      ∙ ap counts_of (sym (take-append_right s.front s.back end reach) ∙ ap (take end) (sym s.text) ∙ min_front x place end min-is)
+      ∙ ap (λ (y : List ℕ). plus (counts_of s.prefix) (counts_of (take (end - p) y))) (rest p p-is)
+      ∙ ap (λ (n : ℕ). plus (counts_of s.prefix) (counts_of (take (end - n) s.back))) p-is
+      ∙ sym (counts-append s.prefix (take (end - length s.prefix) s.back))
+      ∙ ap counts_of (sym (take-append_right s.prefix s.back end reach) ∙ ap (take end) (sym s.text) ∙ min_prefix x place end min-is)
 
   pub start_at : (from n : ℕ) → from ≡ min (total (take i bs)).bytes (length x) → (total (take i bs)).ends < n →
       from + after_ends (n - (total (take i bs)).ends) (drop from x) ≡ after_ends n x
   start_at from n e lt =
-      let ends : (total (take i bs)).ends ≡ ends_in s.front = ap (λ (a : Counts). a.ends) before in
-      let len : length x ≡ length s.front + length s.back = ap (λ (y : List ℕ). length y) s.text ∙ length-append s.front s.back in
-      let from-is : from ≡ length s.front = omega (arith, e, starts, len) in
+      let ends : (total (take i bs)).ends ≡ ends_in s.prefix = ap (λ (a : Counts). a.ends) before in
+      let len : length x ≡ length s.prefix + length s.back = ap (λ (y : List ℕ). length y) s.text ∙ length-append s.prefix s.back in
+      let from-is : from ≡ length s.prefix = omega (arith, e, starts, len) in
       ap (λ (y : List ℕ). from + after_ends (n - (total (take i bs)).ends) y) (rest from from-is)
-      ∙ ap (λ (k : ℕ). from + after_ends (n - k) s.back) ends ∙ ap (λ (k : ℕ). k + after_ends (n - ends_in s.front) s.back) from-is
-      ∙ sym (past_all n s.front s.back (omega (arith, lt, ends))) ∙ ap (after_ends n) (sym s.text)
+      ∙ ap (λ (k : ℕ). from + after_ends (n - k) s.back) ends ∙ ap (λ (k : ℕ). k + after_ends (n - ends_in s.prefix) s.back) from-is
+      ∙ sym (past_all n s.prefix s.back (omega (arith, lt, ends))) ∙ ap (after_ends n) (sym s.text)

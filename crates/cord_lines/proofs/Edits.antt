@@ -24,15 +24,16 @@ module _ (a m z after fresh : List ℕ) (st rem : ℕ) (from : length a ≤ st) 
   abbrev pub middle : List ℕ
   middle = (take k m ++ fresh) ++ drop (k + rem) m
 
-  front : take st (a ++ (m ++ z)) ≡ a ++ take k m
-  front = take-append_right a (m ++ z) st from ∙ ap (λ (y : List ℕ). a ++ y) (take-append-le k m z (omega (arith, from, to)))
+  prefix : take st (a ++ (m ++ z)) ≡ a ++ take k m
+  prefix = take-append_right a (m ++ z) st from ∙ ap (λ (y : List ℕ). a ++ y) (take-append-le k m z (omega (arith, from, to)))
 
   back : drop (st + rem) (a ++ (m ++ z)) ≡ drop (k + rem) m ++ z
   back = (let n : (st + rem) - length a ≡ k + rem = omega (arith, from) in
       drop-append_right a (m ++ z) (st + rem) (omega (arith, from)) ∙ ap (λ (i : ℕ). drop i (m ++ z)) n ∙ drop-append-le (k + rem) m z (omega (arith, from, to)))
 
   pub after_is : after ≡ a ++ (middle ++ z)
-  after_is = text ∙ ap (λ (y : List ℕ). (y ++ fresh) ++ drop (st + rem) (a ++ (m ++ z))) front ∙ ap (λ (y : List ℕ). ((a ++ take k m) ++ fresh) ++ y) back
+  after_is = text ∙ ap (λ (y : List ℕ). (y ++ fresh) ++ drop (st + rem) (a ++ (m ++ z))) prefix ∙
+      ap (λ (y : List ℕ). ((a ++ take k m) ++ fresh) ++ y) back
       ∙ regroup a (take k m) fresh (drop (k + rem) m) z
 
   pub middle-len : length middle ≡ length m - rem + length fresh
@@ -52,54 +53,57 @@ module _ (bs news : List Block) (x after : List ℕ) (c : IsCut bs x) (st rem in
   abbrev r : Split count (drop first bs) s.back
   r = split count (drop first bs) s.back s.second
 
-  text : x ≡ s.front ++ (r.front ++ r.back)
-  text = s.text ∙ ap (λ (y : List ℕ). s.front ++ y) r.text
+  text : x ≡ s.prefix ++ (r.prefix ++ r.back)
+  text = s.text ∙ ap (λ (y : List ℕ). s.prefix ++ y) r.text
 
-  front-len : start ≡ length s.front
-  front-len = here ∙ ap (λ (a : Counts). a.bytes) (total_is (take first bs) s.front s.first)
+  prefix-len : start ≡ length s.prefix
+  prefix-len = here ∙ ap (λ (a : Counts). a.bytes) (total_is (take first bs) s.prefix s.first)
 
-  both : IsCut (take (first + count) bs) (s.front ++ r.front)
-  both = subst (λ (ys : List Block). IsCut ys (s.front ++ r.front)) (sym (take-add first count bs)) (joined (take first bs) (take count (drop first bs)) s.front r.front s.first r.first)
+  both : IsCut (take (first + count) bs) (s.prefix ++ r.prefix)
+  both = subst (λ (ys : List Block). IsCut ys (s.prefix ++ r.prefix)) (sym (take-add first count bs))
+      (joined (take first bs) (take count (drop first bs)) s.prefix r.prefix s.first r.first)
 
-  middle-is : bytes ≡ length r.front
-  middle-is = (let all = end ∙ ap (λ (a : Counts). a.bytes) (total_is (take (first + count) bs) (s.front ++ r.front) both) in
-      omega (arith, all, front-len, length-append s.front r.front))
+  middle-is : bytes ≡ length r.prefix
+  middle-is = (let all = end ∙ ap (λ (a : Counts). a.bytes) (total_is (take (first + count) bs) (s.prefix ++ r.prefix) both) in
+      omega (arith, all, prefix-len, length-append s.prefix r.prefix))
 
-  edited : after ≡ take st (s.front ++ (r.front ++ r.back)) ++ e.fresh ++ drop (st + rem) (s.front ++ (r.front ++ r.back))
+  edited : after ≡ take st (s.prefix ++ (r.prefix ++ r.back)) ++ e.fresh ++ drop (st + rem) (s.prefix ++ (r.prefix ++ r.back))
   edited = subst (λ (y : List ℕ). after ≡ take st y ++ e.fresh ++ drop (st + rem) y) text e.text
 
-  a-from : length s.front ≤ st
-  a-from = omega (arith, front-len, from)
+  a-from : length s.prefix ≤ st
+  a-from = omega (arith, prefix-len, from)
 
-  a-to : st + rem ≤ length s.front + length r.front
-  a-to = omega (arith, front-len, middle-is, to)
+  a-to : st + rem ≤ length s.prefix + length r.prefix
+  a-to = omega (arith, prefix-len, middle-is, to)
 
-  there : take len (drop start after) ≡ middle s.front r.front r.back after e.fresh st rem a-from a-to edited
-  there = ap (λ (n : ℕ). take len (drop n after)) front-len
-      ∙ middle_at s.front r.front r.back after e.fresh st rem a-from a-to edited len (omega (arith, new-len, middle-is, e.count))
+  there : take len (drop start after) ≡ middle s.prefix r.prefix r.back after e.fresh st rem a-from a-to edited
+  there = ap (λ (n : ℕ). take len (drop n after)) prefix-len
+      ∙ middle_at s.prefix r.prefix r.back after e.fresh st rem a-from a-to edited len (omega (arith, new-len, middle-is, e.count))
 
   -- new blocks of the middle one
   pub renewed : IsCut news (take len (drop start after)) → IsCut (take first bs ++ news ++ drop (first + count) bs) after
   renewed n = subst (λ (y : List ℕ). IsCut (take first bs ++ news ++ drop (first + count) bs) y)
-      (sym (after_is s.front r.front r.back after e.fresh st rem a-from a-to edited))
-      (subst (λ (ys : List Block). IsCut ys (s.front ++ (middle s.front r.front r.back after e.fresh st rem a-from a-to edited ++ r.back)))
+      (sym (after_is s.prefix r.prefix r.back after e.fresh st rem a-from a-to edited))
+      (subst (λ (ys : List Block). IsCut ys (s.prefix ++ (middle s.prefix r.prefix r.back after e.fresh st rem a-from a-to edited ++
+      r.back)))
       (sym (append_assoc (take first bs) news (drop (first + count) bs)))
-      (joined (take first bs) (news ++ drop (first + count) bs) s.front (middle s.front r.front r.back after e.fresh st rem a-from a-to edited ++ r.back) s.first
-      (joined news (drop (first + count) bs) (middle s.front r.front r.back after e.fresh st rem a-from a-to edited) r.back
+      (joined (take first bs) (news ++ drop (first + count) bs) s.prefix
+      (middle s.prefix r.prefix r.back after e.fresh st rem a-from a-to edited ++ r.back) s.first
+      (joined news (drop (first + count) bs) (middle s.prefix r.prefix r.back after e.fresh st rem a-from a-to edited) r.back
       (subst (λ (y : List ℕ). IsCut news y) there n)
       (subst (λ (ys : List Block). IsCut ys r.back) (drop-drop count first bs) r.second))))
 
   -- which lie in the text
   pub inside : start + len ≤ length after
-  inside = (let all = ap (λ (y : List ℕ). length y) (after_is s.front r.front r.back after e.fresh st rem a-from a-to edited) in
+  inside = (let all = ap (λ (y : List ℕ). length y) (after_is s.prefix r.prefix r.back after e.fresh st rem a-from a-to edited) in
       omega (
         arith,
         all,
-        front-len,
+        prefix-len,
         new-len,
         middle-is,
         e.count,
-        length-append s.front (middle s.front r.front r.back after e.fresh st rem a-from a-to edited ++ r.back),
-        length-append (middle s.front r.front r.back after e.fresh st rem a-from a-to edited) r.back,
-        middle-len s.front r.front r.back after e.fresh st rem a-from a-to edited,
+        length-append s.prefix (middle s.prefix r.prefix r.back after e.fresh st rem a-from a-to edited ++ r.back),
+        length-append (middle s.prefix r.prefix r.back after e.fresh st rem a-from a-to edited) r.back,
+        middle-len s.prefix r.prefix r.back after e.fresh st rem a-from a-to edited,
       ))

@@ -30,13 +30,14 @@ all-cons c cs = same_counts (sum_of_all (c ∷ cs)) (plus c (sum_of_all cs)) (su
     (sum_by-cons (λ (d : Counts). d.ends) c cs) (sum_by-cons (λ (d : Counts). d.chars) c cs)
 
 -- the first groups
-pub sums_front : (i : ℕ) (sums : List Counts) (bs : List Block) → AreSumsOf sums bs → sum_of_all (take i sums) ≡ total (take (i * 256) bs)
-sums_front zero sums bs s = let none : 0 ≡ 0 * 256 = omega arith in ap (λ (n : ℕ). total (take n bs)) none
-sums_front (suc i) [] bs s = sym (ap (λ (y : List Block). total (take (suc i * 256) y)) s ∙ ap total (take_all (suc i * 256) [] (omega arith)))
-sums_front (suc i) (sum ∷ sums) bs (here, some, more) =
+pub sums_prefix : (i : ℕ) (sums : List Counts) (bs : List Block) → AreSumsOf sums bs → sum_of_all (take i sums) ≡ total (take (i * 256) bs)
+sums_prefix zero sums bs s = let none : 0 ≡ 0 * 256 = omega arith in ap (λ (n : ℕ). total (take n bs)) none
+sums_prefix (suc i) [] bs s = sym (ap (λ (y : List Block). total (take (suc i * 256) y)) s ∙ ap total
+    (take_all (suc i * 256) [] (omega arith)))
+sums_prefix (suc i) (sum ∷ sums) bs (here, some, more) =
     let more-is : 256 + i * 256 ≡ suc i * 256 = omega arith in
     all-cons sum (take i sums) ∙ ap (λ (a : Counts). plus a (sum_of_all (take i sums))) here
-    ∙ ap (plus (total (take 256 bs))) (sums_front i sums (drop 256 bs) more)
+    ∙ ap (plus (total (take 256 bs))) (sums_prefix i sums (drop 256 bs) more)
     ∙ sym (total-append (take 256 bs) (take (i * 256) (drop 256 bs)))
     ∙ ap total (sym (take-add 256 (i * 256) bs)) ∙ ap (λ (n : ℕ). total (take n bs)) more-is
 
@@ -144,16 +145,16 @@ pub sums_as : (cs ds : List Counts) (xs ys : List Block) → cs ≡ ds → xs �
 sums_as cs ds xs ys e f s = subst (λ (y : List Counts). AreSumsOf y ys) (sym e) (subst (λ (y : List Block). AreSumsOf ds y) f s)
 
 module _ {A : Type 0} (xs : List A) (n m : ℕ) (e : m ≡ min (length xs) n) where
-  front_cases : (le : Bool) → nat_le n (length xs) ≡ le → take m xs ≡ take n xs
-  front_cases true h = let is : m ≡ n = grind (arith, nat_tests) in ap (λ (k : ℕ). take k xs) is
-  front_cases false h = take_all m xs (grind (arith, nat_tests)) ∙ sym (take_all n xs (grind (arith, nat_tests)))
+  prefix_cases : (le : Bool) → nat_le n (length xs) ≡ le → take m xs ≡ take n xs
+  prefix_cases true h = let is : m ≡ n = grind (arith, nat_tests) in ap (λ (k : ℕ). take k xs) is
+  prefix_cases false h = take_all m xs (grind (arith, nat_tests)) ∙ sym (take_all n xs (grind (arith, nat_tests)))
 
   back_cases : (le : Bool) → nat_le n (length xs) ≡ le → drop m xs ≡ drop n xs
   back_cases true h = let is : m ≡ n = grind (arith, nat_tests) in ap (λ (k : ℕ). drop k xs) is
   back_cases false h = drop_all m xs (grind (arith, nat_tests)) ∙ sym (drop_all n xs (grind (arith, nat_tests)))
 
-  pub min_front : take m xs ≡ take n xs
-  min_front = front_cases (nat_le n (length xs)) refl
+  pub min_prefix : take m xs ≡ take n xs
+  min_prefix = prefix_cases (nat_le n (length xs)) refl
 
   pub min_back : drop m xs ≡ drop n xs
   min_back = back_cases (nat_le n (length xs)) refl

@@ -91,7 +91,7 @@ impl Model for Blocks {
 }
 
 impl Blocks {
-    /// These blocks. Refused for want of memory alone.
+    /// These blocks. Refused only when out of memory.
     pub(crate) fn of(alloc: Global, blocks: Vec<Block>) -> Result<Blocks, CordError>
         ensures blocks { IfOk result (λ made. made ≡ blocks.items) }
         ensures refused { IsOkUnless result NoMemory }
@@ -185,7 +185,7 @@ impl Blocks {
         self.sums[group] = sum_of(&rest[..rest.len().min(GROUP)]);
     }
 
-    /// Puts blocks into the place of `count` others. Refused for want of memory alone, and then all is as it was.
+    /// Puts blocks into the place of `count` others. Refused only when out of memory, and then all is as it was.
     pub(crate) fn replace(
         &mut self,
         alloc: Global,
@@ -253,8 +253,8 @@ fn sums_of(alloc: Global, blocks: &[Block]) -> Result<Vec<Counts>, CordError>
     let mut sums = Vec::with_capacity(alloc, blocks.len() / GROUP + 1)?;
     let mut rest = blocks;
     while !rest.is_empty() {
-        let (front, back) = rest.split_at(rest.len().min(GROUP));
-        sums.push(sum_of(front))?;
+        let (prefix, back) = rest.split_at(rest.len().min(GROUP));
+        sums.push(sum_of(prefix))?;
         rest = back;
     }
     Ok(sums)

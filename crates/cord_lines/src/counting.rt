@@ -68,8 +68,8 @@ fn count_bytes(bytes: &[u8]) -> Counts
     let mut chars = 0;
     let mut rest = bytes;
     while !rest.is_empty() {
-        let (front, back) = rest.split_at(rest.len().min(FEW));
-        let few = count_few(front);
+        let (prefix, back) = rest.split_at(rest.len().min(FEW));
+        let few = count_few(prefix);
         ends += u64::from(few.0);
         chars += u64::from(few.1);
         rest = back;

@@ -15,7 +15,7 @@ pub(crate) const BLOCK: u64 = 8_192;
 pub(crate) const LARGEST: u64 = 32_767;
 
 /// The blocks of what a text has from one place up to another, of so many bytes each, the last one of less than twice
-/// as many. Refused for want of memory alone.
+/// as many. Refused only when out of memory.
 pub(crate) fn cut(
     alloc: Global,
     text: &Text,

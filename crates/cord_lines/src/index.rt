@@ -31,7 +31,7 @@ pub struct LineIndex {
 impl LineIndex {
     ghost use Rattle.cord_lines.specs.Index.{IsIndexBefore, IsIndexOf};
 
-    /// The index of a text. Each byte is counted once. Refused for want of memory alone.
+    /// The index of a text. Each byte is counted once. Refused only when out of memory.
     pub fn of(alloc: Global, text: &Text) -> Result<LineIndex, CordError>
         ensures index { IfOk result (λ index. IsIndexOf index text.now) }
         ensures refused { IsOkUnless result NoMemory }
@@ -83,7 +83,7 @@ impl LineIndex {
     }
 
     /// Line `n`, from 0, with its end or without it: none where there are no more than `n` lines. It shares the tree of
-    /// the text. Refused for want of memory alone.
+    /// the text. Refused only when out of memory.
     pub fn line(&self, alloc: Global, text: &Text, n: u64) -> Result<Option<Text>, CordError>
         ensures line { IsIndexOf self.now text.now → IfOk result (λ line. line ≡ slice_get (lines text.now) n) }
         ensures refused { IsOkUnless result NoMemory }
@@ -98,7 +98,7 @@ impl LineIndex {
     }
     /// Makes it the index of the text after an edit: `inserted` bytes stand from `start` on in the place of `removed`
     /// others of the text before. Only the blocks that the edit meets are counted once more, and the new bytes. Refused
-    /// for want of memory alone, and then it is as it was.
+    /// only when out of memory, and then it is as it was.
     pub fn edited(
         &mut self,
         alloc: Global,

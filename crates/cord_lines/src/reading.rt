@@ -3,11 +3,11 @@ ghost use Rattle.std.specs.Prelude.{◌≡◌, ◌+◌, ◌-◌, ◌<◌, ◌≤
 ghost use Rattle.cord.specs.Chunks.{chunk_bytes};
 ghost use Rattle.cord_lines.specs.Counts.{counts_of};
 ghost use Rattle.cord_lines.specs.Lines.{after_ends};
-ghost use Rattle.cord_lines.specs.inner.Reading.{GivesFront};
+ghost use Rattle.cord_lines.specs.inner.Reading.{GivesPrefix};
 
 use crate::counting::{Counts, count_chunk};
 use cord::{Chunk, Text};
-use cord_pos::{Position, Stretch};
+use cord_pos::{Position, Span};
 use std::marker::Model;
 
 /// The most bytes that are looked at one by one for the end of a line.
@@ -49,18 +49,18 @@ impl<'a> Reader<'a> {
     // Bytes of one part with which it begins, at most so many, and goes past them.
     fn next(&mut self, most: u64) -> Option<Chunk<'a>>
         requires { 0 < most }
-        ensures { GivesFront self.old most result self.new }
+        ensures { GivesPrefix self.old most result self.new }
     {
         let Some(ahead) = self.position.ahead() else {
             return None;
         };
-        let stretch = ahead.up_to(ahead.len().min(most));
-        self.place += stretch.len();
+        let span = ahead.up_to(ahead.len().min(most));
+        self.place += span.len();
         self.position.move_to(self.place);
-        match stretch {
-            Stretch::Bytes(bytes) => Some(Chunk::Bytes(bytes)),
-            Stretch::Run { byte, len } => Some(Chunk::Run { byte, count: len }),
-            Stretch::Func { .. } => unreachable!(),
+        match span {
+            Span::Bytes(bytes) => Some(Chunk::Bytes(bytes)),
+            Span::Run { byte, len } => Some(Chunk::Run { byte, count: len }),
+            Span::Func { .. } => unreachable!(),
         }
     }
 }

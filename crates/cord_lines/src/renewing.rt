@@ -31,7 +31,7 @@ struct Span {
     bytes: u64,
 }
 
-/// The blocks of the text after an edit: those that the edit meets are counted once more. Refused for want of memory
+/// The blocks of the text after an edit: those that the edit meets are counted once more. Refused when out of memory
 /// alone, and then all is as it was.
 pub(crate) fn renew(
     blocks: &mut Blocks,

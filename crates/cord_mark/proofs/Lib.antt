@@ -1,3 +1,3 @@
 pub mod Token
 pub mod Marks
-pub mod Told
+pub mod Reported

@@ -18,7 +18,7 @@ use denote.Opens.{unhide}
 use denote.Struct.Members.{Member}
 use Rattle.core.proofs.cell.Inside.{round, wraps, unwraps}
 use Rattle.cord_mark.specs.Part.{Part}
-use Rattle.cord_mark.specs.inner.Ownership.{fields_at, told}
+use Rattle.cord_mark.specs.inner.Ownership.{fields_at, reported}
 use Rattle.cord_mark.specs.contracts.mark.Mark as mark
 use Rattle.cord_mark.specs.contracts.mark.Mark.TheInside as inside
 
@@ -43,7 +43,7 @@ module _ {M : Type 1} {𝓤 : Ura M} {𝓛 : Logic 𝓤} {K : Type 0} {Γ : List
 
   -- [the name's word; what reaches the fields]
   pub named : K → {κ : Lft} (parts : List Part)
-      → ((γ : GName) → Seq K 𝓛 (‵ (told γ parts b o) ∷ ‵ (na_bor κ (γ, 0) (fields_at Fields b o)) ∷ Γ) G)
+      → ((γ : GName) → Seq K 𝓛 (‵ (reported γ parts b o) ∷ ‵ (na_bor κ (γ, 0) (fields_at Fields b o)) ∷ Γ) G)
       → Seq K 𝓛 (‵ (hidden_shr mark.the_row κ parts b o) ∷ Γ) G
   named t parts k = unhide t $ fpick t (λ γ. fsplit t $ k γ)
 

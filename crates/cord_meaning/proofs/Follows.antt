@@ -5,7 +5,7 @@ use Rattle.std.specs.Prelude.{slice_get, if◌then◌else◌}
 use Rattle.cord_meaning.specs.declared.ends.End.{End}
 use Rattle.cord_meaning.specs.declared.ends.FaultKind.{FaultKind}
 use Rattle.cord_meaning.specs.declared.ends.FaultKind.TheVariants.{TooManyTurns}
-use Rattle.cord_meaning.specs.Blocks.{Shape, Simple, Loop, Branch, Otherwise, Close, IsNested, to_end, to_else, jump_at, jump_of}
+use Rattle.cord_meaning.specs.Blocks.{Shape, Straight, Loop, Branch, Otherwise, Close, IsNested, to_end, to_else, jump_at, jump_of}
 use Rattle.cord_meaning.specs.Paths.{opened, open_at, NextOf, NextOfClose, Next}
 use Rattle.cord_meaning.specs.Machine.{Rules, Block, Turns, Chosen, Config, acted, begins, turned, faults, notes, repeats, chooses, closes}
 use Rattle.cord_meaning.specs.Machine.{if_running, jump_from, runs_shape, runs, after}
@@ -51,17 +51,17 @@ module _ (shapes : List Shape) where
       ap (λ (n : ℕ). open_at shapes n) one ∙ ap (λ (w : Option Shape). opened p (open_at shapes p) w) e
 
   module _ (r : ℕ) (rest : List (Option ℕ)) where
-    behind_loop : (p : ℕ) (xs : List (Option ℕ)) → slice_get shapes p ≡ Some Loop → Some p ∷ open_at shapes p ≡ xs ++ (Some r ∷ rest) →
+    after_loop : (p : ℕ) (xs : List (Option ℕ)) → slice_get shapes p ≡ Some Loop → Some p ∷ open_at shapes p ≡ xs ++ (Some r ∷ rest) →
         ((ys : List (Option ℕ)) → open_at shapes p ≡ ys ++ (Some r ∷ rest) → open_at shapes (r + 1) ≡ Some r ∷ rest) →
         open_at shapes (r + 1) ≡ Some r ∷ rest
-    behind_loop p [] s e ih = let same : p ≡ r = ap first_place e in
+    after_loop p [] s e ih = let same : p ≡ r = ap first_place e in
         subst (λ (n : ℕ). open_at shapes (n + 1) ≡ Some r ∷ rest) same (open_next p (Some Loop) s ∙ e)
-    behind_loop p (y ∷ ys) s e ih = ih ys (ap outer e)
+    after_loop p (y ∷ ys) s e ih = ih ys (ap outer e)
 
-    behind_branch : (p : ℕ) (xs : List (Option ℕ)) → None ∷ open_at shapes p ≡ xs ++ (Some r ∷ rest) →
+    after_branch : (p : ℕ) (xs : List (Option ℕ)) → None ∷ open_at shapes p ≡ xs ++ (Some r ∷ rest) →
         ((ys : List (Option ℕ)) → open_at shapes p ≡ ys ++ (Some r ∷ rest) → open_at shapes (r + 1) ≡ Some r ∷ rest) →
         open_at shapes (r + 1) ≡ Some r ∷ rest
-    behind_branch p [] e ih = absurd (differ (ap is_loop e))
+    after_branch p [] e ih = absurd (differ (ap is_loop e))
       where
         is_loop : List (Option ℕ) → Bool
         is_loop (Some q ∷ blocks) = true
@@ -69,29 +69,29 @@ module _ (shapes : List Shape) where
 
         differ : false ≡ true → ⊥
         differ e = cc
-    behind_branch p (y ∷ ys) e ih = ih ys (ap outer e)
+    after_branch p (y ∷ ys) e ih = ih ys (ap outer e)
 
-    behind_close : (p : ℕ) (xs stack : List (Option ℕ)) → open_at shapes p ≡ stack → opened p stack (Some Close) ≡ xs ++ (Some r ∷ rest) →
+    after_close : (p : ℕ) (xs stack : List (Option ℕ)) → open_at shapes p ≡ stack → opened p stack (Some Close) ≡ xs ++ (Some r ∷ rest) →
         ((ys : List (Option ℕ)) → open_at shapes p ≡ ys ++ (Some r ∷ rest) → open_at shapes (r + 1) ≡ Some r ∷ rest) →
         open_at shapes (r + 1) ≡ Some r ∷ rest
-    behind_close p xs [] k e ih = absurd (not_nil xs (Some r) rest (sym e))
-    behind_close p xs (b ∷ stack) k e ih = ih (b ∷ xs) (k ∙ ap (λ (ys : List (Option ℕ)). b ∷ ys) e)
+    after_close p xs [] k e ih = absurd (not_nil xs (Some r) rest (sym e))
+    after_close p xs (b ∷ stack) k e ih = ih (b ∷ xs) (k ∙ ap (λ (ys : List (Option ℕ)). b ∷ ys) e)
 
-    behind_one : (p : ℕ) (xs : List (Option ℕ)) (o : Option Shape) → slice_get shapes p ≡ o →
+    after_one : (p : ℕ) (xs : List (Option ℕ)) (o : Option Shape) → slice_get shapes p ≡ o →
         opened p (open_at shapes p) o ≡ xs ++ (Some r ∷ rest) →
         ((ys : List (Option ℕ)) → open_at shapes p ≡ ys ++ (Some r ∷ rest) → open_at shapes (r + 1) ≡ Some r ∷ rest) →
         open_at shapes (r + 1) ≡ Some r ∷ rest
-    behind_one p xs None s e ih = ih xs e
-    behind_one p xs (Some Simple) s e ih = ih xs e
-    behind_one p xs (Some Otherwise) s e ih = ih xs e
-    behind_one p xs (Some Loop) s e ih = behind_loop p xs s e ih
-    behind_one p xs (Some Branch) s e ih = behind_branch p xs e ih
-    behind_one p xs (Some Close) s e ih = behind_close p xs (open_at shapes p) refl e ih
+    after_one p xs None s e ih = ih xs e
+    after_one p xs (Some Straight) s e ih = ih xs e
+    after_one p xs (Some Otherwise) s e ih = ih xs e
+    after_one p xs (Some Loop) s e ih = after_loop p xs s e ih
+    after_one p xs (Some Branch) s e ih = after_branch p xs e ih
+    after_one p xs (Some Close) s e ih = after_close p xs (open_at shapes p) refl e ih
 
     -- the blocks that are open inside an open `repeat`, at its first place
-    open_behind : (p : ℕ) (xs : List (Option ℕ)) → open_at shapes p ≡ xs ++ (Some r ∷ rest) → open_at shapes (r + 1) ≡ Some r ∷ rest
-    open_behind zero xs e = absurd (not_nil xs (Some r) rest (sym e))
-    open_behind (suc p) xs e = behind_one p xs (slice_get shapes p) refl e (λ ys k. open_behind p ys k)
+    open_after : (p : ℕ) (xs : List (Option ℕ)) → open_at shapes p ≡ xs ++ (Some r ∷ rest) → open_at shapes (r + 1) ≡ Some r ∷ rest
+    open_after zero xs e = absurd (not_nil xs (Some r) rest (sym e))
+    open_after (suc p) xs e = after_one p xs (slice_get shapes p) refl e (λ ys k. open_after p ys k)
 
   -- what stands at q is passed over, with the blocks that it opens
   abbrev Passed : ℕ → List Shape → ℕ → ℕ → Type 0
@@ -113,8 +113,8 @@ module _ (shapes : List Shape) where
       Passed q ls d (to_end d ls)
   end_comes [] q d [] here n lt = absurd (omega arith)
   end_comes [] q d (b ∷ st) here n lt = absurd n
-  end_comes (Simple ∷ ls) q d st here n lt = passed_on q (to_end d ls) d d Simple ls here refl
-      (end_comes ls (q + 1) d st (next_here shapes q Simple ls here) n lt)
+  end_comes (Straight ∷ ls) q d st here n lt = passed_on q (to_end d ls) d d Straight ls here refl
+      (end_comes ls (q + 1) d st (next_here shapes q Straight ls here) n lt)
   end_comes (Loop ∷ ls) q d st here n lt = passed_on q (to_end (suc d) ls) d (suc d) Loop ls here refl
       (end_comes ls (q + 1) (suc d) (false ∷ st) (next_here shapes q Loop ls here) n (omega arith))
   end_comes (Branch ∷ ls) q d st here n lt = passed_on q (to_end (suc d) ls) d (suc d) Branch ls here refl
@@ -134,8 +134,8 @@ module _ (shapes : List Shape) where
       slice_get shapes (q + to_end d ls) ≡ Some Close
   end_stands [] q d [] here n lt = absurd (omega arith)
   end_stands [] q d (b ∷ st) here n lt = absurd n
-  end_stands (Simple ∷ ls) q d st here n lt = let one : q + suc (to_end d ls) ≡ q + 1 + to_end d ls = omega arith in
-      ap (λ (m : ℕ). slice_get shapes m) one ∙ end_stands ls (q + 1) d st (next_here shapes q Simple ls here) n lt
+  end_stands (Straight ∷ ls) q d st here n lt = let one : q + suc (to_end d ls) ≡ q + 1 + to_end d ls = omega arith in
+      ap (λ (m : ℕ). slice_get shapes m) one ∙ end_stands ls (q + 1) d st (next_here shapes q Straight ls here) n lt
   end_stands (Loop ∷ ls) q d st here n lt = let one : q + suc (to_end (suc d) ls) ≡ q + 1 + to_end (suc d) ls = omega arith in
       ap (λ (m : ℕ). slice_get shapes m) one ∙ end_stands ls (q + 1) (suc d) (false ∷ st) (next_here shapes q Loop ls here) n (omega arith)
   end_stands (Branch ∷ ls) q d st here n lt = let one : q + suc (to_end (suc d) ls) ≡ q + 1 + to_end (suc d) ls = omega arith in
@@ -155,8 +155,8 @@ module _ (shapes : List Shape) where
       Passed q ls d (to_else d ls)
   else_comes [] q d [] here n lt = absurd (omega arith)
   else_comes [] q d (b ∷ st) here n lt = absurd n
-  else_comes (Simple ∷ ls) q d st here n lt = passed_on q (to_else d ls) d d Simple ls here refl
-      (else_comes ls (q + 1) d st (next_here shapes q Simple ls here) n lt)
+  else_comes (Straight ∷ ls) q d st here n lt = passed_on q (to_else d ls) d d Straight ls here refl
+      (else_comes ls (q + 1) d st (next_here shapes q Straight ls here) n lt)
   else_comes (Loop ∷ ls) q d st here n lt = passed_on q (to_else (suc d) ls) d (suc d) Loop ls here refl
       (else_comes ls (q + 1) (suc d) (false ∷ st) (next_here shapes q Loop ls here) n (omega arith))
   else_comes (Branch ∷ ls) q d st here n lt = passed_on q (to_else (suc d) ls) d (suc d) Branch ls here refl
@@ -174,7 +174,7 @@ module _ (shapes : List Shape) where
 
   nested_one : (p : ℕ) (x : Shape) (rest : List Shape) (st : List Bool) (blocks : List (Option ℕ)) → IsNested st (x ∷ rest) →
       length st ≡ length blocks → (more : List Bool) × IsNested more rest × (length more ≡ length (opened p blocks (Some x)))
-  nested_one p Simple rest st blocks n e = (st, n, e)
+  nested_one p Straight rest st blocks n e = (st, n, e)
   nested_one p Loop rest st blocks n e = (false ∷ st, n, omega (arith, e))
   nested_one p Branch rest st blocks n e = (true ∷ st, n, omega (arith, e))
   nested_one p Otherwise rest [] blocks n e = absurd n
@@ -194,10 +194,10 @@ module _ (shapes : List Shape) where
       let now : IsNested before.0 (here.0 ∷ here.1) = subst (λ (ls : List Shape). IsNested before.0 ls) here.2 before.1 in
       let one = nested_one p here.0 here.1 before.0 (open_at shapes p) now before.2 in
       let same : p + 1 ≡ suc p = omega arith in
-      let behind : drop (suc p) shapes ≡ here.1 = ap (λ (m : ℕ). drop m shapes) (sym same) ∙ next_here shapes p here.0 here.1 here.2 in
+      let beyond : drop (suc p) shapes ≡ here.1 = ap (λ (m : ℕ). drop m shapes) (sym same) ∙ next_here shapes p here.0 here.1 here.2 in
       let shape : slice_get shapes p ≡ Some here.0 = at_here shapes p here.0 here.1 here.2 in (
         one.0,
-        subst (λ (ls : List Shape). IsNested one.0 ls) (sym behind) one.1,
+        subst (λ (ls : List Shape). IsNested one.0 ls) (sym beyond) one.1,
         one.2
             ∙ ap (λ (o : Option Shape). length (opened p (open_at shapes p) o)) (sym shape),
       )
@@ -207,14 +207,14 @@ module _ (shapes : List Shape) where
     one_open : (x : Shape) (blocks : List (Option ℕ)) (b : Option ℕ) → slice_get shapes p ≡ Some x →
         opened p (open_at shapes p) (Some x) ≡ b ∷ blocks → (st : List Bool) × IsNested st (drop (p + 1) shapes) × (0 < length st)
     one_open x blocks b s e =
-        let behind = nested_at nested (p + 1) (omega (arith, inside)) in
+        let beyond = nested_at nested (p + 1) (omega (arith, inside)) in
         let some : length (open_at shapes (p + 1)) ≡ length (b ∷ blocks) =
         ap (λ (bs : List (Option ℕ)). length bs) (open_next p (Some x) s ∙ e) in
-        (behind.0, behind.1, omega (arith, some, behind.2))
+        (beyond.0, beyond.1, omega (arith, some, beyond.2))
 
     -- after the `end` of a `repeat` the same blocks are open as before it
-    open_behind_loop : slice_get shapes p ≡ Some Loop → open_at shapes (jump_of Loop p (drop (p + 1) shapes)) ≡ open_at shapes p
-    open_behind_loop s =
+    open_after_loop : slice_get shapes p ≡ Some Loop → open_at shapes (jump_of Loop p (drop (p + 1) shapes)) ≡ open_at shapes p
+    open_after_loop s =
         let w = one_open Loop (open_at shapes p) (Some p) s refl in
         let e : ℕ = p + 1 + to_end 0 (drop (p + 1) shapes) in
         let comes : open_at shapes e ≡ Some p ∷ open_at shapes p =
@@ -223,8 +223,8 @@ module _ (shapes : List Shape) where
         open_next e (Some Close) stands ∙ ap (λ (bs : List (Option ℕ)). opened e bs (Some Close)) comes
 
     -- where an `if` doesn't hold it is open
-    open_behind_else : slice_get shapes p ≡ Some Branch → open_at shapes (jump_of Branch p (drop (p + 1) shapes)) ≡ None ∷ open_at shapes p
-    open_behind_else s =
+    open_after_else : slice_get shapes p ≡ Some Branch → open_at shapes (jump_of Branch p (drop (p + 1) shapes)) ≡ None ∷ open_at shapes p
+    open_after_else s =
         let w = one_open Branch (open_at shapes p) None s refl in
         else_comes (drop (p + 1) shapes) (p + 1) 0 w.0 refl w.1 w.2 ∙ open_next p (Some Branch) s
 
@@ -236,10 +236,10 @@ module _ (shapes : List Shape) where
         let now : IsNested before.0 (here.0 ∷ here.1) = subst (λ (ls : List Shape). IsNested before.0 ls) here.2 before.1 in
         let is : Some here.0 ≡ Some Otherwise = sym (at_here shapes p here.0 here.1 here.2) ∙ s in
         let some : 0 < length before.0 = some_block before.0 here.0 here.1 is now in
-        let behind = nested_at nested (p + 1) (omega (arith, inside)) in
+        let beyond = nested_at nested (p + 1) (omega (arith, inside)) in
         let same : length (open_at shapes (p + 1)) ≡ length (open_at shapes p) =
         ap (λ (bs : List (Option ℕ)). length bs) (open_next p (Some Otherwise) s) in
-        end_comes (drop (p + 1) shapes) (p + 1) 0 behind.0 refl behind.1 (omega (arith, some, same, behind.2, before.2))
+        end_comes (drop (p + 1) shapes) (p + 1) 0 beyond.0 refl beyond.1 (omega (arith, some, same, beyond.2, before.2))
         ∙ open_next p (Some Otherwise) s
       where
         some_block : (st : List Bool) (x : Shape) (rest : List Shape) → Some x ≡ Some Otherwise → IsNested st (x ∷ rest) → 0 < length st
@@ -288,9 +288,9 @@ module _ {L S : Type 0} (rules : Rules L S) (most : ℕ) (statements : List L) w
           block_places bs ≡ open_at shapes_of (c.place + 1)
       fits_next bs e = e ∙ sym steps_on ∙ sym (open_next shapes_of c.place (Some x) shape_here)
 
-    acted_follows : rules.shape l ≡ Simple → (line : ℕ) (r : Result (S × List ℕ) FaultKind) → (acted c line r).ended ≡ None →
+    acted_follows : rules.shape l ≡ Straight → (line : ℕ) (r : Result (S × List ℕ) FaultKind) → (acted c line r).ended ≡ None →
         Follows c (acted c line r)
-    acted_follows is line (Ok next) e = (next_by Simple is (c.place + 1) refl, fits_next Simple is c.blocks refl)
+    acted_follows is line (Ok next) e = (next_by Straight is (c.place + 1) refl, fits_next Straight is c.blocks refl)
     acted_follows is line (Err kind) e = absurd (ended_not _ e)
 
     begins_follows : (d : Config S) (place line left : ℕ) (bs : List Block) → Next shapes_of c.place (place + 1) →
@@ -309,7 +309,7 @@ module _ {L S : Type 0} (rules : Rules L S) (most : ℕ) (statements : List L) w
     repeats_follows is line (pos zero) e = (
       next_by Loop is (jump_from rules most statements c.place) (inr refl),
       fits
-          ∙ sym (open_behind_loop shapes_of nested c.place (inside Loop is) (shape_here Loop is))
+          ∙ sym (open_after_loop shapes_of nested c.place (inside Loop is) (shape_here Loop is))
           ∙ ap (λ (q : ℕ). open_at shapes_of q) (sym (jump_is Loop is)),
     )
     repeats_follows is line (pos (suc n)) e = begins_follows (notes c line []) c.place line n c.blocks
@@ -321,7 +321,7 @@ module _ {L S : Type 0} (rules : Rules L S) (most : ℕ) (statements : List L) w
     chooses_follows is line false = (
       next_by Branch is (jump_from rules most statements c.place) (inr refl),
       ap (λ (bs : List (Option ℕ)). None ∷ bs) fits
-          ∙ sym (open_behind_else shapes_of nested c.place (inside Branch is) (shape_here Branch is))
+          ∙ sym (open_after_else shapes_of nested c.place (inside Branch is) (shape_here Branch is))
           ∙ ap (λ (q : ℕ). open_at shapes_of q) (sym (jump_is Branch is)),
     )
 
@@ -346,11 +346,11 @@ module _ {L S : Type 0} (rules : Rules L S) (most : ℕ) (statements : List L) w
         let opens : Some place ∷ block_places bs ≡ open_at shapes_of c.place = ap block_places (sym k) ∙ fits in
         begins_follows c place line n bs
         (next_by Close is (place + 1) (subst (λ (os : List (Option ℕ)). NextOfClose c.place os (place + 1)) opens (inl refl)))
-        (sym (open_behind shapes_of place (block_places bs) c.place [] (sym opens))) e
+        (sym (open_after shapes_of place (block_places bs) c.place [] (sym opens))) e
 
     shape_follows : (x : Shape) → rules.shape l ≡ x → (runs_shape rules most statements c l x).ended ≡ None →
         Follows c (runs_shape rules most statements c l x)
-    shape_follows Simple is e = acted_follows is (rules.line l) (rules.act c.place l c.state) e
+    shape_follows Straight is e = acted_follows is (rules.line l) (rules.act c.place l c.state) e
     shape_follows Loop is e = repeats_follows is (rules.line l) (rules.count l c.state) e
     shape_follows Branch is e = chooses_follows is (rules.line l) (rules.holds l c.state)
     shape_follows Otherwise is e = (

@@ -4,14 +4,14 @@ use Rattle.std.proofs.Common.{refl, sym, ap, ◌∙◌, subst, inl, inr, arith, 
 use Rattle.std.specs.Prelude.{slice_get, unwrap_or}
 use Rattle.std.proofs.lemmas.List.{drop-map, length-append, length-map}
 use Rattle.std.proofs.lemmas.Option.{slice_get_past}
-use Rattle.cord_meaning.specs.Blocks.{Shape, Simple, Loop, Branch, Otherwise, Close, jump, jump_of}
+use Rattle.cord_meaning.specs.Blocks.{Shape, Straight, Loop, Branch, Otherwise, Close, jump, jump_of}
 use Rattle.cord_meaning.specs.Paths.{opened, open_at, NextOf, NextOfClose, Next}
 use Rattle.cord_meaning.specs.Machine.{Rules}
 use Rattle.cord_meaning.specs.Unrolled.{Parts, Nothing, Then, Repeats, Chooses, ChoosesElse, flat, IsWell}
 use Rattle.cord_meaning.specs.Leads.{leads, IsAmong}
 use Rattle.cord_core.proofs.Places.{at_here, next_here}
 use Rattle.cord_meaning.proofs.Follows.{open_next}
-use Rattle.cord_meaning.proofs.Unrolls.{inner_here, closing_here, rest_here, all_here, end_behind, else_behind, no_else_behind}
+use Rattle.cord_meaning.proofs.Unrolls.{inner_here, closing_here, rest_here, all_here, end_after, else_after, no_else_after}
 use Rattle.cord_meaning.proofs.Unrolls.{jump_here}
 
 -- as many statements lead as there are
@@ -103,8 +103,8 @@ module _ {L : Type 0} (shape : L → Shape) (statements : List L) where
     shape_is x is = at_here shapes p x (map shape rest) (drop-map shape p statements ∙ ap (λ (xs : List L). map shape xs) d
         ∙ ap (λ (w : Shape). w ∷ map shape rest) is)
 
-    simple_leads : shape l ≡ Simple → Leading p ((p + 1) ∷ [])
-    simple_leads is = leading_by p (Some Simple) (shape_is Simple is) ((p + 1) ∷ []) (λ q h. inl h) (λ q h. one_of (p + 1) q h)
+    straight_leads : shape l ≡ Straight → Leading p ((p + 1) ∷ [])
+    straight_leads is = leading_by p (Some Straight) (shape_is Straight is) ((p + 1) ∷ []) (λ q h. inl h) (λ q h. one_of (p + 1) q h)
 
     loop_leads : shape l ≡ Loop → (b : ℕ) → jump shapes p ≡ b → Leading p ((p + 1) ∷ b ∷ [])
     loop_leads is b e = leading_by p (Some Loop) (shape_is Loop is) ((p + 1) ∷ b ∷ [])
@@ -163,21 +163,21 @@ module _ {L : Type 0} (shape : L → Shape) (statements : List L) where
   go Nothing w p more d os o = let same : p + 0 ≡ p = omega arith in (tt, ap (λ (n : ℕ). open_at shapes n) same ∙ o)
   go (Then l rest) w p more d os o =
       let r = go rest w.1 (p + 1) more (next_here statements p l (flat rest ++ more) d) os
-      (opens p l (flat rest ++ more) d Simple w.0 os o) in
+      (opens p l (flat rest ++ more) d Straight w.0 os o) in
       let same : p + suc (length (flat rest)) ≡ p + 1 + length (flat rest) = omega arith in
-      ((simple_leads p l (flat rest ++ more) d w.0, r.0), ap (λ (n : ℕ). open_at shapes n) same ∙ r.1)
+      ((straight_leads p l (flat rest ++ more) d w.0, r.0), ap (λ (n : ℕ). open_at shapes n) same ∙ r.1)
   go (Repeats l e body rest) w p more d os o =
       let q : ℕ = p + 1 + length (flat body) in
-      let behind_first : List L = (flat body ++ (e ∷ flat rest)) ++ more in
+      let after_first : List L = (flat body ++ (e ∷ flat rest)) ++ more in
       let closing : drop q statements ≡ e ∷ (flat rest ++ more) = closing_here statements p l e (flat body) (flat rest) more d in
       let jumped : jump shapes p ≡ q + 1 = jumps p l e (flat body) (flat rest) more d Loop w.0
-      ∙ ap (λ (n : ℕ). p + 1 + n + 1) (end_behind by_shape 0 body w.2 e w.1 (flat rest ++ more)) in
+      ∙ ap (λ (n : ℕ). p + 1 + n + 1) (end_after by_shape 0 body w.2 e w.1 (flat rest ++ more)) in
       let b = go body w.2 (p + 1) (e ∷ (flat rest ++ more)) (inner_here statements p l e (flat body) (flat rest) more d) (Some p ∷ os)
-      (opens p l behind_first d Loop w.0 os o) in
+      (opens p l after_first d Loop w.0 os o) in
       let r = go rest w.3 (q + 1) more (rest_here statements p l e (flat body) (flat rest) more d) os
       (opens q e (flat rest ++ more) closing Close w.1 (Some p ∷ os) b.1) in (
         (
-          loop_leads p l behind_first d w.0 (q + 1) jumped,
+          loop_leads p l after_first d w.0 (q + 1) jumped,
           parts_lead body (p + 1) (((p + 1) ∷ (q + 1) ∷ []) ∷ leads (q + 1) rest) b.0
               (loop_end_leads q e (flat rest ++ more) closing p os b.1 w.1, r.0),
         ),
@@ -185,16 +185,16 @@ module _ {L : Type 0} (shape : L → Shape) (statements : List L) where
       )
   go (Chooses l e branch rest) w p more d os o =
       let q : ℕ = p + 1 + length (flat branch) in
-      let behind_first : List L = (flat branch ++ (e ∷ flat rest)) ++ more in
+      let after_first : List L = (flat branch ++ (e ∷ flat rest)) ++ more in
       let closing : drop q statements ≡ e ∷ (flat rest ++ more) = closing_here statements p l e (flat branch) (flat rest) more d in
       let jumped : jump shapes p ≡ q = jumps p l e (flat branch) (flat rest) more d Branch w.0
-      ∙ ap (λ (n : ℕ). p + 1 + n) (no_else_behind by_shape 0 branch w.2 e w.1 (flat rest ++ more)) in
+      ∙ ap (λ (n : ℕ). p + 1 + n) (no_else_after by_shape 0 branch w.2 e w.1 (flat rest ++ more)) in
       let b = go branch w.2 (p + 1) (e ∷ (flat rest ++ more)) (inner_here statements p l e (flat branch) (flat rest) more d) (None ∷ os)
-      (opens p l behind_first d Branch w.0 os o) in
+      (opens p l after_first d Branch w.0 os o) in
       let r = go rest w.3 (q + 1) more (rest_here statements p l e (flat branch) (flat rest) more d) os
       (opens q e (flat rest ++ more) closing Close w.1 (None ∷ os) b.1) in (
         (
-          branch_leads p l behind_first d w.0 q jumped,
+          branch_leads p l after_first d w.0 q jumped,
           parts_lead branch (p + 1) (((q + 1) ∷ []) ∷ leads (q + 1) rest) b.0
               (branch_end_leads q e (flat rest ++ more) closing os b.1 w.1, r.0),
         ),
@@ -204,16 +204,16 @@ module _ {L : Type 0} (shape : L → Shape) (statements : List L) where
       let others : List L = flat other ++ (e ∷ flat rest) in
       let k : ℕ = p + 1 + length (flat branch) in
       let q : ℕ = k + 1 + length (flat other) in
-      let behind_first : List L = (flat branch ++ (m ∷ others)) ++ more in
+      let after_first : List L = (flat branch ++ (m ∷ others)) ++ more in
       let middle : drop k statements ≡ m ∷ (others ++ more) = closing_here statements p l m (flat branch) others more d in
       let closing : drop q statements ≡ e ∷ (flat rest ++ more) = closing_here statements k m e (flat other) (flat rest) more middle in
       let one_on : p + 1 + (length (flat branch) + 1) ≡ k + 1 = omega arith in
       let jumped : jump shapes p ≡ k + 1 = jumps p l m (flat branch) others more d Branch w.0
-      ∙ ap (λ (n : ℕ). p + 1 + n) (else_behind by_shape 0 branch w.3 m w.1 (others ++ more)) ∙ one_on in
+      ∙ ap (λ (n : ℕ). p + 1 + n) (else_after by_shape 0 branch w.3 m w.1 (others ++ more)) ∙ one_on in
       let passed : jump shapes k ≡ q = jumps k m e (flat other) (flat rest) more middle Otherwise w.1
-      ∙ ap (λ (n : ℕ). k + 1 + n) (end_behind by_shape 0 other w.4 e w.2 (flat rest ++ more)) in
+      ∙ ap (λ (n : ℕ). k + 1 + n) (end_after by_shape 0 other w.4 e w.2 (flat rest ++ more)) in
       let b = go branch w.3 (p + 1) (m ∷ (others ++ more)) (inner_here statements p l m (flat branch) others more d) (None ∷ os)
-      (opens p l behind_first d Branch w.0 os o) in
+      (opens p l after_first d Branch w.0 os o) in
       let a = go other w.4 (k + 1) (e ∷ (flat rest ++ more)) (inner_here statements k m e (flat other) (flat rest) more middle) (None ∷ os)
       (opens k m (others ++ more) middle Otherwise w.1 (None ∷ os) b.1) in
       let r = go rest w.5 (q + 1) more (rest_here statements k m e (flat other) (flat rest) more middle) os
@@ -222,7 +222,7 @@ module _ {L : Type 0} (shape : L → Shape) (statements : List L) where
       let second = all_here statements k m e (flat other) (flat rest) more middle in
       let whole : p + length (flat (ChoosesElse l m e branch other rest)) ≡ q + 1 + length (flat rest) = omega (arith, first, second) in (
         (
-          branch_leads p l behind_first d w.0 (k + 1) jumped,
+          branch_leads p l after_first d w.0 (k + 1) jumped,
           parts_lead branch (p + 1) ((q ∷ []) ∷ (leads (k + 1) other ++ (((q + 1) ∷ []) ∷ leads (q + 1) rest))) b.0 (
             else_leads k m (others ++ more) middle w.1 q passed,
             parts_lead other (k + 1) (((q + 1) ∷ []) ∷ leads (q + 1) rest) a.0

@@ -2,7 +2,7 @@ pub mod Terminates
 pub mod Grows
 pub mod Runs
 pub mod Meant
-pub mod Honest
+pub mod Faithful
 pub mod Checks
 pub mod Computed
 pub mod Limit
@@ -10,6 +10,6 @@ pub mod Unrolls
 pub mod Nesting
 pub mod Follows
 pub mod Leading
-pub mod Fronts
+pub mod Prefixes
 pub mod ReadScripts
 pub mod Simulating

@@ -3,7 +3,7 @@ use Rattle.std.proofs.Common.{◌≡◌, ℕ, zero, suc, ◌≤◌, ◌⊎◌, �
 use Rattle.std.proofs.Common.{refl, sym, ap, subst, inl, inr, ⊎_elim, arith, length}
 use Rattle.std.specs.Prelude.{slice_get, if◌then◌else◌, unwrap_or, nat_le, take, drop, replicate, flat_map}
 use Rattle.std.proofs.lemmas.Bool.{le-leb, leb-true}
-use Rattle.cord_io.specs.Device.{Folder}
+use Rattle.cord_io.specs.Device.{FileSystem}
 use Rattle.cord_syntax.specs.declared.statements.Statement.{Statement}
 use Rattle.cord_syntax.specs.declared.statements.Statement.TheVariants.{Let, File, Eager, Lazy, Chars, Nul, FromFn, Cat, Catn, Catc, Substr}
 use Rattle.cord_syntax.specs.declared.statements.Statement.TheVariants.{Balance, EcToCord, Sprintf, Len, Fetch, Cmp, Ncmp, Str, Chr, Rchr}
@@ -12,13 +12,13 @@ use Rattle.cord_syntax.specs.declared.statements.Statement.TheVariants.{Else, En
 use Rattle.cord_meaning.specs.declared.ends.End.TheVariants.{Done, Fault}
 use Rattle.cord_meaning.specs.declared.ends.FaultKind.{FaultKind}
 use Rattle.cord_meaning.specs.declared.ends.FaultKind.TheVariants.{TooLong}
-use Rattle.cord_meaning.specs.Blocks.{Shape, Simple, Loop, Branch, Otherwise, Close}
+use Rattle.cord_meaning.specs.Blocks.{Shape, Straight, Loop, Branch, Otherwise, Close}
 use Rattle.cord_meaning.specs.Machine.{Config, acted, if_running, runs_shape, runs, step, enough, whole}
 use Rattle.cord_meaning.specs.State.{State, Outcome, number_value, and_then, as_index, as_byte, as_length, sets_text, sets_extensible}
 use Rattle.cord_meaning.specs.State.{start_state}
 use Rattle.cord_meaning.specs.Statements.{rules, act, line_of, shape_of, function_text, file_text, sets_copies}
 use Rattle.cord_meaning.specs.Formats.{format_text}
-use Rattle.cord_meaning.specs.Meaning.{run_within, end_within, moments_within}
+use Rattle.cord_meaning.specs.Meaning.{run_within, end_within, trace_within}
 
 module _ {B : Type 0} where
   -- the first is too long, or both are the same
@@ -40,7 +40,7 @@ module _ {B : Type 0} where
           subst (λ (w : Bool). Agree (f n) (and_then (if w then Ok n else Err TooLong) g)) (sym (le-leb n m (omega arith))) (h n)
       pick false e = inl refl
 
-module _ (l m : ℕ) (le : l ≤ m) (files : Folder) where
+module _ (l m : ℕ) (le : l ≤ m) (files : FileSystem) where
   text_agrees : (s : State) (name text : List ℕ) → Agree (sets_text l s name text) (sets_text m s name text)
   text_agrees s name text = length_agrees l m le (length text) _ _ (λ k. inr refl)
 
@@ -110,7 +110,7 @@ module _ (l m : ℕ) (le : l ≤ m) (files : Folder) where
 
     shape_agrees : (c : Config State) (x : Statement) (shape : Shape) →
         Same (runs_shape (rules l files) most statements c x shape) (runs_shape (rules m files) most statements c x shape)
-    shape_agrees c x Simple = acted_agrees c (line_of x) (act l files x c.state) (act m files x c.state) (act_agrees x c.state)
+    shape_agrees c x Straight = acted_agrees c (line_of x) (act l files x c.state) (act m files x c.state) (act_agrees x c.state)
     shape_agrees c x Loop = inr refl
     shape_agrees c x Branch = inr refl
     shape_agrees c x Otherwise = inr refl
@@ -157,8 +157,8 @@ module _ (l m : ℕ) (le : l ≤ m) (files : Folder) where
           (λ e. e) whole_agrees
 
       -- with a greater limit the run has the same members
-      pub moments_agree : moments_within m most statements files ≡ moments_within l most statements files
-      moments_agree = ap (λ (c : Config State). c.seen) (sym whole_same)
+      pub traces_agree : trace_within m most statements files ≡ trace_within l most statements files
+      traces_agree = ap (λ (c : Config State). c.seen) (sym whole_same)
 
       -- and the same end
       pub end_agrees : end_within m most statements files ≡ end_within l most statements files

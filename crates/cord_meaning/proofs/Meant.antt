@@ -5,7 +5,7 @@ use Rattle.cord_meaning.specs.declared.ends.End.{End}
 use Rattle.cord_meaning.specs.declared.ends.End.TheVariants.{Done}
 use Rattle.cord_meaning.specs.declared.ends.FaultKind.{FaultKind}
 use Rattle.cord_meaning.specs.declared.ends.FaultKind.TheVariants.{TooManyTurns}
-use Rattle.cord_meaning.specs.Blocks.{Shape, Simple, Loop, Branch, Otherwise, Close}
+use Rattle.cord_meaning.specs.Blocks.{Shape, Straight, Loop, Branch, Otherwise, Close}
 use Rattle.cord_meaning.specs.Machine.{Rules, Block, Turns, Chosen, Config, notes, faults, acted, turned, begins, repeats, chooses, closes}
 use Rattle.cord_meaning.specs.Machine.{if_running, jump_from, runs_shape, runs, step, after, whole, enough, run_end}
 use Rattle.cord_meaning.specs.Ends.{IsMeant}
@@ -25,11 +25,11 @@ module _ {S : Type 0} where
   acted_meant c h line (Ok r) = h
   acted_meant c h line (Err k) = tt
 
-  repeats_meant : (most : ℕ) (c : Config S) → MeantSoFar c.ended → (line behind : ℕ) (n : ℤ) →
-      MeantSoFar (repeats most c line behind n).ended
-  repeats_meant most c h line behind (negsuc n) = tt
-  repeats_meant most c h line behind (pos zero) = h
-  repeats_meant most c h line behind (pos (suc n)) = begins_meant most (notes c line []) h c.place line n c.blocks
+  repeats_meant : (most : ℕ) (c : Config S) → MeantSoFar c.ended → (line beyond : ℕ) (n : ℤ) →
+      MeantSoFar (repeats most c line beyond n).ended
+  repeats_meant most c h line beyond (negsuc n) = tt
+  repeats_meant most c h line beyond (pos zero) = h
+  repeats_meant most c h line beyond (pos (suc n)) = begins_meant most (notes c line []) h c.place line n c.blocks
 
   chooses_meant : (c : Config S) → MeantSoFar c.ended → (line other : ℕ) (holds : Bool) → MeantSoFar (chooses c line other holds).ended
   chooses_meant c h line other true = h
@@ -44,7 +44,7 @@ module _ {S : Type 0} where
 module _ {L S : Type 0} (rules : Rules L S) (most : ℕ) (statements : List L) where
   shape_meant : (c : Config S) → MeantSoFar c.ended → (l : L) (shape : Shape) →
       MeantSoFar (runs_shape rules most statements c l shape).ended
-  shape_meant c h l Simple = acted_meant c h (rules.line l) (rules.act c.place l c.state)
+  shape_meant c h l Straight = acted_meant c h (rules.line l) (rules.act c.place l c.state)
   shape_meant c h l Loop = repeats_meant most c h (rules.line l) (jump_from rules most statements c.place) (rules.count l c.state)
   shape_meant c h l Branch = chooses_meant c h (rules.line l) (jump_from rules most statements c.place) (rules.holds l c.state)
   shape_meant c h l Otherwise = h

@@ -1,7 +1,7 @@
 -- Statements whose blocks are closed are parts, one after the other.
 use Rattle.std.proofs.Common.{◌≡◌, ℕ, zero, suc, ◌<◌, ◌≤◌, ◌⊎◌, Bool, true, false, List, [], ◌∷◌, ◌++◌, length, map, refl, sym, ap, ◌∙◌}
 use Rattle.std.proofs.Common.{inl, inr, ⊎_elim, arith, append_assoc}
-use Rattle.cord_meaning.specs.Blocks.{Shape, Simple, Loop, Branch, Otherwise, Close, IsNested}
+use Rattle.cord_meaning.specs.Blocks.{Shape, Straight, Loop, Branch, Otherwise, Close, IsNested}
 use Rattle.cord_meaning.specs.Unrolled.{Parts, Nothing, Then, Repeats, Chooses, ChoosesElse, flat, IsWell}
 
 module _ {L : Type 0} (shape : L → Shape) where
@@ -49,7 +49,7 @@ module _ {L : Type 0} (shape : L → Shape) where
 
   split_one : (n : ℕ) → Splits n → (x : L) (xs : List L) → length xs ≤ n → (b : Bool) (blocks : List Bool) (w : Shape) → shape x ≡ w →
       IsNested (b ∷ blocks) (w ∷ shapes xs) → Split b blocks (x ∷ xs)
-  split_one n ih x xs le b blocks Simple is h =
+  split_one n ih x xs le b blocks Straight is h =
       let s = ih xs le b blocks h in
       record {
         body = Then x s.body;
@@ -121,7 +121,7 @@ module _ {L : Type 0} (shape : L → Shape) where
 
   whole_one : (n : ℕ) → Wholes n → (x : L) (xs : List L) → length xs ≤ n → (w : Shape) → shape x ≡ w → IsNested [] (w ∷ shapes xs) →
       Whole (x ∷ xs)
-  whole_one n ih x xs le Simple is h =
+  whole_one n ih x xs le Straight is h =
       let r = ih xs le h in
       record { parts = Then x r.parts; well = (is, r.well); is = ap (λ (ls : List L). x ∷ ls) r.is }
   whole_one n ih x xs le Close is h = absurd h

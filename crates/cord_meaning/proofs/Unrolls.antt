@@ -8,11 +8,11 @@ use Rattle.cord_meaning.specs.declared.ends.End.{End}
 use Rattle.cord_meaning.specs.declared.ends.End.TheVariants.{Done, Fault}
 use Rattle.cord_meaning.specs.declared.ends.FaultKind.{FaultKind}
 use Rattle.cord_meaning.specs.declared.ends.FaultKind.TheVariants.{TooManyTurns}
-use Rattle.cord_meaning.specs.Blocks.{Shape, Simple, Loop, Branch, Otherwise, Close, to_end, to_else, jump_at, jump_of}
-use Rattle.cord_meaning.specs.Machine.{Rules, Moment, Block, Turns, Chosen, Config, acted, begins, turned, faults, repeats, chooses}
-use Rattle.cord_meaning.specs.Machine.{jump_from, runs_shape, runs, step, after_from, after, run_moments, run_end}
-use Rattle.cord_core.proofs.Places.{at_here, next_here, behind, none_behind}
-use Rattle.cord_meaning.proofs.Runs.{moments_when_ended, end_when_ended}
+use Rattle.cord_meaning.specs.Blocks.{Shape, Straight, Loop, Branch, Otherwise, Close, to_end, to_else, jump_at, jump_of}
+use Rattle.cord_meaning.specs.Machine.{Rules, Event, Block, Turns, Chosen, Config, acted, begins, turned, faults, repeats, chooses}
+use Rattle.cord_meaning.specs.Machine.{jump_from, runs_shape, runs, step, after_from, after, run_trace, run_end}
+use Rattle.cord_core.proofs.Places.{at_here, next_here, beyond, none_after}
+use Rattle.cord_meaning.proofs.Runs.{trace_when_ended, end_when_ended}
 use Rattle.cord_meaning.specs.Unrolled.{Parts, Nothing, Then, Repeats, Chooses, ChoosesElse, flat, Unrolled, joined, then_on, member}
 use Rattle.cord_meaning.specs.Unrolled.{acted_once, all_turns, repeated, chosen, unrolled, IsWell}
 
@@ -23,7 +23,7 @@ module _ {L : Type 0} (statements : List L) (p : ℕ) (l e : L) (inner rest more
   inner_here = next_here statements p l ((inner ++ (e ∷ rest)) ++ more) d ∙ append_assoc inner (e ∷ rest) more
 
   pub closing_here : drop (p + 1 + length inner) statements ≡ e ∷ (rest ++ more)
-  closing_here = behind statements (p + 1) inner (e ∷ (rest ++ more)) inner_here
+  closing_here = beyond statements (p + 1) inner (e ∷ (rest ++ more)) inner_here
 
   pub rest_here : drop (p + 1 + length inner + 1) statements ≡ rest ++ more
   rest_here = next_here statements (p + 1 + length inner) e (rest ++ more) closing_here
@@ -34,7 +34,7 @@ module _ {L : Type 0} (statements : List L) (p : ℕ) (l e : L) (inner rest more
 module _ {L S : Type 0} (rules : Rules L S) (most : ℕ) where
   -- a count of statements that goes on over whole blocks, and knows how many are open
   module _ (count : ℕ → List Shape → ℕ)
-      (at_simple : (d : ℕ) (rest : List Shape) → count d (Simple ∷ rest) ≡ suc (count d rest))
+      (at_straight : (d : ℕ) (rest : List Shape) → count d (Straight ∷ rest) ≡ suc (count d rest))
       (at_loop : (d : ℕ) (rest : List Shape) → count d (Loop ∷ rest) ≡ suc (count (suc d) rest))
       (at_branch : (d : ℕ) (rest : List Shape) → count d (Branch ∷ rest) ≡ suc (count (suc d) rest))
       (at_otherwise : (d : ℕ) (rest : List Shape) → count (suc d) (Otherwise ∷ rest) ≡ suc (count (suc d) rest))
@@ -63,7 +63,7 @@ module _ {L S : Type 0} (rules : Rules L S) (most : ℕ) where
 
     over : (parts : Parts L) → IsWell rules.shape parts → (d : ℕ) → Over d d (flat parts)
     over Nothing w d = over_nothing d
-    over (Then l rest) w d = over_one d d d l Simple w.0 (at_simple d) (flat rest) (over rest w.1 d)
+    over (Then l rest) w d = over_one d d d l Straight w.0 (at_straight d) (flat rest) (over rest w.1 d)
     over (Repeats l e body rest) w d =
         over_one d (suc d) d l Loop w.0 (at_loop d) (flat body ++ (e ∷ flat rest))
         (over_both (suc d) (suc d) d (flat body) (e ∷ flat rest) (over body w.2 (suc d))
@@ -80,25 +80,25 @@ module _ {L S : Type 0} (rules : Rules L S) (most : ℕ) where
         (over_one (suc d) d d e Close w.2 (at_close d) (flat rest) (over rest w.5 d)))))
 
   -- the `end` after whole blocks
-  pub end_behind : (parts : Parts L) → IsWell rules.shape parts → (e : L) → rules.shape e ≡ Close → (more : List L) →
+  pub end_after : (parts : Parts L) → IsWell rules.shape parts → (e : L) → rules.shape e ≡ Close → (more : List L) →
       to_end 0 (map rules.shape (flat parts ++ (e ∷ more))) ≡ length (flat parts)
-  end_behind parts w e is more =
+  end_after parts w e is more =
       let all = over to_end (λ d rest. refl) (λ d rest. refl) (λ d rest. refl) (λ d rest. refl) (λ d rest. refl) parts w 0 (e ∷ more) in
       let none : to_end 0 (rules.shape e ∷ map rules.shape more) ≡ 0 = ap (λ (x : Shape). to_end 0 (x ∷ map rules.shape more)) is in
       omega (arith, all, none)
 
   -- the `else` after whole blocks
-  pub else_behind : (parts : Parts L) → IsWell rules.shape parts → (m : L) → rules.shape m ≡ Otherwise → (more : List L) →
+  pub else_after : (parts : Parts L) → IsWell rules.shape parts → (m : L) → rules.shape m ≡ Otherwise → (more : List L) →
       to_else 0 (map rules.shape (flat parts ++ (m ∷ more))) ≡ length (flat parts) + 1
-  else_behind parts w m is more =
+  else_after parts w m is more =
       let all = over to_else (λ d rest. refl) (λ d rest. refl) (λ d rest. refl) (λ d rest. refl) (λ d rest. refl) parts w 0 (m ∷ more) in
       let one : to_else 0 (rules.shape m ∷ map rules.shape more) ≡ 1 = ap (λ (x : Shape). to_else 0 (x ∷ map rules.shape more)) is in
       omega (arith, all, one)
 
   -- the `end` of an `if` that has no `else`
-  pub no_else_behind : (parts : Parts L) → IsWell rules.shape parts → (e : L) → rules.shape e ≡ Close → (more : List L) →
+  pub no_else_after : (parts : Parts L) → IsWell rules.shape parts → (e : L) → rules.shape e ≡ Close → (more : List L) →
       to_else 0 (map rules.shape (flat parts ++ (e ∷ more))) ≡ length (flat parts)
-  no_else_behind parts w e is more =
+  no_else_after parts w e is more =
       let all = over to_else (λ d rest. refl) (λ d rest. refl) (λ d rest. refl) (λ d rest. refl) (λ d rest. refl) parts w 0 (e ∷ more) in
       let none : to_else 0 (rules.shape e ∷ map rules.shape more) ≡ 0 = ap (λ (x : Shape). to_else 0 (x ∷ map rules.shape more)) is in
       omega (arith, all, none)
@@ -111,23 +111,23 @@ module _ {L S : Type 0} (rules : Rules L S) (most : ℕ) where
         let here : slice_get (map rules.shape statements) p ≡ Some (rules.shape l) =
         at_here (map rules.shape statements) p (rules.shape l) (map rules.shape rest)
         (drop-map rules.shape p statements ∙ ap (λ (xs : List L). map rules.shape xs) e) in
-        let behind : drop (p + 1) (map rules.shape statements) ≡ map rules.shape rest =
+        let beyond : drop (p + 1) (map rules.shape statements) ≡ map rules.shape rest =
         drop-map rules.shape (p + 1) statements ∙ ap (λ (xs : List L). map rules.shape xs) (next_here statements p l rest e) in
         ap (λ (o : Option Shape). jump_at o p (drop (p + 1) (map rules.shape statements))) here
-        ∙ ap (λ (xs : List Shape). jump_of (rules.shape l) p xs) behind
+        ∙ ap (λ (xs : List Shape). jump_of (rules.shape l) p xs) beyond
 
   module _ (statements : List L) where
     -- the run goes on from a place, with these blocks, turns, members and state
-    abbrev at : ℕ → List Block → ℕ → List (Moment S) → S → Config S
+    abbrev at : ℕ → List Block → ℕ → List (Event S) → S → Config S
     at p bs t seen s = record { place = p; blocks = bs; turns = t; seen = seen; ended = None; state = s }
 
     -- it has run these members more, and ended so, or come to this place
-    abbrev ComesTo : Config S → List (Moment S) → List (Moment S) → Option End → ℕ → S → ℕ → List Block → Type 0
+    abbrev ComesTo : Config S → List (Event S) → List (Event S) → Option End → ℕ → S → ℕ → List Block → Type 0
     ComesTo d seen ms None t s q bs = d ≡ at q bs t (seen ++ ms) s
     ComesTo d seen ms (Some e) t s q bs = (d.ended ≡ Some e) × (d.seen ≡ seen ++ ms)
 
     -- from c the machine does what was unrolled, and comes to this place
-    abbrev Does : Config S → List (Moment S) → Unrolled S → ℕ → List Block → Type 0
+    abbrev Does : Config S → List (Event S) → Unrolled S → ℕ → List Block → Type 0
     Does c seen u q bs = (k : ℕ) × ComesTo (after_from rules most statements k c) seen u.members u.ended u.turns u.state q bs
 
     after_both : (k j : ℕ) (c : Config S) → after_from rules most statements (k + j) c
@@ -136,14 +136,14 @@ module _ {L S : Type 0} (rules : Rules L S) (most : ℕ) where
     after_both k (suc j) c = let e : k + suc j ≡ suc (k + j) = omega arith in
         ap (λ (n : ℕ). after_from rules most statements n c) e ∙ ap (λ (d : Config S). step rules most statements d) (after_both k j c)
 
-    reassociated : (d : Config S) (seen ms ns : List (Moment S)) (o : Option End) (t : ℕ) (s : S) (q : ℕ) (bs : List Block) →
+    reassociated : (d : Config S) (seen ms ns : List (Event S)) (o : Option End) (t : ℕ) (s : S) (q : ℕ) (bs : List Block) →
         ComesTo d (seen ++ ms) ns o t s q bs → ComesTo d seen (ms ++ ns) o t s q bs
-    reassociated d seen ms ns None t s q bs h = h ∙ ap (λ (xs : List (Moment S)). at q bs t xs s) (append_assoc seen ms ns)
+    reassociated d seen ms ns None t s q bs h = h ∙ ap (λ (xs : List (Event S)). at q bs t xs s) (append_assoc seen ms ns)
     reassociated d seen ms ns (Some e) t s q bs h = (h.0, h.1 ∙ append_assoc seen ms ns)
 
     -- after some steps
     later : (c d : Config S) (k : ℕ) → after_from rules most statements k c ≡ d →
-        (seen : List (Moment S)) (u : Unrolled S) (q : ℕ) (bs : List Block) → Does d seen u q bs → Does c seen u q bs
+        (seen : List (Event S)) (u : Unrolled S) (q : ℕ) (bs : List Block) → Does d seen u q bs → Does c seen u q bs
     later c d k e seen u q bs h = (
       k + h.0,
       subst (λ (x : Config S). ComesTo x seen u.members u.ended u.turns u.state q bs)
@@ -151,7 +151,7 @@ module _ {L S : Type 0} (rules : Rules L S) (most : ℕ) where
     )
 
     -- one thing, and then another
-    first_then : (c : Config S) (seen ms : List (Moment S)) (o : Option End) (t : ℕ) (s : S) (q r : ℕ) (bs cs : List Block)
+    first_then : (c : Config S) (seen ms : List (Event S)) (o : Option End) (t : ℕ) (s : S) (q r : ℕ) (bs cs : List Block)
         (next : ℕ → S → Unrolled S) → (k : ℕ) → ComesTo (after_from rules most statements k c) seen ms o t s q bs →
         Does (at q bs t (seen ++ ms) s) (seen ++ ms) (next t s) r cs → Does c seen (joined ms o t s next) r cs
     first_then c seen ms None t s q r bs cs next k e h =
@@ -162,22 +162,22 @@ module _ {L S : Type 0} (rules : Rules L S) (most : ℕ) where
         )
     first_then c seen ms (Some x) t s q r bs cs next k e h = (k, e)
 
-    both_do : (c : Config S) (seen : List (Moment S)) (u : Unrolled S) (q r : ℕ) (bs cs : List Block) (next : ℕ → S → Unrolled S) →
-        Does c seen u q bs → ((t : ℕ) (s : S) (xs : List (Moment S)) → Does (at q bs t xs s) xs (next t s) r cs) →
+    both_do : (c : Config S) (seen : List (Event S)) (u : Unrolled S) (q r : ℕ) (bs cs : List Block) (next : ℕ → S → Unrolled S) →
+        Does c seen u q bs → ((t : ℕ) (s : S) (xs : List (Event S)) → Does (at q bs t xs s) xs (next t s) r cs) →
         Does c seen (then_on u next) r cs
     both_do c seen u q r bs cs next h k = first_then c seen u.members u.ended u.turns u.state q r bs cs next h.0 h.1
         (k u.turns u.state (seen ++ u.members))
 
-    at_place : (c : Config S) (seen : List (Moment S)) (u : Unrolled S) (q r : ℕ) (bs : List Block) → q ≡ r → Does c seen u q bs →
+    at_place : (c : Config S) (seen : List (Event S)) (u : Unrolled S) (q r : ℕ) (bs : List Block) → q ≡ r → Does c seen u q bs →
         Does c seen u r bs
     at_place c seen u q r bs e h = subst (λ (n : ℕ). Does c seen u n bs) e h
 
     -- a step that is no member
-    and_step : (c : Config S) (seen : List (Moment S)) (u : Unrolled S) (q r : ℕ) (bs cs : List Block) → Does c seen u q bs →
-        ((t : ℕ) (s : S) (xs : List (Moment S)) → step rules most statements (at q bs t xs s) ≡ at r cs t xs s) → Does c seen u r cs
+    and_step : (c : Config S) (seen : List (Event S)) (u : Unrolled S) (q r : ℕ) (bs cs : List Block) → Does c seen u q bs →
+        ((t : ℕ) (s : S) (xs : List (Event S)) → step rules most statements (at q bs t xs s) ≡ at r cs t xs s) → Does c seen u r cs
     and_step c seen u q r bs cs h steps = by_end u.members u.ended u.turns u.state h.0 h.1
       where
-        by_end : (ms : List (Moment S)) (o : Option End) (t : ℕ) (s : S) (k : ℕ) →
+        by_end : (ms : List (Event S)) (o : Option End) (t : ℕ) (s : S) (k : ℕ) →
             ComesTo (after_from rules most statements k c) seen ms o t s q bs → (j : ℕ) ×
             ComesTo (after_from rules most statements j c) seen ms o t s r cs
         by_end ms None t s k e = (suc k, ap (λ (d : Config S). step rules most statements d) e ∙ steps t s (seen ++ ms))
@@ -185,13 +185,13 @@ module _ {L S : Type 0} (rules : Rules L S) (most : ℕ) where
 
     -- one step from a place
     step_is : (p : ℕ) (l : L) (rest : List L) (shape : Shape) → drop p statements ≡ l ∷ rest → rules.shape l ≡ shape →
-        (bs : List Block) (t : ℕ) (seen : List (Moment S)) (s : S) →
+        (bs : List Block) (t : ℕ) (seen : List (Event S)) (s : S) →
         step rules most statements (at p bs t seen s) ≡ runs_shape rules most statements (at p bs t seen s) l shape
     step_is p l rest shape e is bs t seen s = ap (λ (o : Option L). runs rules most statements (at p bs t seen s) o)
         (at_here statements p l rest e) ∙ ap (λ (w : Shape). runs_shape rules most statements (at p bs t seen s) l w) is
 
-    -- a simple statement
-    acts_once : (p line : ℕ) (bs : List Block) (t : ℕ) (seen : List (Moment S)) (s : S) (r : Result (S × List ℕ) FaultKind) →
+    -- a straight-line statement
+    acts_once : (p line : ℕ) (bs : List Block) (t : ℕ) (seen : List (Event S)) (s : S) (r : Result (S × List ℕ) FaultKind) →
         ComesTo (acted (at p bs t seen s) line r) seen (acted_once line t s r).members (acted_once line t s r).ended
         (acted_once line t s r).turns (acted_once line t s r).state (p + 1) bs
     acts_once p line bs t seen s (Ok next) = refl
@@ -199,13 +199,13 @@ module _ {L S : Type 0} (rules : Rules L S) (most : ℕ) where
 
     -- an `end` leaves an `if`
     leaves_branch : (p : ℕ) (e : L) (rest : List L) → drop p statements ≡ e ∷ rest → rules.shape e ≡ Close →
-        (bs : List Block) (t : ℕ) (s : S) (seen : List (Moment S)) → step rules most statements (at p (Chosen ∷ bs) t seen s)
+        (bs : List Block) (t : ℕ) (s : S) (seen : List (Event S)) → step rules most statements (at p (Chosen ∷ bs) t seen s)
         ≡ at (p + 1) bs t seen s
     leaves_branch p e rest d is bs t s seen = step_is p e rest Close d is (Chosen ∷ bs) t seen s
 
     -- an `else` leads to its `end`
     passes_else : (p : ℕ) (m : L) (rest : List L) → drop p statements ≡ m ∷ rest → rules.shape m ≡ Otherwise → (q : ℕ) →
-        to_end 0 (map rules.shape rest) ≡ q → (bs : List Block) (t : ℕ) (s : S) (seen : List (Moment S)) →
+        to_end 0 (map rules.shape rest) ≡ q → (bs : List Block) (t : ℕ) (s : S) (seen : List (Event S)) →
         step rules most statements (at p bs t seen s) ≡ at (p + 1 + q) bs t seen s
     passes_else p m rest d is q e bs t s seen = step_is p m rest Otherwise d is bs t seen s
         ∙ ap (λ (n : ℕ). at n bs t seen s) (jump_here statements p m rest d ∙ ap (λ (w : Shape). jump_of w p (map rules.shape rest)) is
@@ -213,14 +213,14 @@ module _ {L S : Type 0} (rules : Rules L S) (most : ℕ) where
 
     module _ (p line : ℕ) (body : ℕ → S → Unrolled S) (e : ℕ) (closing : L) (rest : List L) (bs : List Block)
         (d : drop e statements ≡ closing ∷ rest) (is : rules.shape closing ≡ Close)
-        (body_does : (n t : ℕ) (s : S) (seen : List (Moment S)) → Does (at (p + 1) (Turns p line n ∷ bs) t seen s) seen (body t s) e
+        (body_does : (n t : ℕ) (s : S) (seen : List (Event S)) → Does (at (p + 1) (Turns p line n ∷ bs) t seen s) seen (body t s) e
         (Turns p line n ∷ bs)) where
-      abbrev first_member : ℕ → S → Moment S
+      abbrev first_member : ℕ → S → Event S
       first_member t s = record { line = line; turns = t; state = s; puts = [] }
 
       -- one turn from its beginning, and then what follows it
-      turn_then : (n t : ℕ) (s : S) (seen : List (Moment S)) (q : ℕ) (cs : List Block) →
-          ((t : ℕ) (s : S) (xs : List (Moment S)) → Does (at e (Turns p line n ∷ bs) t xs s) xs (all_turns most line body n t s)
+      turn_then : (n t : ℕ) (s : S) (seen : List (Event S)) (q : ℕ) (cs : List Block) →
+          ((t : ℕ) (s : S) (xs : List (Event S)) → Does (at e (Turns p line n ∷ bs) t xs s) xs (all_turns most line body n t s)
           (e + 1) bs) → Does (begins most (at q cs t seen s) p line n bs) seen (all_turns most line body (suc n) t s) (e + 1) bs
       turn_then n t s seen q cs more = pick (nat_lt t most)
         where
@@ -238,11 +238,11 @@ module _ {L S : Type 0} (rules : Rules L S) (most : ℕ) where
           pick false = (0, (refl, refl))
 
       -- the turns, from the beginning of the first one
-      turns_do : (n t : ℕ) (s : S) (seen : List (Moment S)) (q : ℕ) (cs : List Block) →
+      turns_do : (n t : ℕ) (s : S) (seen : List (Event S)) (q : ℕ) (cs : List Block) →
           Does (begins most (at q cs t seen s) p line n bs) seen (all_turns most line body (suc n) t s) (e + 1) bs
       turns_do zero t s seen q cs = turn_then 0 t s seen q cs (λ t s xs. (
         1,
-        step_is e closing rest Close d is (Turns p line 0 ∷ bs) t xs s ∙ ap (λ (ms : List (Moment S)). at (e + 1) bs t ms s)
+        step_is e closing rest Close d is (Turns p line 0 ∷ bs) t xs s ∙ ap (λ (ms : List (Event S)). at (e + 1) bs t ms s)
             (sym (append-nil xs)),
       ))
       turns_do (suc n) t s seen q cs = turn_then (suc n) t s seen q cs
@@ -251,7 +251,7 @@ module _ {L S : Type 0} (rules : Rules L S) (most : ℕ) where
           (turns_do n t s xs e (Turns p line (suc n) ∷ bs)))
 
       -- a `repeat` of a number, and its turns
-      repeats_do : (z : ℤ) (t : ℕ) (s : S) (seen : List (Moment S)) →
+      repeats_do : (z : ℤ) (t : ℕ) (s : S) (seen : List (Event S)) →
           Does (repeats most (at p bs t seen s) line (e + 1) z) seen (repeated most line body z t s) (e + 1) bs
       repeats_do (negsuc n) t s seen = (0, (refl, refl))
       repeats_do (pos zero) t s seen = (0, refl)
@@ -271,17 +271,17 @@ module _ {L S : Type 0} (rules : Rules L S) (most : ℕ) where
     nothing_more t s = record { members = []; ended = None; turns = t; state = s }
 
     -- an `if`, the branch that it chooses, and the rest
-    one_more : (p line : ℕ) (bs : List Block) (t : ℕ) (seen : List (Moment S)) (s : S) (q : ℕ) (v : Bool) (branch other : ℕ → S →
+    one_more : (p line : ℕ) (bs : List Block) (t : ℕ) (seen : List (Event S)) (s : S) (q : ℕ) (v : Bool) (branch other : ℕ → S →
         Unrolled S) (e r : ℕ) (rest : ℕ → S → Unrolled S) → step rules most statements (at p bs t seen s)
         ≡ chooses (at p bs t seen s) line q v →
         Does (at (p + 1) (Chosen ∷ bs) t (seen ++ record { line = line; turns = t; state = s; puts = [] } ∷ []) s)
         (seen ++ record { line = line; turns = t; state = s; puts = [] } ∷ []) (branch t s) e bs →
         Does (at q (Chosen ∷ bs) t (seen ++ record { line = line; turns = t; state = s; puts = [] } ∷ []) s)
         (seen ++ record { line = line; turns = t; state = s; puts = [] } ∷ []) (other t s) e bs →
-        ((t : ℕ) (s : S) (xs : List (Moment S)) → Does (at e bs t xs s) xs (rest t s) r bs) →
+        ((t : ℕ) (s : S) (xs : List (Event S)) → Does (at e bs t xs s) xs (rest t s) r bs) →
         Does (at p bs t seen s) seen (then_on (member line t s [] None s) (λ t s. then_on (chosen v branch other t s) rest)) r bs
     one_more p line bs t seen s q v branch other e r rest one taken otherwise then_rest =
-        let m : Moment S = record { line = line; turns = t; state = s; puts = [] } in
+        let m : Event S = record { line = line; turns = t; state = s; puts = [] } in
         let x : Unrolled S = then_on (chosen v branch other t s) rest in
         let all : Does (chooses (at p bs t seen s) line q v) (seen ++ m ∷ []) x r bs =
         both_do (chooses (at p bs t seen s) line q v) (seen ++ m ∷ []) (chosen v branch other t s) e r bs bs rest
@@ -300,16 +300,16 @@ module _ {L S : Type 0} (rules : Rules L S) (most : ℕ) where
 
     module _ (placeless : (p : ℕ) (l : L) (s : S) → rules.act p l s ≡ rules.act 0 l s) where
       go : (parts : Parts L) → IsWell rules.shape parts → (p : ℕ) (more : List L) → drop p statements ≡ flat parts ++ more →
-          (bs : List Block) (t : ℕ) (s : S) (seen : List (Moment S)) →
+          (bs : List Block) (t : ℕ) (s : S) (seen : List (Event S)) →
           Does (at p bs t seen s) seen (unrolled rules most parts t s) (p + length (flat parts)) bs
       go Nothing w p more d bs t s seen =
           let same : p ≡ p + 0 = omega arith in
-          (0, ap (λ (n : ℕ). at n bs t seen s) same ∙ ap (λ (ms : List (Moment S)). at (p + 0) bs t ms s) (sym (append-nil seen)))
+          (0, ap (λ (n : ℕ). at n bs t seen s) same ∙ ap (λ (ms : List (Event S)). at (p + 0) bs t ms s) (sym (append-nil seen)))
       go (Then l rest) w p more d bs t s seen =
           let line : ℕ = rules.line l in
           let r : Result (S × List ℕ) FaultKind = rules.act 0 l s in
           let one : step rules most statements (at p bs t seen s) ≡ acted (at p bs t seen s) line r =
-          step_is p l (flat rest ++ more) Simple d w.0 bs t seen s
+          step_is p l (flat rest ++ more) Straight d w.0 bs t seen s
           ∙ ap (λ (x : Result (S × List ℕ) FaultKind). acted (at p bs t seen s) line x) (placeless p l s) in
           let first : Does (at p bs t seen s) seen (acted_once line t s r) (p + 1) bs =
           later (at p bs t seen s) (acted (at p bs t seen s) line r) 1 one seen (acted_once line t s r) (p + 1) bs
@@ -328,7 +328,7 @@ module _ {L S : Type 0} (rules : Rules L S) (most : ℕ) where
           jump_here statements p l (flat body ++ (e ∷ flat rest) ++ more) d
           ∙ ap (λ (x : Shape). jump_of x p (map rules.shape (flat body ++ (e ∷ flat rest) ++ more))) w.0
           ∙ ap (λ (xs : List L). p + 1 + to_end 0 (map rules.shape xs) + 1) (append_assoc (flat body) (e ∷ flat rest) more)
-          ∙ ap (λ (n : ℕ). p + 1 + n + 1) (end_behind body w.2 e w.1 (flat rest ++ more)) in
+          ∙ ap (λ (n : ℕ). p + 1 + n + 1) (end_after body w.2 e w.1 (flat rest ++ more)) in
           let one : step rules most statements (at p bs t seen s) ≡ repeats most (at p bs t seen s) line (q + 1) (rules.count l s) =
           step_is p l (flat body ++ (e ∷ flat rest) ++ more) Loop d w.0 bs t seen s
           ∙ ap (λ (n : ℕ). repeats most (at p bs t seen s) line n (rules.count l s)) jumps in
@@ -348,13 +348,13 @@ module _ {L S : Type 0} (rules : Rules L S) (most : ℕ) where
           let q : ℕ = p + 1 + length (flat branch) in
           let run_branch : ℕ → S → Unrolled S = λ t s. unrolled rules most branch t s in
           let v : Bool = rules.holds l s in
-          let m : Moment S = record { line = line; turns = t; state = s; puts = [] } in
+          let m : Event S = record { line = line; turns = t; state = s; puts = [] } in
           let closing : drop q statements ≡ e ∷ (flat rest ++ more) = closing_here statements p l e (flat branch) (flat rest) more d in
           let jumps : jump_from rules most statements p ≡ q =
           jump_here statements p l (flat branch ++ (e ∷ flat rest) ++ more) d
           ∙ ap (λ (x : Shape). jump_of x p (map rules.shape (flat branch ++ (e ∷ flat rest) ++ more))) w.0
           ∙ ap (λ (xs : List L). p + 1 + to_else 0 (map rules.shape xs)) (append_assoc (flat branch) (e ∷ flat rest) more)
-          ∙ ap (λ (n : ℕ). p + 1 + n) (no_else_behind branch w.2 e w.1 (flat rest ++ more)) in
+          ∙ ap (λ (n : ℕ). p + 1 + n) (no_else_after branch w.2 e w.1 (flat rest ++ more)) in
           let one : step rules most statements (at p bs t seen s) ≡ chooses (at p bs t seen s) line q v =
           step_is p l (flat branch ++ (e ∷ flat rest) ++ more) Branch d w.0 bs t seen s
           ∙ ap (λ (n : ℕ). chooses (at p bs t seen s) line n v) jumps in
@@ -365,7 +365,7 @@ module _ {L S : Type 0} (rules : Rules L S) (most : ℕ) where
           (leaves_branch q e (flat rest ++ more) closing w.1 bs) in
           let no_branch : Does (at q (Chosen ∷ bs) t (seen ++ m ∷ []) s) (seen ++ m ∷ []) (nothing_more t s) (q + 1) bs =
           and_step (at q (Chosen ∷ bs) t (seen ++ m ∷ []) s) (seen ++ m ∷ []) (nothing_more t s) q (q + 1) (Chosen ∷ bs) bs
-          (0, ap (λ (ms : List (Moment S)). at q (Chosen ∷ bs) t ms s) (sym (append-nil (seen ++ m ∷ []))))
+          (0, ap (λ (ms : List (Event S)). at q (Chosen ∷ bs) t ms s) (sym (append-nil (seen ++ m ∷ []))))
           (leaves_branch q e (flat rest ++ more) closing w.1 bs) in
           at_place (at p bs t seen s) seen (unrolled rules most (Chooses l e branch rest) t s) (q + 1 + length (flat rest))
           (p + length (flat (Chooses l e branch rest))) bs (all_here statements p l e (flat branch) (flat rest) more d)
@@ -374,33 +374,33 @@ module _ {L S : Type 0} (rules : Rules L S) (most : ℕ) where
           (λ t s xs. go rest w.3 (q + 1) more (rest_here statements p l e (flat branch) (flat rest) more d) bs t s xs))
       go (ChoosesElse l m e branch other rest) w p more d bs t s seen =
           let line : ℕ = rules.line l in
-          let behind_branch : List L = flat other ++ (e ∷ flat rest) in
+          let after_branch : List L = flat other ++ (e ∷ flat rest) in
           let a : ℕ = p + 1 + length (flat branch) in
           let q : ℕ = a + 1 + length (flat other) in
           let run_branch : ℕ → S → Unrolled S = λ t s. unrolled rules most branch t s in
           let run_other : ℕ → S → Unrolled S = λ t s. unrolled rules most other t s in
           let v : Bool = rules.holds l s in
-          let seen_here : List (Moment S) = seen ++ record { line = line; turns = t; state = s; puts = [] } ∷ [] in
-          let middle : drop a statements ≡ m ∷ (behind_branch ++ more) = closing_here statements p l m (flat branch) behind_branch more d in
+          let seen_here : List (Event S) = seen ++ record { line = line; turns = t; state = s; puts = [] } ∷ [] in
+          let middle : drop a statements ≡ m ∷ (after_branch ++ more) = closing_here statements p l m (flat branch) after_branch more d in
           let closing : drop q statements ≡ e ∷ (flat rest ++ more) = closing_here statements a m e (flat other) (flat rest) more middle in
           let jumps : jump_from rules most statements p ≡ a + 1 =
-          jump_here statements p l (flat branch ++ (m ∷ behind_branch) ++ more) d
-          ∙ ap (λ (x : Shape). jump_of x p (map rules.shape (flat branch ++ (m ∷ behind_branch) ++ more))) w.0
-          ∙ ap (λ (xs : List L). p + 1 + to_else 0 (map rules.shape xs)) (append_assoc (flat branch) (m ∷ behind_branch) more)
-          ∙ ap (λ (n : ℕ). p + 1 + n) (else_behind branch w.3 m w.1 (behind_branch ++ more)) ∙ one_on p (length (flat branch)) in
+          jump_here statements p l (flat branch ++ (m ∷ after_branch) ++ more) d
+          ∙ ap (λ (x : Shape). jump_of x p (map rules.shape (flat branch ++ (m ∷ after_branch) ++ more))) w.0
+          ∙ ap (λ (xs : List L). p + 1 + to_else 0 (map rules.shape xs)) (append_assoc (flat branch) (m ∷ after_branch) more)
+          ∙ ap (λ (n : ℕ). p + 1 + n) (else_after branch w.3 m w.1 (after_branch ++ more)) ∙ one_on p (length (flat branch)) in
           let one : step rules most statements (at p bs t seen s) ≡ chooses (at p bs t seen s) line (a + 1) v =
-          step_is p l (flat branch ++ (m ∷ behind_branch) ++ more) Branch d w.0 bs t seen s
+          step_is p l (flat branch ++ (m ∷ after_branch) ++ more) Branch d w.0 bs t seen s
           ∙ ap (λ (n : ℕ). chooses (at p bs t seen s) line n v) jumps in
-          let ends : to_end 0 (map rules.shape (behind_branch ++ more)) ≡ length (flat other) =
+          let ends : to_end 0 (map rules.shape (after_branch ++ more)) ≡ length (flat other) =
           ap (λ (xs : List L). to_end 0 (map rules.shape xs)) (append_assoc (flat other) (e ∷ flat rest) more)
-          ∙ end_behind other w.4 e w.2 (flat rest ++ more) in
+          ∙ end_after other w.4 e w.2 (flat rest ++ more) in
           let to_middle : Does (at (p + 1) (Chosen ∷ bs) t seen_here s) seen_here (run_branch t s) a (Chosen ∷ bs) =
-          go branch w.3 (p + 1) (m ∷ (behind_branch ++ more)) (inner_here statements p l m (flat branch) behind_branch more d) (Chosen ∷ bs)
+          go branch w.3 (p + 1) (m ∷ (after_branch ++ more)) (inner_here statements p l m (flat branch) after_branch more d) (Chosen ∷ bs)
           t s seen_here in
           let taken : Does (at (p + 1) (Chosen ∷ bs) t seen_here s) seen_here (run_branch t s) (q + 1) bs =
           and_step (at (p + 1) (Chosen ∷ bs) t seen_here s) seen_here (run_branch t s) q (q + 1) (Chosen ∷ bs) bs
           (and_step (at (p + 1) (Chosen ∷ bs) t seen_here s) seen_here (run_branch t s) a q (Chosen ∷ bs) (Chosen ∷ bs) to_middle
-          (passes_else a m (behind_branch ++ more) middle w.1 (length (flat other)) ends (Chosen ∷ bs)))
+          (passes_else a m (after_branch ++ more) middle w.1 (length (flat other)) ends (Chosen ∷ bs)))
           (leaves_branch q e (flat rest ++ more) closing w.2 bs) in
           let otherwise : Does (at (a + 1) (Chosen ∷ bs) t seen_here s) seen_here (run_other t s) (q + 1) bs =
           and_step (at (a + 1) (Chosen ∷ bs) t seen_here s) seen_here (run_other t s) q (q + 1) (Chosen ∷ bs) bs
@@ -409,7 +409,7 @@ module _ {L S : Type 0} (rules : Rules L S) (most : ℕ) where
           (leaves_branch q e (flat rest ++ more) closing w.2 bs) in
           let whole_here : q + 1 + length (flat rest) ≡ p + length (flat (ChoosesElse l m e branch other rest)) =
           let second = all_here statements a m e (flat other) (flat rest) more middle in
-          let first = all_here statements p l m (flat branch) behind_branch more d in
+          let first = all_here statements p l m (flat branch) after_branch more d in
           omega (arith, first, second) in
           at_place (at p bs t seen s) seen (unrolled rules most (ChoosesElse l m e branch other rest) t s) (q + 1 + length (flat rest))
           (p + length (flat (ChoosesElse l m e branch other rest))) bs whole_here
@@ -429,9 +429,9 @@ module _ {L S : Type 0} (rules : Rules L S) (most : ℕ) (placeless : (p : ℕ) 
     where
       past : slice_get (flat parts) (0 + length (flat parts)) ≡ None
       past = let same : 0 + length (flat parts) ≡ length (flat parts) = omega arith in
-          none_behind (flat parts) (0 + length (flat parts)) (ap (λ (n : ℕ). drop n (flat parts)) same ∙ drop-length (flat parts))
+          none_after (flat parts) (0 + length (flat parts)) (ap (λ (n : ℕ). drop n (flat parts)) same ∙ drop-length (flat parts))
 
-      by_end : (ms : List (Moment S)) (o : Option End) (t : ℕ) (x : S) (k : ℕ) →
+      by_end : (ms : List (Event S)) (o : Option End) (t : ℕ) (x : S) (k : ℕ) →
           ComesTo rules most (flat parts) (after rules most (flat parts) k s) [] ms o t x (0 + length (flat parts)) [] → (j : ℕ) ×
           ((after rules most (flat parts) j s).seen ≡ ms) × ((after rules most (flat parts) j s).ended ≡ Some (unwrap_or o Done))
       by_end ms None t x k e =
@@ -442,8 +442,8 @@ module _ {L S : Type 0} (rules : Rules L S) (most : ℕ) (placeless : (p : ℕ) 
       by_end ms (Some y) t x k e = (k, e.1, e.0)
 
   -- the members of the run are those of the unrolled one
-  pub moments_unrolled : run_moments rules most (flat parts) s ≡ (unrolled rules most parts 0 s).members
-  moments_unrolled = moments_when_ended rules most (flat parts) s whole_is.0 (unwrap_or (unrolled rules most parts 0 s).ended Done)
+  pub trace_unrolled : run_trace rules most (flat parts) s ≡ (unrolled rules most parts 0 s).members
+  trace_unrolled = trace_when_ended rules most (flat parts) s whole_is.0 (unwrap_or (unrolled rules most parts 0 s).ended Done)
       whole_is.2 ∙ whole_is.1
 
   -- and so is the end

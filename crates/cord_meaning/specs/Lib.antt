@@ -9,5 +9,5 @@ pub mod Statements
 pub mod Meaning
 pub mod Unrolled
 pub mod Leads
-pub mod Rows
+pub mod Examples
 pub mod inner

@@ -1,6 +1,6 @@
 -- Paths: which place may come next after which, whatever the counts and comparisons.
 use Rattle.std.specs.Prelude.{◌≡◌, ◌⊎◌, ℕ, zero, suc, ◌+◌, List, [], ◌∷◌, Option, Some, None, slice_get}
-use Rattle.cord_meaning.specs.Blocks.{Shape, Simple, Loop, Branch, Otherwise, Close, jump}
+use Rattle.cord_meaning.specs.Blocks.{Shape, Straight, Loop, Branch, Otherwise, Close, jump}
 
 -- the open blocks, the innermost first, after a statement at place p: the place of a `repeat`, or none for an `if`
 abbrev pub opened : ℕ → List (Option ℕ) → Option Shape → List (Option ℕ)
@@ -8,7 +8,7 @@ opened p blocks (Some Loop) = Some p ∷ blocks
 opened p blocks (Some Branch) = None ∷ blocks
 opened p [] (Some Close) = []
 opened p (b ∷ blocks) (Some Close) = blocks
-opened p blocks (Some Simple) = blocks
+opened p blocks (Some Straight) = blocks
 opened p blocks (Some Otherwise) = blocks
 opened p blocks None = blocks
 
@@ -27,7 +27,7 @@ NextOfClose p (Some r ∷ blocks) q = (q ≡ r + 1) ⊎ (q ≡ p + 1)
 -- what may come after a statement of a shape
 abbrev pub NextOf : List Shape → ℕ → Option Shape → ℕ → Type 0
 NextOf shapes p None q = ⊥
-NextOf shapes p (Some Simple) q = q ≡ p + 1
+NextOf shapes p (Some Straight) q = q ≡ p + 1
 NextOf shapes p (Some Loop) q = (q ≡ p + 1) ⊎ (q ≡ jump shapes p)
 NextOf shapes p (Some Branch) q = (q ≡ p + 1) ⊎ (q ≡ jump shapes p)
 NextOf shapes p (Some Otherwise) q = q ≡ jump shapes p

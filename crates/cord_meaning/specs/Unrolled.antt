@@ -5,8 +5,8 @@ use Rattle.cord_meaning.specs.declared.ends.End.{End}
 use Rattle.cord_meaning.specs.declared.ends.End.TheVariants.{Fault}
 use Rattle.cord_meaning.specs.declared.ends.FaultKind.{FaultKind}
 use Rattle.cord_meaning.specs.declared.ends.FaultKind.TheVariants.{Negative, TooManyTurns}
-use Rattle.cord_meaning.specs.Blocks.{Shape, Simple, Loop, Branch, Otherwise, Close}
-use Rattle.cord_meaning.specs.Machine.{Rules, Moment}
+use Rattle.cord_meaning.specs.Blocks.{Shape, Straight, Loop, Branch, Otherwise, Close}
+use Rattle.cord_meaning.specs.Machine.{Rules, Event}
 
 -- statements by their blocks, in order; of a block its first and last statement, and its `else`, are kept
 pub data Parts (L : Type 0) : Type 0 where
@@ -27,7 +27,7 @@ flat (ChoosesElse l m e branch other rest) = l ∷ (flat branch ++ (m ∷ (flat 
 -- each statement is of the kind that its place asks for
 abbrev pub IsWell : {L : Type 0} → (L → Shape) → Parts L → Type 0
 IsWell shape Nothing = Unit {0}
-IsWell shape (Then l rest) = (shape l ≡ Simple) × IsWell shape rest
+IsWell shape (Then l rest) = (shape l ≡ Straight) × IsWell shape rest
 IsWell shape (Repeats l e body rest) = (shape l ≡ Loop) × (shape e ≡ Close) × IsWell shape body × IsWell shape rest
 IsWell shape (Chooses l e branch rest) = (shape l ≡ Branch) × (shape e ≡ Close) × IsWell shape branch × IsWell shape rest
 IsWell shape (ChoosesElse l m e branch other rest) = (shape l ≡ Branch) × (shape m ≡ Otherwise) × (shape e ≡ Close) × IsWell shape branch ×
@@ -35,14 +35,14 @@ IsWell shape (ChoosesElse l m e branch other rest) = (shape l ≡ Branch) × (sh
 
 -- what was run, how it ended if it did, and the turns and the state then
 pub record Unrolled (S : Type 0) : Type 0 where
-  pub members : List (Moment S)
+  pub members : List (Event S)
   pub ended : Option End
   pub turns : ℕ
   pub state : S
 
 module _ {S : Type 0} where
   -- one after the other: what follows an end isn't run
-  abbrev pub joined : List (Moment S) → Option End → ℕ → S → (ℕ → S → Unrolled S) → Unrolled S
+  abbrev pub joined : List (Event S) → Option End → ℕ → S → (ℕ → S → Unrolled S) → Unrolled S
   joined members None turns state next = record (next turns state) { members = members ++ (next turns state).members }
   joined members (Some e) turns state next = record { members = members; ended = Some e; turns = turns; state = state }
 
@@ -58,7 +58,7 @@ module _ {S : Type 0} where
     state = state;
   }
 
-  -- a simple statement
+  -- a straight-line statement
   abbrev pub acted_once : ℕ → ℕ → S → Result (S × List ℕ) FaultKind → Unrolled S
   acted_once line turns state (Ok next) = member line turns state next.1 None next.0
   acted_once line turns state (Err kind) = member line turns state [] (Some (Fault line kind)) state

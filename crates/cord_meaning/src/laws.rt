@@ -1,8 +1,8 @@
 // Laws of the meaning of scripts: each is a function that does nothing, whose contract is the law.
 ghost use Rattle.std.specs.Prelude.{◌≡◌, ◌≢◌, ◌≤◌, ◌<◌, ℕ, ◌+◌, ◌-◌, ◌^◌, List, [], map, suc, None, All, take, IsSome};
 ghost use Rattle.std.specs.Prelude.{unwrap_or};
-ghost use Rattle.cord_io.specs.Device.{Folder};
-ghost use Rattle.cord_io.specs.Entries.{digits, byte_values};
+ghost use Rattle.cord_io.specs.Device.{FileSystem};
+ghost use Rattle.cord_io.specs.FunctionTexts.{digits, byte_values};
 ghost use Rattle.cord_script.specs.Script.{Reads};
 ghost use Rattle.cord_syntax.specs.declared.statements.Statement.{Statement};
 ghost use Rattle.cord_operands.specs.declared.operands.Function.TheVariants.{Digits, Bytes};
@@ -14,7 +14,7 @@ ghost use Rattle.cord_meaning.specs.Statements.{rules, shape_of, line_of, functi
 ghost use Rattle.cord_meaning.specs.Unrolled.{Parts, IsWell, flat, unrolled};
 ghost use Rattle.cord_meaning.specs.Leads.{LeadsTo};
 ghost use Rattle.cord_meaning.specs.Ends.{IsMeant};
-ghost use Rattle.cord_meaning.specs.Meaning.{moments, end_of, output, moments_within, end_within, run_within};
+ghost use Rattle.cord_meaning.specs.Meaning.{trace, end_of, output, trace_within, end_within, run_within};
 ghost use Rattle.cord_meaning.specs.declared.ends.End.TheVariants.{Done, Fault};
 ghost use Rattle.cord_meaning.specs.declared.ends.FaultKind.TheVariants.{TooLong};
 
@@ -24,33 +24,33 @@ use cord_io::MAX_LEN;
 /// Every run ends, after at most so many steps: one more than the statements, for each turn that may begin and once
 /// more.
 pub fn every_run_ends()
-    ensures ends { (limit most : ℕ) (statements : List Statement) (files : Folder) →
+    ensures ends { (limit most : ℕ) (statements : List Statement) (files : FileSystem) →
         IsSome (run_within limit most statements files (enough most statements)).ended }
-    ensures meant { (limit most : ℕ) (statements : List Statement) (files : Folder) →
+    ensures meant { (limit most : ℕ) (statements : List Statement) (files : FileSystem) →
         IsMeant (end_within limit most statements files) }
 {}
 
 /// What was run stays: the members of a run after some steps are the first ones after more steps, and of the whole run.
 pub fn what_was_run_stays()
-    ensures more { (limit most : ℕ) (statements : List Statement) (files : Folder) (k j : ℕ) →
+    ensures more { (limit most : ℕ) (statements : List Statement) (files : FileSystem) (k j : ℕ) →
         Begins (run_within limit most statements files k).seen (run_within limit most statements files (k + j)).seen }
-    ensures whole { (limit most : ℕ) (statements : List Statement) (files : Folder) (k : ℕ) →
-        Begins (run_within limit most statements files k).seen (moments_within limit most statements files) }
+    ensures whole { (limit most : ℕ) (statements : List Statement) (files : FileSystem) (k : ℕ) →
+        Begins (run_within limit most statements files k).seen (trace_within limit most statements files) }
 {}
 
 /// The law of the limit: where a run with a smaller limit doesn't end with the fault `TooLong`, a greater limit changes
 /// nothing. So it is with the limit of 32 bits and with `MAX_LEN`.
 pub fn limits_only_refuse()
-    ensures moments { (small great most : ℕ) (statements : List Statement) (files : Folder) → small ≤ great →
+    ensures trace { (small great most : ℕ) (statements : List Statement) (files : FileSystem) → small ≤ great →
         ((line : ℕ) → end_within small most statements files ≢ Fault line TooLong) →
-        moments_within great most statements files ≡ moments_within small most statements files }
-    ensures end { (small great most : ℕ) (statements : List Statement) (files : Folder) → small ≤ great →
+        trace_within great most statements files ≡ trace_within small most statements files }
+    ensures end { (small great most : ℕ) (statements : List Statement) (files : FileSystem) → small ≤ great →
         ((line : ℕ) → end_within small most statements files ≢ Fault line TooLong) →
         end_within great most statements files ≡ end_within small most statements files }
-    ensures output_of_32_bits { (statements : List Statement) (files : Folder) →
+    ensures output_of_32_bits { (statements : List Statement) (files : FileSystem) →
         ((line : ℕ) → end_within (2 ^ 32 - 1) MAX_TURNS statements files ≢ Fault line TooLong) →
-        output (moments statements files) ≡ output (moments_within (2 ^ 32 - 1) MAX_TURNS statements files) }
-    ensures end_of_32_bits { (statements : List Statement) (files : Folder) →
+        output (trace statements files) ≡ output (trace_within (2 ^ 32 - 1) MAX_TURNS statements files) }
+    ensures end_of_32_bits { (statements : List Statement) (files : FileSystem) →
         ((line : ℕ) → end_within (2 ^ 32 - 1) MAX_TURNS statements files ≢ Fault line TooLong) →
         end_of statements files ≡ end_within (2 ^ 32 - 1) MAX_TURNS statements files }
 {}
@@ -58,9 +58,9 @@ pub fn limits_only_refuse()
 /// A run is the unrolled run: a `repeat` that reads n is its body n times, each after the beginning of its turn, and an
 /// `if` is the branch that its numbers choose. Statements whose blocks are closed are such parts.
 pub fn runs_are_unrolled()
-    ensures moments { (limit most : ℕ) (parts : Parts Statement) (files : Folder) → IsWell shape_of parts →
-        moments_within limit most (flat parts) files ≡ (unrolled (rules limit files) most parts 0 start_state).members }
-    ensures end { (limit most : ℕ) (parts : Parts Statement) (files : Folder) → IsWell shape_of parts →
+    ensures trace { (limit most : ℕ) (parts : Parts Statement) (files : FileSystem) → IsWell shape_of parts →
+        trace_within limit most (flat parts) files ≡ (unrolled (rules limit files) most parts 0 start_state).members }
+    ensures end { (limit most : ℕ) (parts : Parts Statement) (files : FileSystem) → IsWell shape_of parts →
         end_within limit most (flat parts) files ≡ unwrap_or
         (unrolled (rules limit files) most parts 0 start_state).ended Done }
     ensures parts { (statements : List Statement) → IsNested [] (map shape_of statements) → (parts : Parts Statement) ×
@@ -70,7 +70,7 @@ pub fn runs_are_unrolled()
 /// A run follows paths: of a script whose blocks are closed, each step that doesn't end the run leads to a place that
 /// may come next.
 pub fn runs_follow_paths()
-    ensures { (limit most : ℕ) (statements : List Statement) (files : Folder) (k : ℕ) →
+    ensures { (limit most : ℕ) (statements : List Statement) (files : FileSystem) (k : ℕ) →
         IsNested [] (map shape_of statements) → (run_within limit most statements files (suc k)).ended ≡ None →
         Next (map shape_of statements) (run_within limit most statements files k).place
         (run_within limit most statements files (suc k)).place }
@@ -93,7 +93,7 @@ pub fn read_scripts_are_closed()
         All (λ s. 0 < line_of s) statements }
 {}
 
-/// What `fn` takes is the front of an entry that is `MAX_LEN` long.
+/// What `fn` takes is the prefix of an entry that is `MAX_LEN` long.
 pub fn functions_are_entries()
     ensures digits { (n : ℕ) → n ≤ MAX_LEN → function_text Digits n ≡ take n (digits MAX_LEN) }
     ensures bytes { (n : ℕ) → n ≤ MAX_LEN → function_text Bytes n ≡ take n (byte_values MAX_LEN) }

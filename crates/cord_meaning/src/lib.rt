@@ -2,20 +2,20 @@
 #![tactic(auto)]
 
 mod ends;
+mod examples;
 mod laws;
 mod limits;
-mod rows;
 
 pub use ends::{End, FaultKind};
+pub use examples::{
+    examples_are_computed, examples_of_searches_are_computed, examples_with_blocks_are_computed,
+    right_ends_are_faithful, wrong_ends_are_not_faithful,
+};
 pub use laws::{
     every_run_ends, functions_are_entries, limits_only_refuse, paths_follow_blocks,
     read_scripts_are_closed, runs_are_unrolled, runs_follow_paths, what_was_run_stays,
 };
 pub use limits::limits_are;
-pub use rows::{
-    right_ends_are_honest, rows_are_computed, rows_of_searches_are_computed,
-    rows_with_blocks_are_computed, wrong_ends_are_not_honest,
-};
 
 /// The greatest number of turns that all loops of a run begin together.
 pub const MAX_TURNS: u64 = 1_000_000;

@@ -8,13 +8,13 @@ use Rattle.cord_node.specs.declared.Node.{Node}
 use Rattle.cord_node.specs.declared.Node.TheVariants.{Leaf, Run, Func, Cat'}
 use Rattle.cord_node.specs.declared.TheConstants.{SMALL_LEN}
 use Rattle.cord_node.specs.Tree.{Cell, known, cells, len_of, depth_of, IsSound}
-use Rattle.cord_node.specs.Kept.{Part, leaf_part, parts, AreFrom, Kept}
+use Rattle.cord_node.specs.PartsFrom.{Part, leaf_part, parts, AreFrom, PartsFrom}
 use Rattle.cord_node.specs.Touched.{touched, AtMostOneMore}
 use Rattle.cord_node.specs.Cords.{text, text_len, depth, parts_of, IsCord}
 use Rattle.cord_node.specs.inner.Splices.{IsSplice}
 use Rattle.cord_node.specs.inner.Splices.{LeftTakes, RightTakes, BothTake, AreSpliced, AreSides}
-use Rattle.cord_node.proofs.KeptLemmas.{IsFrom-small, AreFrom-append, AreFrom-append_left, AreFrom-append_right}
-use Rattle.cord_node.proofs.KeptLemmas.{AreFrom-self, AreFrom-trans}
+use Rattle.cord_node.proofs.PartsFromLemmas.{IsFrom-small, AreFrom-append, AreFrom-append_left, AreFrom-append_right}
+use Rattle.cord_node.proofs.PartsFromLemmas.{AreFrom-self, AreFrom-trans}
 use Rattle.cord_node.proofs.TouchedLemmas.{touched_around}
 use Rattle.cord_node.proofs.Ranges.{take-append_right, drop-append_right}
 use Rattle.cord_node.proofs.TreeLemmas.{length-cells}
@@ -24,53 +24,54 @@ pub AreFrom-both : (a b ps qs : List Part) → AreFrom ps a → AreFrom qs b →
 AreFrom-both a b ps qs h k = AreFrom-append ps qs (a ++ b) (AreFrom-append_left ps a b h) (AreFrom-append_right qs a b k)
 
 -- three joined, the first two of them first
-pub three_left : (front middle back two all : List Part) → AreFrom two (front ++ middle) → AreFrom all (two ++ back) →
-    AreFrom all (front ++ middle ++ back)
-three_left front middle back two all h k = AreFrom-trans all (two ++ back) (front ++ middle ++ back) k
-    (AreFrom-both (front ++ middle) back two back h (AreFrom-self back))
+pub three_left : (prefix middle back two all : List Part) → AreFrom two (prefix ++ middle) → AreFrom all (two ++ back) →
+    AreFrom all (prefix ++ middle ++ back)
+three_left prefix middle back two all h k = AreFrom-trans all (two ++ back) (prefix ++ middle ++ back) k
+    (AreFrom-both (prefix ++ middle) back two back h (AreFrom-self back))
 
 -- and the last two first
-pub three_right : (front middle back two all : List Part) → AreFrom two (middle ++ back) → AreFrom all (front ++ two) →
-    AreFrom all (front ++ middle ++ back)
-three_right front middle back two all h k = rw (append_assoc front middle back)
-    (AreFrom-trans all (front ++ two) (front ++ (middle ++ back)) k
-    (AreFrom-both front (middle ++ back) front two (AreFrom-self front) h))
+pub three_right : (prefix middle back two all : List Part) → AreFrom two (middle ++ back) → AreFrom all (prefix ++ two) →
+    AreFrom all (prefix ++ middle ++ back)
+three_right prefix middle back two all h k = rw (append_assoc prefix middle back)
+    (AreFrom-trans all (prefix ++ two) (prefix ++ (middle ++ back)) k
+    (AreFrom-both prefix (middle ++ back) prefix two (AreFrom-self prefix) h))
 
 -- what is left in front and behind, with the middle between them
-pub replaced_is : (from until end : ℕ) (middle : Option Node) (old : Node) (front back all : Option Node) (new : Node) →
+pub replaced_is : (from until end : ℕ) (middle : Option Node) (old : Node) (prefix back all : Option Node) (new : Node) →
     IsSound old → until ≤ len_of old → end ≡ len_of old → all ≡ Some new → IsCord all →
-    text front ≡ take (from - 0) (drop 0 (cells old)) → text back ≡ take (end - until) (drop until (cells old)) →
-    text all ≡ text front ++ text middle ++ text back →
-    text_len front ≡ from - 0 → text_len back ≡ end - until → text_len all ≡ text_len front + text_len middle + text_len back →
-    depth front ≤ depth_of old → depth back ≤ depth_of old →
-    depth all ≤ max (max (depth front) (depth middle)) (depth back) + 2 →
-    AreFrom (parts_of front) (parts old) → AreFrom (parts_of back) (parts old) →
-    AreFrom (parts_of all) (parts_of front ++ parts_of middle ++ parts_of back) →
-    length (parts_of front) ≤ touched 0 from (parts old) → length (parts_of back) ≤ touched until end (parts old) →
-    length (parts_of all) ≤ length (parts_of front) + length (parts_of middle) + length (parts_of back) → from ≤ until →
+    text prefix ≡ take (from - 0) (drop 0 (cells old)) → text back ≡ take (end - until) (drop until (cells old)) →
+    text all ≡ text prefix ++ text middle ++ text back →
+    text_len prefix ≡ from - 0 → text_len back ≡ end - until → text_len all ≡ text_len prefix + text_len middle + text_len back →
+    depth prefix ≤ depth_of old → depth back ≤ depth_of old →
+    depth all ≤ max (max (depth prefix) (depth middle)) (depth back) + 2 →
+    AreFrom (parts_of prefix) (parts old) → AreFrom (parts_of back) (parts old) →
+    AreFrom (parts_of all) (parts_of prefix ++ parts_of middle ++ parts_of back) →
+    length (parts_of prefix) ≤ touched 0 from (parts old) → length (parts_of back) ≤ touched until end (parts old) →
+    length (parts_of all) ≤ length (parts_of prefix) + length (parts_of middle) + length (parts_of back) → from ≤ until →
     IsSplice from until middle old new
-replaced_is from until end middle old front back all new sound inside last is s t_front t_back t l_front l_back l d_front d_back d f_front
-    f_back f n_front n_back n order =
+replaced_is from until end middle old prefix back all new sound inside last is s t_prefix t_back t l_prefix l_back l d_prefix d_back d
+    f_prefix
+    f_back f n_prefix n_back n order =
     let zero : from - 0 ≡ from = omega arith in
     let long : length (drop until (cells old)) ≤ end - until =
     rw (length-drop until (cells old), length-cells old sound) (omega (arith, last)) in
     let rest : text back ≡ drop until (cells old) = t_back ∙ take_all (end - until) (drop until (cells old)) long in
-    let start : text front ≡ take from (cells old) = t_front ∙ ap (λ (k : ℕ). take k (cells old)) zero in
+    let start : text prefix ≡ take from (cells old) = t_prefix ∙ ap (λ (k : ℕ). take k (cells old)) zero in
     let len_is : text_len all ≡ len_of new = ap text_len is in
     let depth_is : depth all ≡ depth_of new = ap depth is in
     let parts_are : length (parts_of all) ≡ length (parts new) = ap (λ (o : Option Node). length (parts_of o)) is in
     let come : AreFrom (parts_of all) (parts old ++ parts_of middle) =
-    AreFrom-trans (parts_of all) (parts_of front ++ parts_of middle ++ parts_of back) (parts old ++ parts_of middle) f
-    (AreFrom-append (parts_of front ++ parts_of middle) (parts_of back) (parts old ++ parts_of middle)
-    (AreFrom-both (parts old) (parts_of middle) (parts_of front) (parts_of middle) f_front (AreFrom-self (parts_of middle)))
+    AreFrom-trans (parts_of all) (parts_of prefix ++ parts_of middle ++ parts_of back) (parts old ++ parts_of middle) f
+    (AreFrom-append (parts_of prefix ++ parts_of middle) (parts_of back) (parts old ++ parts_of middle)
+    (AreFrom-both (parts old) (parts_of middle) (parts_of prefix) (parts_of middle) f_prefix (AreFrom-self (parts_of middle)))
     (AreFrom-append_left (parts_of back) (parts old) (parts_of middle) f_back)) in
     record {
       sound = subst IsCord is s;
       text = sym (ap text is) ∙ (rw (t, start, rest) refl);
-      len = omega (arith, len_is, l, l_front, l_back, last);
-      depth = omega (arith, depth_is, d, d_front, d_back);
+      len = omega (arith, len_is, l, l_prefix, l_back, last);
+      depth = omega (arith, depth_is, d, d_prefix, d_back);
       from_there = subst (λ o. AreFrom (parts_of o) (parts old ++ parts_of middle)) is come;
-      few = omega (arith, parts_are, n, n_front, n_back, touched_around from until end (parts old) order);
+      few = omega (arith, parts_are, n, n_prefix, n_back, touched_around from until end (parts old) order);
     }
 
 -- one short leaf of known bytes
@@ -131,13 +132,13 @@ pub left_changed : (from until : ℕ) (middle : Option Node) (left right changed
 left_changed from until middle left right changed order a b takes i =
     let here : until ≤ length (cells left) = rw (length-cells left a) takes.inside in
     let before : from ≤ length (cells left) = omega arith in
-    let front : take from (cells left ++ cells right) ≡ take from (cells left) = take-append-le from (cells left) (cells right) before in
+    let prefix : take from (cells left ++ cells right) ≡ take from (cells left) = take-append-le from (cells left) (cells right) before in
     let back : drop until (cells left ++ cells right) ≡ drop until (cells left) ++ cells right =
     drop-append-le until (cells left) (cells right) here in
     record {
       left_sound = i.sound;
       right_sound = b;
-      text = rw (i.text, front, back) (append_assoc (take from (cells left) ++ text middle) (drop until (cells left)) (cells right));
+      text = rw (i.text, prefix, back) (append_assoc (take from (cells left) ++ text middle) (drop until (cells left)) (cells right));
       len = omega (arith, i.len, takes.inside);
       depth = omega (arith, i.depth, takes.deep);
       from_there = AreFrom-append (parts changed) (parts right) (parts left ++ parts right ++ parts_of middle)
@@ -155,7 +156,7 @@ right_changed from until middle left right changed order a b takes i =
     let l : length (cells left) ≡ len_of left = length-cells left a in
     let before : length (cells left) ≤ from = omega (arith, takes.0) in
     let here : length (cells left) ≤ until = omega arith in
-    let front : take from (cells left ++ cells right) ≡ cells left ++ take (from - len_of left) (cells right) =
+    let prefix : take from (cells left ++ cells right) ≡ cells left ++ take (from - len_of left) (cells right) =
     take-append_right (cells left) (cells right) from before ∙ ap (λ (k : ℕ). cells left ++ take (from - k) (cells right)) l in
     let back : drop until (cells left ++ cells right) ≡ drop (until - len_of left) (cells right) =
     drop-append_right (cells left) (cells right) until here ∙ ap (λ (k : ℕ). drop (until - k) (cells right)) l in
@@ -167,7 +168,7 @@ right_changed from until middle left right changed order a b takes i =
     record {
       left_sound = a;
       right_sound = i.sound;
-      text = rw (i.text, front, back) moved;
+      text = rw (i.text, prefix, back) moved;
       len = omega (arith, i.len, takes.1.inside, takes.0, order);
       depth = omega (arith, i.depth, takes.1.deep);
       from_there = AreFrom-append (parts left) (parts changed) (parts left ++ parts right ++ parts_of middle)
@@ -181,14 +182,14 @@ right_changed from until middle left right changed order a b takes i =
 both_changed : (from until : ℕ) (middle : Option Node) (left right changed rest : Node) → from ≤ until → IsSound left → IsSound right →
     BothTake from until middle left right → IsSplice from (len_of left) middle left changed → IsSound rest →
     cells rest ≡ take (len_of right - (until - len_of left)) (drop (until - len_of left) (cells right)) →
-    len_of rest ≡ len_of right - (until - len_of left) → depth_of rest ≤ depth_of right → Kept (parts right) (parts rest) →
+    len_of rest ≡ len_of right - (until - len_of left) → depth_of rest ≤ depth_of right → PartsFrom (parts right) (parts rest) →
     AreSpliced from until middle left right changed rest
 both_changed from until middle left right changed rest order a b takes i s t l d k =
     let ll : length (cells left) ≡ len_of left = length-cells left a in
     let lr : length (cells right) ≡ len_of right = length-cells right b in
     let before : from ≤ length (cells left) = omega (arith, takes.0) in
     let here : length (cells left) ≤ until = omega (arith, takes.1) in
-    let front : take from (cells left ++ cells right) ≡ take from (cells left) = take-append-le from (cells left) (cells right) before in
+    let prefix : take from (cells left ++ cells right) ≡ take from (cells left) = take-append-le from (cells left) (cells right) before in
     let back : drop until (cells left ++ cells right) ≡ drop (until - len_of left) (cells right) =
     drop-append_right (cells left) (cells right) until here ∙ ap (λ (k : ℕ). drop (until - k) (cells right)) ll in
     let long : length (drop (until - len_of left) (cells right)) ≤ len_of right - (until - len_of left) =
@@ -200,7 +201,7 @@ both_changed from until middle left right changed rest order a b takes i s t l d
     record {
       left_sound = i.sound;
       right_sound = s;
-      text = rw (i.text, none, all, front, back, append-nil (take from (cells left) ++ text middle)) refl;
+      text = rw (i.text, none, all, prefix, back, append-nil (take from (cells left) ++ text middle)) refl;
       len = omega (arith, i.len, l, takes.0, takes.1, takes.2);
       depth = omega (arith, i.depth, d, takes.3.deep);
       from_there = AreFrom-append (parts changed) (parts rest) (parts left ++ parts right ++ parts_of middle)
@@ -210,7 +211,7 @@ both_changed from until middle left right changed rest order a b takes i s t l d
       few = few_sides (parts left) (parts right) (parts_of middle) (parts changed) (parts rest) (omega (arith, i.few, k.no_more));
     }
 
--- the same, where the lengths are told
+-- the same, where the lengths are reported
 pub right_changed_at : (from until seam : ℕ) (middle : Option Node) (left right changed : Node) → seam ≡ len_of left → from ≤ until →
     IsSound left → IsSound right → RightTakes from until middle left right →
     IsSplice (from - seam) (until - seam) middle right changed → AreSpliced from until middle left right left changed
@@ -222,7 +223,7 @@ pub both_changed_at : (from until seam end : ℕ) (middle : Option Node) (left r
     end ≡ len_of right → from ≤ until → IsSound left → IsSound right → BothTake from until middle left right →
     IsSplice from seam middle left changed → IsSound rest →
     cells rest ≡ take (end - (until - seam)) (drop (until - seam) (cells right)) → len_of rest ≡ end - (until - seam) →
-    depth_of rest ≤ depth_of right → Kept (parts right) (parts rest) → AreSpliced from until middle left right changed rest
+    depth_of rest ≤ depth_of right → PartsFrom (parts right) (parts rest) → AreSpliced from until middle left right changed rest
 both_changed_at from until seam end middle left right changed rest at last order a b takes i s t l d k =
     both_changed from until middle left right changed rest order a b takes
     (subst (λ n. IsSplice from n middle left changed) at i) s (t ∙ (rw (at, last) refl)) (l ∙ (rw (at, last) refl)) d k
@@ -259,5 +260,5 @@ joined_spliced from until middle old old_left old_right left right new s sides i
 
 -- what `join` says of its result
 pub join_is : (left right new : Node) → IsSound new → cells new ≡ cells left ++ cells right → len_of new ≡ len_of left + len_of right →
-    depth_of new ≤ max (depth_of left) (depth_of right) + 1 → Kept (parts left ++ parts right) (parts new) → IsJoined left right new
+    depth_of new ≤ max (depth_of left) (depth_of right) + 1 → PartsFrom (parts left ++ parts right) (parts new) → IsJoined left right new
 join_is left right new s t l d k = record { sound = s; text = t; len = l; depth = d; from_there = k.from_there; no_more = k.no_more }

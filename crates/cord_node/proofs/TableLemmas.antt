@@ -123,9 +123,9 @@ FitsIn-longer ls ms (Run byte len) h f = tt
 FitsIn-longer ls ms (Func id len start) h f = omega (arith, h id.0)
 FitsIn-longer ls ms (Cat' mark depth len p left q right count) h f = (FitsIn-longer ls ms left h f.0, FitsIn-longer ls ms right h f.1)
 
--- where the lengths told are those of the table, what fits them fits the table
-pub Fits-told : (ls : Lengths) (t : Table) (n : Node) → HasLengths ls t → FitsIn ls n → Fits t n
-Fits-told ls t n h f = FitsIn-longer ls (lengths_of t) n (λ id. let e : length (t id) ≡ length_at ls id = h id in omega arith) f
+-- where the lengths reported are those of the table, what fits them fits the table
+pub Fits-reported : (ls : Lengths) (t : Table) (n : Node) → HasLengths ls t → FitsIn ls n → Fits t n
+Fits-reported ls t n h f = FitsIn-longer ls (lengths_of t) n (λ id. let e : length (t id) ≡ length_at ls id = h id in omega arith) f
 
 -- over two tables that have the same text at each entry that isn't empty in the first one
 pub bytes_over-same : (t u : Table) (n : Node) → ((id : ℕ) → 0 < length (t id) → u id ≡ t id) → IsSound n → Fits t n →

@@ -4,7 +4,7 @@ use Rattle.std.proofs.lemmas.Bool.{cases_lt}
 use Rattle.cord_node.specs.declared.Node.{Node}
 use Rattle.cord_node.specs.declared.Node.TheVariants.{Leaf, Run, Func, Cat'}
 use Rattle.cord_node.specs.Tree.{len_of, IsSound}
-use Rattle.cord_node.specs.Kept.{Part, parts}
+use Rattle.cord_node.specs.PartsFrom.{Part, parts}
 use Rattle.cord_node.specs.Touched.{part_len, touched}
 
 -- the length of the text of these parts
@@ -79,7 +79,7 @@ touched_by_whole until (Cat' mark depth len p left q right count) s h =
       touched_by_whole (until - len_of left) right s.1 l,
     )
 
--- the same, where the range is told
+-- the same, where the range is reported
 pub touched_by_all : (from count : ℕ) (n : Node) → IsSound n → count ≡ len_of n → from + count ≤ len_of n →
     length (parts n) ≤ touched from (from + count) (parts n)
 touched_by_all from count n s e h =
@@ -106,7 +106,7 @@ touched_left from count some left right s h = omega (arith, touched_sides from (
 
 pub touched_right : (from count seam some : ℕ) (left right : Node) → IsSound left → seam ≡ len_of left → seam ≤ from →
     some ≤ touched (from - seam) (from - seam + count) (parts right) → some ≤ touched from (from + count) (parts left ++ parts right)
-touched_right from count seam some left right s at behind h =
+touched_right from count seam some left right s at after h =
     let e : from + count - seam ≡ from - seam + count = omega arith in
     let all : touched from (from + count) (parts left ++ parts right)
     ≡ touched from (from + count) (parts left) + touched (from - seam) (from + count - seam) (parts right) =
@@ -118,7 +118,7 @@ pub touched_both : (from count seam some : ℕ) (left right : Node) (ps qs : Lis
     seam < from + count → length ps ≤ touched from (from + (seam - from)) (parts left) →
     length qs ≤ touched 0 (0 + (from + count - seam)) (parts right) → some ≤ length (ps ++ qs) →
     some ≤ touched from (from + count) (parts left ++ parts right)
-touched_both from count seam some left right ps qs s at before behind h k l =
+touched_both from count seam some left right ps qs s at before after h k l =
     let z : from - seam ≡ 0 = omega arith in
     let all : touched from (from + count) (parts left ++ parts right)
     ≡ touched from (from + count) (parts left) + touched 0 (from + count - seam) (parts right) =

@@ -10,7 +10,7 @@ use Rattle.cord_node.specs.declared.Node.{Node}
 use Rattle.cord_node.specs.declared.Node.TheVariants.{Leaf, Run, Func, Cat'}
 use Rattle.cord_io.specs.declared.TheConstants.{MAX_LEN}
 use Rattle.cord_node.specs.Tree.{Cell, known, held_by, cells, len_of, depth_of, count_of, true_len, true_depth, IsSound}
-use Rattle.cord_node.specs.Kept.{Part, leaf_part, run_part, func_part, parts}
+use Rattle.cord_node.specs.PartsFrom.{Part, leaf_part, run_part, func_part, parts}
 use Rattle.cord_node.proofs.Ranges.{range_of_range, drop-range_with_len, take-range_with_len}
 
 -- a node stores the length of its text

@@ -3,7 +3,7 @@ use Rattle.std.specs.Prelude.{ℕ, List, [], Option, Some, None, option_map, ⊤
 use Rattle.std.specs.declared.rc.Rc.{Rc}
 use Rattle.cord_node.specs.declared.Node.{Node}
 use Rattle.cord_node.specs.Tree.{Cell, cells, len_of, depth_of, IsSound}
-use Rattle.cord_node.specs.Kept.{Part, parts}
+use Rattle.cord_node.specs.PartsFrom.{Part, parts}
 
 -- the node behind a handle, where there is one
 abbrev pub node_in : {Z : Type 0} → Option (Rc Node Z) → Option Node

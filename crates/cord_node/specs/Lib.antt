@@ -1,6 +1,6 @@
 pub mod Tree
 pub mod Tables
-pub mod Kept
+pub mod PartsFrom
 pub mod Touched
 pub mod Occurrences
 pub mod Cords

@@ -1,6 +1,6 @@
 -- How many parts a range of a text touches, and how many parts an edit leaves.
 use Rattle.std.specs.Prelude.{ℕ, ◌+◌, ◌-◌, ◌≤◌, min, List, [], ◌∷◌, length}
-use Rattle.cord_node.specs.Kept.{Part, leaf_part, run_part, func_part}
+use Rattle.cord_node.specs.PartsFrom.{Part, leaf_part, run_part, func_part}
 
 -- how long the text of a part is
 abbrev pub part_len : Part → ℕ

@@ -7,7 +7,7 @@ use Rattle.cord_io.specs.declared.TheConstants.{MAX_LEN, MAX_DEPTH}
 use Rattle.cord_node.specs.declared.Node.{Node}
 use Rattle.cord_node.specs.declared.Node.TheVariants.{Leaf, Run, Func, Cat'}
 use Rattle.cord_node.specs.declared.TheConstants.{SMALL_LEN}
-use Rattle.cord_node.specs.Kept.{leaf_part, parts}
+use Rattle.cord_node.specs.PartsFrom.{leaf_part, parts}
 
 -- one place of a text: a byte that is known, or the byte that a source has at an index
 pub data Cell : Type 0 where

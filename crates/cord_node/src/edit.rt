@@ -1,10 +1,10 @@
 // Edits of a node in its place.
 ghost use Rattle.std.specs.Prelude.{◌≡◌, ◌≢◌, ℕ, ◌+◌, ◌-◌, ◌<◌, ◌≤◌, ◌++◌, max, true, IfOk, IsErr, take, drop};
 ghost use Rattle.cord_node.specs.Tree.{cells, len_of, depth_of, count_of, IsSound};
-ghost use Rattle.cord_node.specs.Kept.{parts, AreFrom};
+ghost use Rattle.cord_node.specs.PartsFrom.{parts, AreFrom};
 ghost use Rattle.cord_node.specs.Touched.{AtMostOneMore};
 ghost use Rattle.cord_node.specs.Cords.{node_in, text, text_len, depth, parts_of, IsCord};
-ghost use Rattle.cord_node.specs.inner.Splices.{Takes, LeftTakes, RightTakes, SeamTakes, BothTake, SidesAre};
+ghost use Rattle.cord_node.specs.inner.Splices.{TakesRange, LeftTakes, RightTakes, SeamTakes, BothTake, SidesAre};
 ghost use Rattle.cord_node.specs.inner.Splices.{IsSplice};
 ghost use Rattle.cord_node.specs.inner.Splices.{is_cat, AreSides, AreSpliced, IsEditable};
 
@@ -33,7 +33,7 @@ fn takes(side: &Rc<Node>, from: u64, until: u64, middle: &Option<Rc<Node>>) -> b
     requires middle_sound { IsCord (node_in middle.now) }
     requires order { from ≤ until }
     requires inside { until ≤ len_of side.now.value }
-    ensures { result ≡ true → Takes from until (node_in middle.now) side.now.value }
+    ensures { result ≡ true → TakesRange from until (node_in middle.now) side.now.value }
 {
     match middle {
         None => until - from < side.len(),
@@ -89,8 +89,8 @@ fn becomes_one(
     };
     match (left, right) {
         (Node::Leaf { len: a, .. }, Node::Leaf { len: b, .. }) => {
-            let behind = a.saturating_add(*b).saturating_sub(until);
-            from.saturating_add(inner).saturating_add(behind) <= SMALL_LEN as u64
+            let after = a.saturating_add(*b).saturating_sub(until);
+            from.saturating_add(inner).saturating_add(after) <= SMALL_LEN as u64
         }
         _ => false,
     }
@@ -443,8 +443,8 @@ fn splice_both(
     ensures right_unchanged { IsErr result → right.new ≡ right.old }
 {
     let seam = left.len();
-    let behind = until - seam;
-    let rest = sub_node(alloc, right, behind, right.len() - behind)?;
+    let after = until - seam;
+    let rest = sub_node(alloc, right, after, right.len() - after)?;
     splice_node(alloc, left, from, seam, middle)?;
     *right = rest;
     Ok(())

@@ -46,7 +46,7 @@ pub enum Node {
 
 impl Node {
     ghost use Rattle.std.specs.Prelude.{MatchOption, IfSome, false, true, map};
-    ghost use Rattle.cord_node.specs.Kept.{parts};
+    ghost use Rattle.cord_node.specs.PartsFrom.{parts};
     ghost use Rattle.cord_node.specs.Tree.{cells, known, len_of, depth_of, count_of, true_len, true_depth};
     ghost use Rattle.cord_node.specs.Tree.{is_leaf, IsSound};
 

@@ -4,7 +4,7 @@ ghost use Rattle.std.specs.Rc.{rc_slice_items};
 ghost use Rattle.cord_node.specs.Tree.{cells, known, len_of, depth_of, count_of, is_leaf, are_merged, IsSound};
 ghost use Rattle.cord_node.specs.Tree.{joined_depth, joined_count, HasSides};
 ghost use Rattle.cord_node.specs.Tables.{IsJoinOver};
-ghost use Rattle.cord_node.specs.Kept.{parts, leaf_part, Kept};
+ghost use Rattle.cord_node.specs.PartsFrom.{parts, leaf_part, PartsFrom};
 
 use crate::{Node, SMALL_LEN};
 use cord_io::{MAX_DEPTH, MAX_LEN, SourceId};
@@ -170,7 +170,8 @@ pub fn join(alloc: Global, left: &Rc<Node>, right: &Rc<Node>) -> Result<Rc<Node>
     ensures depth_bound { IfOk result (λ node. depth_of node.value
         ≤ max (depth_of left.now.value) (depth_of right.now.value) + 1) }
     ensures count { IfOk result (λ node. count_of node.value ≡ joined_count left.now.value right.now.value) }
-    ensures kept { IfOk result (λ node. Kept (parts left.now.value ++ parts right.now.value) (parts node.value)) }
+    ensures parts_from { IfOk result (λ node. PartsFrom (parts left.now.value ++ parts right.now.value)
+        (parts node.value)) }
 {
     match (left.leaf_bytes(), right.leaf_bytes()) {
         (Some(a), Some(b)) if a.len() + b.len() <= SMALL_LEN => {

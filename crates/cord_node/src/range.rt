@@ -2,7 +2,7 @@
 ghost use Rattle.std.specs.Prelude.{◌≡◌, ◌+◌, ◌<◌, ◌≤◌, [], ◌∷◌, IfOk, length, map, take, drop};
 ghost use Rattle.std.specs.Rc.{rc_slice_items};
 ghost use Rattle.cord_node.specs.Tree.{cells, known, len_of, depth_of, IsSound};
-ghost use Rattle.cord_node.specs.Kept.{parts, leaf_part, Kept};
+ghost use Rattle.cord_node.specs.PartsFrom.{parts, leaf_part, PartsFrom};
 ghost use Rattle.cord_node.specs.Touched.{touched};
 
 use crate::make::leaf_range;
@@ -48,7 +48,7 @@ pub fn sub_node(
     ensures text { IfOk result (λ part. cells part.value ≡ take count (drop from (cells node.now.value))) }
     ensures len { IfOk result (λ part. len_of part.value ≡ count) }
     ensures depth { IfOk result (λ part. depth_of part.value ≤ depth_of node.now.value) }
-    ensures kept { IfOk result (λ part. Kept (parts node.now.value) (parts part.value)) }
+    ensures parts_from { IfOk result (λ part. PartsFrom (parts node.now.value) (parts part.value)) }
     ensures few { IfOk result (λ part. length (parts part.value) ≤ touched from (from + count) (parts node.now.value)) }
 {
     if count == node.len() {

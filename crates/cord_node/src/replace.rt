@@ -2,7 +2,7 @@
 ghost use Rattle.std.specs.Prelude.{◌≡◌, ℕ, ◌+◌, ◌-◌, ◌<◌, ◌≤◌, [], ◌∷◌, ◌++◌, max, length, map, take, drop};
 ghost use Rattle.std.specs.Prelude.{IfOk, IfSome};
 ghost use Rattle.cord_node.specs.Tree.{cells, known, len_of, depth_of, IsSound};
-ghost use Rattle.cord_node.specs.Kept.{parts, leaf_part, AreFrom};
+ghost use Rattle.cord_node.specs.PartsFrom.{parts, leaf_part, AreFrom};
 ghost use Rattle.cord_node.specs.Touched.{touched};
 ghost use Rattle.cord_node.specs.Cords.{node_in, text, text_len, depth, parts_of, IsCord};
 ghost use Rattle.cord_node.specs.inner.Splices.{IsSplice};
@@ -104,22 +104,22 @@ pub fn are_merged(left: &Node, right: &Node) -> bool {
 // One leaf of the bytes of three, one after the other.
 fn merged_three(
     alloc: Global,
-    front: &[u8],
+    prefix: &[u8],
     middle: &[u8],
     back: &[u8],
 ) -> Result<Rc<Node>, AllocError>
-    requires not_empty { 0 < length front.now + length middle.now + length back.now }
-    requires small { length front.now + length middle.now + length back.now ≤ SMALL_LEN }
+    requires not_empty { 0 < length prefix.now + length middle.now + length back.now }
+    requires small { length prefix.now + length middle.now + length back.now ≤ SMALL_LEN }
     ensures sound { IfOk result (λ node. IsSound node.value) }
-    ensures text { IfOk result (λ node. cells node.value ≡ map known (front.now ++ middle.now ++ back.now)) }
+    ensures text { IfOk result (λ node. cells node.value ≡ map known (prefix.now ++ middle.now ++ back.now)) }
     ensures part { IfOk result (λ node. parts node.value
-        ≡ leaf_part (front.now ++ middle.now ++ back.now) 0 (length front.now + length middle.now + length back.now)
+        ≡ leaf_part (prefix.now ++ middle.now ++ back.now) 0 (length prefix.now + length middle.now + length back.now)
         ∷ []) }
-    ensures len { IfOk result (λ node. len_of node.value ≡ length front.now + length middle.now + length back.now) }
+    ensures len { IfOk result (λ node. len_of node.value ≡ length prefix.now + length middle.now + length back.now) }
     ensures depth { IfOk result (λ node. depth_of node.value ≡ 0) }
 {
-    let mut bytes = Vec::with_capacity(alloc, front.len() + middle.len() + back.len())?;
-    bytes.extend_from_slice(front)?;
+    let mut bytes = Vec::with_capacity(alloc, prefix.len() + middle.len() + back.len())?;
+    bytes.extend_from_slice(prefix)?;
     bytes.extend_from_slice(middle)?;
     bytes.extend_from_slice(back)?;
     let node = leaf(alloc, RcSlice::from_vec(bytes)?)?;
@@ -160,12 +160,12 @@ fn short_replaced(
     }
     match (node.leaf_bytes(), some_bytes(middle)) {
         (Some(old), Some(inner)) if inner.len() <= SMALL_LEN => {
-            let front = &old[..from as usize];
+            let prefix = &old[..from as usize];
             let back = &old[until as usize..];
-            if front.len() + inner.len() + back.len() > SMALL_LEN {
+            if prefix.len() + inner.len() + back.len() > SMALL_LEN {
                 return Ok(None);
             }
-            let new = merged_three(alloc, front, inner, back)?;
+            let new = merged_three(alloc, prefix, inner, back)?;
             Ok(Some(new))
         }
         _ => Ok(None),
@@ -193,9 +193,9 @@ pub fn replaced(
     if let Some(new) = short_replaced(alloc, node, from, until, middle)? {
         return Ok(new);
     }
-    let front = range_of(alloc, node, 0, from)?;
+    let prefix = range_of(alloc, node, 0, from)?;
     let back = range_of(alloc, node, until, node.len())?;
-    let all = joined_three(alloc, &front, middle, &back)?;
+    let all = joined_three(alloc, &prefix, middle, &back)?;
     match all {
         Some(new) => Ok(new),
         None => unreachable!(),
@@ -213,37 +213,37 @@ fn some_merged(left: &Option<Rc<Node>>, right: &Option<Rc<Node>>) -> bool {
 // Three texts joined, each of which may be none: first the last two where they are one leaf, and else the first two.
 fn joined_three(
     alloc: Global,
-    front: &Option<Rc<Node>>,
+    prefix: &Option<Rc<Node>>,
     middle: &Option<Rc<Node>>,
     back: &Option<Rc<Node>>,
 ) -> Result<Option<Rc<Node>>, AllocError>
-    requires front_sound { IsCord (node_in front.now) }
+    requires prefix_sound { IsCord (node_in prefix.now) }
     requires middle_sound { IsCord (node_in middle.now) }
     requires back_sound { IsCord (node_in back.now) }
-    requires within_limit { text_len (node_in front.now) + text_len (node_in middle.now)
+    requires within_limit { text_len (node_in prefix.now) + text_len (node_in middle.now)
         + text_len (node_in back.now) ≤ MAX_LEN }
-    requires shallow { max (max (depth (node_in front.now)) (depth (node_in middle.now)))
+    requires shallow { max (max (depth (node_in prefix.now)) (depth (node_in middle.now)))
         (depth (node_in back.now)) + 2 ≤ MAX_DEPTH }
     ensures sound { IfOk result (λ all. IsCord (node_in all)) }
     ensures text { IfOk result (λ all. text (node_in all)
-        ≡ text (node_in front.now) ++ text (node_in middle.now) ++ text (node_in back.now)) }
+        ≡ text (node_in prefix.now) ++ text (node_in middle.now) ++ text (node_in back.now)) }
     ensures len { IfOk result (λ all. text_len (node_in all)
-        ≡ text_len (node_in front.now) + text_len (node_in middle.now) + text_len (node_in back.now)) }
+        ≡ text_len (node_in prefix.now) + text_len (node_in middle.now) + text_len (node_in back.now)) }
     ensures depth { IfOk result (λ all. depth (node_in all)
-        ≤ max (max (depth (node_in front.now)) (depth (node_in middle.now)))
+        ≤ max (max (depth (node_in prefix.now)) (depth (node_in middle.now)))
         (depth (node_in back.now)) + 2) }
     ensures from_there { IfOk result (λ all. AreFrom (parts_of (node_in all))
-        (parts_of (node_in front.now) ++ parts_of (node_in middle.now) ++ parts_of (node_in back.now))) }
-    ensures few { IfOk result (λ all. length (parts_of (node_in all)) ≤ length (parts_of (node_in front.now))
+        (parts_of (node_in prefix.now) ++ parts_of (node_in middle.now) ++ parts_of (node_in back.now))) }
+    ensures few { IfOk result (λ all. length (parts_of (node_in all)) ≤ length (parts_of (node_in prefix.now))
         + length (parts_of (node_in middle.now)) + length (parts_of (node_in back.now))) }
 {
     if some_merged(middle, back) {
         let back = joined(alloc, middle, back)?;
-        let all = joined(alloc, front, &back)?;
+        let all = joined(alloc, prefix, &back)?;
         Ok(all)
     } else {
-        let front = joined(alloc, front, middle)?;
-        let all = joined(alloc, &front, back)?;
+        let prefix = joined(alloc, prefix, middle)?;
+        let all = joined(alloc, &prefix, back)?;
         Ok(all)
     }
 }

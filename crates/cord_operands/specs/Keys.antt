@@ -3,8 +3,8 @@ use Rattle.std.specs.Prelude.{ℕ, ◌+◌, ◌*◌, ◌%◌, ◌/◌, ◌^◌, 
 
 -- the number that begins with this one and goes on with these bytes as digits
 abbrev pub exact_from : ℕ → List ℕ → ℕ
-exact_from front [] = front
-exact_from front (b ∷ bytes) = exact_from (front * 256 + b) bytes
+exact_from prefix [] = prefix
+exact_from prefix (b ∷ bytes) = exact_from (prefix * 256 + b) bytes
 
 -- the hash that begins with this one
 abbrev pub hash_from : ℕ → List ℕ → ℕ

@@ -10,11 +10,11 @@ const FIRST_HASH: u64 = 1 << 63;
 const SPREAD: u64 = 0x9E37_79B9_7F4A_7C15;
 
 // The number that goes on with a byte as its next digit.
-fn with(front: u64, byte: u8) -> u64
-    requires { front < 2 ^ 50 }
-    ensures { result ≡ front * 256 + byte }
+fn with(prefix: u64, byte: u8) -> u64
+    requires { prefix < 2 ^ 50 }
+    ensures { result ≡ prefix * 256 + byte }
 {
-    front * 256 + byte as u64
+    prefix * 256 + byte as u64
 }
 
 // The key of a name of so many bytes whose digits are these.
@@ -49,20 +49,20 @@ pub fn key_of(name: &[u8]) -> u64
         [a, b] => short(with(with(0, *a), *b), 2),
         [a, b, c] => short(with(with(with(0, *a), *b), *c), 3),
         [a, b, c, d] => {
-            let front = with(with(0, *a), *b);
-            short(with(with(front, *c), *d), 4)
+            let prefix = with(with(0, *a), *b);
+            short(with(with(prefix, *c), *d), 4)
         }
         [a, b, c, d, e] => {
-            let front = with(with(with(0, *a), *b), *c);
-            short(with(with(front, *d), *e), 5)
+            let prefix = with(with(with(0, *a), *b), *c);
+            short(with(with(prefix, *d), *e), 5)
         }
         [a, b, c, d, e, f] => {
-            let front = with(with(with(0, *a), *b), *c);
-            short(with(with(with(front, *d), *e), *f), 6)
+            let prefix = with(with(with(0, *a), *b), *c);
+            short(with(with(with(prefix, *d), *e), *f), 6)
         }
         [a, b, c, d, e, f, g] => {
-            let front = with(with(with(with(0, *a), *b), *c), *d);
-            short(with(with(with(front, *e), *f), *g), 7)
+            let prefix = with(with(with(with(0, *a), *b), *c), *d);
+            short(with(with(with(prefix, *e), *f), *g), 7)
         }
         _ => FIRST_HASH + hash_of(name),
     }
@@ -70,7 +70,7 @@ pub fn key_of(name: &[u8]) -> u64
 
 /// The slot of a key, of 4,096, where a table guesses the place of its name.
 #[inline(always)]
-pub fn slot_of(key: u64) -> usize
+pub fn bucket_of(key: u64) -> usize
     ensures slot { result ≡ slot_at key }
     ensures within { result < 4096 }
 {
@@ -88,7 +88,7 @@ fn have_same_bytes(left: &[u8], right: &[u8]) -> bool
 
 /// Whether names of these bytes are one, by their keys. The bytes of short names aren't looked at.
 #[inline(always)]
-#[tactic(auto, using(crate::proofs::Telling::is_told, crate::proofs::Telling::other_key))]
+#[tactic(auto, using(crate::proofs::DistinctKeys::is_distinct, crate::proofs::DistinctKeys::other_key))]
 pub(crate) fn is_one(left: &[u8], left_key: u64, right: &[u8], right_key: u64) -> bool
     requires left { left_key ≡ key_of left.now }
     requires right { right_key ≡ key_of right.now }

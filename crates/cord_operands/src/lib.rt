@@ -7,7 +7,7 @@ mod operands;
 mod sequences;
 mod shared;
 
-pub use keys::{key_of, slot_of};
+pub use keys::{bucket_of, key_of};
 pub use names::{Name, Names, Path, Text};
 pub use operands::{Argument, Arguments, Function, Number, Relation};
 pub use sequences::Sequence;

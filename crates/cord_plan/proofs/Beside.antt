@@ -1,9 +1,9 @@
 -- A plan that meets the conditions simulates its script.
 use Rattle.std.proofs.Common.{◌≡◌, ◌<◌, ℕ, zero, suc, ◌+◌, List, [], ◌∷◌, map, Option, Some, None, refl, sym, subst, arith}
 use Rattle.std.specs.Prelude.{slice_get, IsSome}
-use Rattle.cord_io.specs.Device.{Folder}
+use Rattle.cord_io.specs.Device.{FileSystem}
 use Rattle.cord_syntax.specs.declared.statements.Statement.{Statement}
-use Rattle.cord_meaning.specs.Blocks.{Shape, Simple}
+use Rattle.cord_meaning.specs.Blocks.{Shape, Straight}
 use Rattle.cord_meaning.specs.Paths.{Next}
 use Rattle.cord_meaning.specs.State.{State, start_state}
 use Rattle.cord_meaning.specs.Statements.{act, rules, shape_of, line_of}
@@ -46,7 +46,7 @@ module _ (d : Decisions) where
   decided_lines p [] = refl
   decided_lines p (l ∷ s) = λ i. sym (all_alike l (d.exprs p) (d.dead p) (d.paired p)).line i ∷ decided_lines (p + 1) s i
 
-module _ (s : List Statement) (d : Decisions) (ok : MeetsConditions s d) (limit : ℕ) (files : Folder) where
+module _ (s : List Statement) (d : Decisions) (ok : MeetsConditions s d) (limit : ℕ) (files : FileSystem) where
   abbrev Beside : ℕ → State → Option Holding → Type 0
   Beside p f t = Related s d ok limit files p f t
 
@@ -67,7 +67,7 @@ module _ (s : List Statement) (d : Decisions) (ok : MeetsConditions s d) (limit 
   passes p q x at control next f None inv = inv
   passes p q x at control next f (Some h) inv = moves s d ok limit p q x at control next f h inv
 
-  acts : (p : ℕ) (l : Statement) (o : Operation) → slice_get s p ≡ Some l → slice_get (decided d s) p ≡ Some o → shape_of l ≡ Simple →
+  acts : (p : ℕ) (l : Statement) (o : Operation) → slice_get s p ≡ Some l → slice_get (decided d s) p ≡ Some o → shape_of l ≡ Straight →
       (f : State) (t : Option Holding) → Beside p f t → Agree (Beside (p + 1)) ((rules limit files).act p l f)
       ((plan_rules limit files).act p o t)
   acts p l o e g simple f None inv = absurd inv

@@ -2,10 +2,10 @@
 use Rattle.std.proofs.Common.{◌≡◌, ℕ, zero, suc, ◌+◌, ◌⊎◌, Bool, true, List, [], ◌∷◌, drop, Option, Some, None, refl, sym, ap, ◌∙◌, subst}
 use Rattle.std.proofs.Common.{inl, inr, arith}
 use Rattle.std.specs.Prelude.{slice_get}
-use Rattle.cord_meaning.specs.Blocks.{Shape, Simple, Loop, Branch, Otherwise, Close, to_end, to_else, jump_of, jump_at, jump}
+use Rattle.cord_meaning.specs.Blocks.{Shape, Straight, Loop, Branch, Otherwise, Close, to_end, to_else, jump_of, jump_at, jump}
 use Rattle.cord_meaning.specs.Paths.{opened, open_at, NextOf, NextOfClose, Next}
 use Rattle.cord_meaning.specs.inner.Simulation.{IsControl}
-use Rattle.cord_plan.specs.Forced.{is_block}
+use Rattle.cord_plan.specs.Inlined.{is_block}
 
 -- a block's shape, or none
 abbrev pub is_block_or_none : Option Shape → Bool
@@ -21,7 +21,7 @@ slice_get_drop (suc k) (x ∷ xs) n = let same : suc (k + n) ≡ suc k + n = ome
 
 to_end_lands : (d : ℕ) (ls : List Shape) → is_block_or_none (slice_get ls (to_end d ls)) ≡ true
 to_end_lands d [] = refl
-to_end_lands d (Simple ∷ rest) = to_end_lands d rest
+to_end_lands d (Straight ∷ rest) = to_end_lands d rest
 to_end_lands d (Loop ∷ rest) = to_end_lands (suc d) rest
 to_end_lands d (Branch ∷ rest) = to_end_lands (suc d) rest
 to_end_lands d (Otherwise ∷ rest) = to_end_lands d rest
@@ -38,7 +38,7 @@ one_further x ls n (inr w) = inr (suc w.0, ap suc w.1, w.2)
 
 to_else_lands : (d : ℕ) (ls : List Shape) → IsByBlock ls (to_else d ls)
 to_else_lands d [] = inl refl
-to_else_lands d (Simple ∷ rest) = one_further Simple rest (to_else d rest) (to_else_lands d rest)
+to_else_lands d (Straight ∷ rest) = one_further Straight rest (to_else d rest) (to_else_lands d rest)
 to_else_lands d (Loop ∷ rest) = one_further Loop rest (to_else (suc d) rest) (to_else_lands (suc d) rest)
 to_else_lands d (Branch ∷ rest) = one_further Branch rest (to_else (suc d) rest) (to_else_lands (suc d) rest)
 to_else_lands zero (Otherwise ∷ rest) = inr (0, refl, refl)
@@ -62,7 +62,7 @@ module _ (shapes : List Shape) where
   loops_opened p blocks (Some Branch) e h = h
   loops_opened p [] (Some Close) e h = tt
   loops_opened p (b ∷ blocks) (Some Close) e h = loops_rest b blocks h
-  loops_opened p blocks (Some Simple) e h = h
+  loops_opened p blocks (Some Straight) e h = h
   loops_opened p blocks (Some Otherwise) e h = h
   loops_opened p blocks None e h = h
 
@@ -73,8 +73,8 @@ module _ (shapes : List Shape) where
   abbrev rest_of : ℕ → List Shape
   rest_of p = drop (p + 1) shapes
 
-  behind_by_block : (q m : ℕ) → q ≡ m + 1 → is_block_or_none (slice_get shapes m) ≡ true → IsByBlock shapes q
-  behind_by_block q m e b = let same : q ≡ suc m = omega (arith, e) in inr (m, same, b)
+  after_by_block : (q m : ℕ) → q ≡ m + 1 → is_block_or_none (slice_get shapes m) ≡ true → IsByBlock shapes q
+  after_by_block q m e b = let same : q ≡ suc m = omega (arith, e) in inr (m, same, b)
 
   at_rest : (p n : ℕ) → is_block_or_none (slice_get (rest_of p) n) ≡ true → is_block_or_none (slice_get shapes (p + 1 + n)) ≡ true
   at_rest p n b = ap is_block_or_none (sym (slice_get_drop (p + 1) shapes n)) ∙ b
@@ -84,7 +84,7 @@ module _ (shapes : List Shape) where
   in_rest p n (inr w) = let same : p + 1 + n ≡ suc (p + 1 + w.0) = omega (arith, w.1) in inr (p + 1 + w.0, same, at_rest p w.0 w.2)
 
   loop_by_block : (p q : ℕ) → q ≡ jump_of Loop p (rest_of p) → IsByBlock shapes q
-  loop_by_block p q e = behind_by_block q (p + 1 + to_end 0 (rest_of p)) e (at_rest p (to_end 0 (rest_of p)) (to_end_lands 0 (rest_of p)))
+  loop_by_block p q e = after_by_block q (p + 1 + to_end 0 (rest_of p)) e (at_rest p (to_end 0 (rest_of p)) (to_end_lands 0 (rest_of p)))
 
   branch_by_block : (p q : ℕ) → q ≡ jump_of Branch p (rest_of p) → IsByBlock shapes q
   branch_by_block p q e = subst (λ (n : ℕ). IsByBlock shapes n) (sym e) (in_rest p (to_else 0 (rest_of p)) (to_else_lands 0 (rest_of p)))
@@ -96,24 +96,24 @@ module _ (shapes : List Shape) where
     jump_is : jump shapes p ≡ jump_of x p (rest_of p)
     jump_is = ap (λ (o : Option Shape). jump_at o p (rest_of p)) here
 
-    one_behind : is_block x ≡ true → q ≡ p + 1 → IsByBlock shapes q
-    one_behind k e = behind_by_block q p e (ap is_block_or_none here ∙ k)
+    one_after : is_block x ≡ true → q ≡ p + 1 → IsByBlock shapes q
+    one_after k e = after_by_block q p e (ap is_block_or_none here ∙ k)
 
     close_by_block : (blocks : List (Option ℕ)) → Loops blocks → is_block x ≡ true → NextOfClose p blocks q → IsByBlock shapes q
-    close_by_block [] h k e = one_behind k e
-    close_by_block (None ∷ blocks) h k e = one_behind k e
-    close_by_block (Some r ∷ blocks) h k (inl e) = behind_by_block q r e (ap is_block_or_none h.0)
-    close_by_block (Some r ∷ blocks) h k (inr e) = one_behind k e
+    close_by_block [] h k e = one_after k e
+    close_by_block (None ∷ blocks) h k e = one_after k e
+    close_by_block (Some r ∷ blocks) h k (inl e) = after_by_block q r e (ap is_block_or_none h.0)
+    close_by_block (Some r ∷ blocks) h k (inr e) = one_after k e
 
   -- a place that comes next after a block's line is by a block
   pub next_by_block : (p q : ℕ) (x : Shape) → slice_get shapes p ≡ Some x → IsControl x → Next shapes p q → IsByBlock shapes q
   next_by_block p q x here k n = pick x here k (subst (λ (o : Option Shape). NextOf shapes p o q) here n)
     where
       pick : (x : Shape) → slice_get shapes p ≡ Some x → IsControl x → NextOf shapes p (Some x) q → IsByBlock shapes q
-      pick Simple here k n = absurd k
-      pick Loop here k (inl e) = one_behind p q Loop here refl e
+      pick Straight here k n = absurd k
+      pick Loop here k (inl e) = one_after p q Loop here refl e
       pick Loop here k (inr e) = loop_by_block p q (e ∙ jump_is p q Loop here)
-      pick Branch here k (inl e) = one_behind p q Branch here refl e
+      pick Branch here k (inl e) = one_after p q Branch here refl e
       pick Branch here k (inr e) = branch_by_block p q (e ∙ jump_is p q Branch here)
       pick Otherwise here k e = else_by_block p q (e ∙ jump_is p q Otherwise here)
       pick Close here k n = close_by_block p q Close here (open_at shapes p) (open_loops p) refl n

@@ -7,7 +7,7 @@ use Rattle.cord_syntax.specs.declared.statements.Statement.TheVariants.{Let, Fil
 use Rattle.cord_syntax.specs.declared.statements.Statement.TheVariants.{Balance, EcToCord, Sprintf}
 use Rattle.cord_plan.specs.Exprs.{Expr}
 use Rattle.cord_plan.specs.Operands.{target_of}
-use Rattle.cord_plan.specs.Forced.{Table}
+use Rattle.cord_plan.specs.Inlined.{Table}
 use Rattle.cord_plan.specs.Planned.{Made, Operation, Build, Measure, Write, Keep, gives, or_nothing, operation, operations, is_dead}
 use Rattle.cord_plan.specs.Planned.{is_first}
 

@@ -6,7 +6,7 @@ use Rattle.cord_syntax.specs.declared.statements.Statement.{Statement}
 use Rattle.cord_syntax.specs.declared.statements.Statement.TheVariants.{Chars, Nul, Cat, Catn, Catc, Substr, Put}
 use Rattle.cord_plan.specs.Exprs.{Expr, name}
 use Rattle.cord_plan.specs.Operands.{read_by}
-use Rattle.cord_plan.specs.Forced.{Choice, named, Table, expr_of, expr_with, setter, chosen_of, choices, entry, operands_chosen, own}
+use Rattle.cord_plan.specs.Inlined.{Choice, named, Table, expr_of, expr_with, setter, chosen_of, choices, entry, operands_chosen, defining}
 use Rattle.cord_plan.specs.inner.Choices.{simple_operands}
 
 -- a simple line reads its operands
@@ -26,9 +26,9 @@ all_themselves [] = refl
 all_themselves (x ∷ xs) = ap (λ (es : List Expr). name x ∷ es) (all_themselves xs)
 
 -- the expression of a simple line whose operands stand for themselves is its own
-pub own_named : (l : Statement) (xs : List (List ℕ)) (cs : List Choice) → simple_operands l ≡ Some xs → cs ≡ map (λ x. named x) xs →
-    expr_with l (map (λ c. expr_of c) cs) ≡ own l
-own_named l xs cs simple same =
+pub defining_named : (l : Statement) (xs : List (List ℕ)) (cs : List Choice) → simple_operands l ≡ Some xs → cs ≡ map (λ x. named x) xs →
+    expr_with l (map (λ c. expr_of c) cs) ≡ defining l
+defining_named l xs cs simple same =
     ap (λ (ds : List Choice). expr_with l (map (λ c. expr_of c) ds)) same
     ∙ (ap (λ (es : List Expr). expr_with l es) (all_themselves xs)
     ∙ ap (λ (ys : List (List ℕ)). expr_with l (map (λ x. name x) ys)) (sym (simple_reads l xs simple)))
@@ -55,7 +55,7 @@ module _ (s : List Statement) (later : List ℕ → ℕ → Bool) (t : Table) (b
   entry_of (Some xs) = entry s later l (choices s later t b l [] (read_by l))
 
 pub chosen_simple : (s : List Statement) (later : List ℕ → ℕ → Bool) (t : Table) (b : ℕ) (l : Statement) →
-    operands_chosen s later t b l (own l) ≡ entry_of s later t b l (simple_operands l)
+    operands_chosen s later t b l (defining l) ≡ entry_of s later t b l (simple_operands l)
 chosen_simple s later t b (Cat line target left right) = refl
 chosen_simple s later t b (Catn line target many) = refl
 chosen_simple s later t b (Catc line target operand byte) = refl

@@ -6,8 +6,9 @@ use Rattle.std.proofs.lemmas.List.{map-append}
 use Rattle.cord_syntax.specs.declared.statements.Statement.{Statement}
 use Rattle.cord_plan.specs.Exprs.{Expr, name}
 use Rattle.cord_plan.specs.Operands.{assigns_at}
-use Rattle.cord_plan.specs.Forced.{Table, Choice, named, replaced, expr_of, expr_with, first_of, own, setter, fits, is_small, chosen_from}
-use Rattle.cord_plan.specs.Forced.{chosen_of, choices, operands_chosen, grown, exprs}
+use Rattle.cord_plan.specs.Inlined.{Table, Choice, named, replaced, expr_of, expr_with, first_of, defining, setter, fits, is_small}
+use Rattle.cord_plan.specs.Inlined.{chosen_from}
+use Rattle.cord_plan.specs.Inlined.{chosen_of, choices, operands_chosen, grown, exprs}
 
 pub both_true : (a b : Bool) → (a && b) ≡ true → (a ≡ true) × (b ≡ true)
 both_true true b e = (refl, e)
@@ -29,10 +30,10 @@ last_or (x ∷ xs) y (suc k) z e = shifted (last_or xs y k z e)
         inr (more, h.1)
 
 -- an element before others
-keep_behind : {X : Type 0} (xs ys : List X) (k : ℕ) (z : X) → slice_get xs k ≡ Some z → slice_get (xs ++ ys) k ≡ Some z
-keep_behind [] ys k z e = let bad : ⊥ = cc in absurd bad
-keep_behind (x ∷ xs) ys zero z e = e
-keep_behind (x ∷ xs) ys (suc k) z e = keep_behind xs ys k z e
+keep_after : {X : Type 0} (xs ys : List X) (k : ℕ) (z : X) → slice_get xs k ≡ Some z → slice_get (xs ++ ys) k ≡ Some z
+keep_after [] ys k z e = let bad : ⊥ = cc in absurd bad
+keep_after (x ∷ xs) ys zero z e = e
+keep_after (x ∷ xs) ys (suc k) z e = keep_after xs ys k z e
 
 -- the last line before p that assigns x assigns it
 pub record IsSetter (s : List Statement) (x : List ℕ) (p a : ℕ) : Type 0 where
@@ -162,18 +163,18 @@ module _ (s : List Statement) (later : List ℕ → ℕ → Bool) where
   EachEntry P table = (k : ℕ) (en : Option Expr × List Choice) → slice_get table k ≡ Some en → P k en
 
   -- the entries of a table are those of the script's
-  abbrev pub IsFront : Table → Type 0
-  IsFront table = EachEntry (λ k en. slice_get (exprs s later) k ≡ Some en) table
+  abbrev pub IsPrefix : Table → Type 0
+  IsPrefix table = EachEntry (λ k en. slice_get (exprs s later) k ≡ Some en) table
 
   grown_keeps : (table : Table) (b : ℕ) (rest : List Statement) →
       EachEntry (λ k en. slice_get (grown s later table b rest) k ≡ Some en) table
   grown_keeps table b [] k en e = e
   grown_keeps table b (l ∷ rest) k en e =
-      let more : Option Expr × List Choice = operands_chosen s later table b l (own l) in
-      grown_keeps (table ++ more ∷ []) (b + 1) rest k en (keep_behind table (more ∷ []) k en e)
+      let more : Option Expr × List Choice = operands_chosen s later table b l (defining l) in
+      grown_keeps (table ++ more ∷ []) (b + 1) rest k en (keep_after table (more ∷ []) k en e)
 
   module _ (P : ℕ → Option Expr × List Choice → Type 0) (step : (table : Table) (b : ℕ) (l : Statement) → slice_get s b ≡ Some l →
-      IsFront table → EachEntry P table → P b (operands_chosen s later table b l (own l))) where
+      IsPrefix table → EachEntry P table → P b (operands_chosen s later table b l (defining l))) where
     entry_then : (table : Table) (en : Option Expr × List Choice) → EachEntry P table → P (length table) en → EachEntry P (table ++ en ∷ [])
     entry_then table en each one k other e = pick (last_or table en k other e)
       where
@@ -185,18 +186,18 @@ module _ (s : List Statement) (later : List ℕ → ℕ → Bool) where
         grown s later table (length table) rest ≡ exprs s later → EachEntry P table → EachEntry P (exprs s later)
     grown_each table [] here whole each = subst (λ (t : Table). EachEntry P t) whole each
     grown_each table (l ∷ rest) here whole each =
-        let en : Option Expr × List Choice = operands_chosen s later table (length table) l (own l) in
+        let en : Option Expr × List Choice = operands_chosen s later table (length table) l (defining l) in
         let first : length table + 0 ≡ length table = omega arith in
         let at : slice_get s (length table) ≡ Some l = ap (λ (n : ℕ). slice_get s n) (sym first) ∙ here 0 in
         let long : length (table ++ en ∷ []) ≡ length table + 1 = length-append table (en ∷ []) in
         let next_at : (k : ℕ) → slice_get s (length (table ++ en ∷ []) + k) ≡ slice_get rest k =
         λ k. (let sum : length (table ++ en ∷ []) + k ≡ length table + suc k = omega (arith, long) in
         ap (λ (n : ℕ). slice_get s n) sum ∙ here (suc k)) in
-        let front : IsFront table =
+        let prefix : IsPrefix table =
         λ k other e. subst (λ (t : Table). slice_get t k ≡ Some other) whole (grown_keeps table (length table) (l ∷ rest) k other e) in
         let next_whole : grown s later (table ++ en ∷ []) (length (table ++ en ∷ [])) rest ≡ exprs s later =
         ap (λ (n : ℕ). grown s later (table ++ en ∷ []) n rest) long ∙ whole in
-        grown_each (table ++ en ∷ []) rest next_at next_whole (entry_then table en each (step table (length table) l at front each))
+        grown_each (table ++ en ∷ []) rest next_at next_whole (entry_then table en each (step table (length table) l at prefix each))
 
     -- by what holds of a line's entry, where it holds of those before it
     pub each_entry : EachEntry P (exprs s later)

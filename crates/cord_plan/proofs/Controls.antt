@@ -3,7 +3,7 @@ use Rattle.std.proofs.Common.{◌≡◌, ℕ, pos, Bool, true, false, ◌||◌, 
 use Rattle.cord_syntax.specs.declared.statements.Statement.{Statement}
 use Rattle.cord_syntax.specs.declared.statements.Statement.TheVariants.{Let, File, Eager, Lazy, Chars, Nul, FromFn, Cat, Catn, Catc, Substr}
 use Rattle.cord_syntax.specs.declared.statements.Statement.TheVariants.{Balance, EcToCord, Sprintf, Repeat, If}
-use Rattle.cord_meaning.specs.Blocks.{Simple}
+use Rattle.cord_meaning.specs.Blocks.{Straight}
 use Rattle.cord_meaning.specs.State.{State}
 use Rattle.cord_meaning.specs.Statements.{shape_of, line_of, count_of, holds_of, compares}
 use Rattle.cord_plan.specs.Exprs.{Expr}
@@ -19,7 +19,7 @@ pub record IsAlike (l : Statement) (o : Operation) : Type 0 where
   pub holds : (h : Holding) (s : State) → h.numbers ≡ s.numbers → holds_of l s ≡ operation_holds o (Some h)
 
 -- so it is where the statement gives a name a text
-gives_alike : (l : Statement) (line : ℕ) (z : List ℕ) (made : Made) (v : Bool) → Simple ≡ shape_of l → line ≡ line_of l →
+gives_alike : (l : Statement) (line : ℕ) (z : List ℕ) (made : Made) (v : Bool) → Straight ≡ shape_of l → line ≡ line_of l →
     ((s : State) → count_of l s ≡ pos 0) → ((s : State) → holds_of l s ≡ false) → IsAlike l (gives v line z made)
 gives_alike l line z made true shape line_is count holds =
     record { shape = shape; line = line_is; count = λ h s same. count s; holds = λ h s same. holds s }

@@ -3,7 +3,7 @@ use Rattle.std.proofs.Common.{◌≡◌, ℕ, ◌+◌, ◌⊎◌, ◌++◌, ℤ,
 use Rattle.std.proofs.Common.{Result, Ok, Err, refl, sym, ap, ◌∙◌, subst, inl, inr, ⊎_elim}
 use Rattle.std.specs.Prelude.{slice_get, if◌then◌else◌, ◌&&◌, ◌+ℤ◌, ◌-ℤ◌}
 use Rattle.std.specs.Str.{bytes_eq}
-use Rattle.cord_io.specs.Device.{Folder}
+use Rattle.cord_io.specs.Device.{FileSystem}
 use Rattle.cord_printf.specs.declared.pieces.Piece.{Piece}
 use Rattle.cord_printf.specs.PieceText.{PieceArgument, number, text, printed, first_refusal}
 use Rattle.cord_operands.specs.declared.operands.Argument.{Argument}
@@ -16,16 +16,16 @@ use Rattle.cord_syntax.specs.declared.statements.Statement.TheVariants.{Assign, 
 use Rattle.cord_syntax.specs.declared.statements.Statement.TheVariants.{Else, End}
 use Rattle.cord_meaning.specs.declared.ends.FaultKind.{FaultKind}
 use Rattle.cord_meaning.specs.declared.ends.FaultKind.TheVariants.{Overflow}
-use Rattle.cord_meaning.specs.Blocks.{Simple}
+use Rattle.cord_meaning.specs.Blocks.{Straight}
 use Rattle.cord_meaning.specs.State.{State, Outcome, number_value, and_then, as_index, as_byte, as_length, fits_i64, has_number}
 use Rattle.cord_meaning.specs.State.{sets_number, sets_extensible}
 use Rattle.cord_meaning.specs.Statements.{act, shape_of, byte_at, file_text, function_text}
 use Rattle.cord_meaning.specs.Formats.{piece_argument, format_text, unless_refused}
 use Rattle.cord_meaning.specs.inner.Simulation.{Agree}
-use Rattle.cord_plan.specs.Exprs.{Expr, name, run, cat, sub, Exprs, nothing, member, append, in_front, members}
+use Rattle.cord_plan.specs.Exprs.{Expr, name, run, cat, sub, Exprs, nothing, member, append, preceding, members}
 use Rattle.cord_plan.specs.Operands.{has, read_by, target_of, is_name, cord_arguments, assigns, assigns_at, reads_at}
-use Rattle.cord_plan.specs.Unread.{Unread}
-use Rattle.cord_plan.specs.Forced.{expr_with, own}
+use Rattle.cord_plan.specs.Liveness.{NotLive}
+use Rattle.cord_plan.specs.Inlined.{expr_with, defining}
 use Rattle.cord_plan.specs.Planned.{Made, Joined, Literal, OfFile, OfEager, OfLazy, OfFunction, Balanced, OfExtensible, Printed, gives}
 use Rattle.cord_plan.specs.Planned.{operation}
 use Rattle.cord_plan.specs.Values.{within, length_of, text_in, gives_text}
@@ -35,10 +35,10 @@ use Rattle.cord_plan.specs.Meaning.{texts_to_measure, opened, made_text, made_le
 use Rattle.cord_plan.specs.Conditions.{Decisions, is_simple, is_simple_at, makes_cord, stands, MeetsConditions}
 use Rattle.cord_plan.proofs.Keeps.{IsVerbatimButLen, Agrees}
 use Rattle.cord_plan.proofs.Values.{within_length}
-use Rattle.cord_plan.proofs.Owns.{sets_within}
+use Rattle.cord_plan.proofs.DefiningExpressions.{sets_within}
 use Rattle.cord_plan.proofs.Evaluation.{In, in_left, in_right, in_either, plain_number, value_same, extent_is, line_gives, gives_after}
 use Rattle.cord_plan.proofs.Evaluation.{function_gives}
-use Rattle.cord_plan.proofs.Does.{built_agrees, measured_agrees, put_agrees, len_agrees, kept_agrees, with_others}
+use Rattle.cord_plan.proofs.OperationEffects.{built_agrees, measured_agrees, put_agrees, len_agrees, kept_agrees, with_others}
 use Rattle.cord_plan.proofs.Invariant.{not_both, same_self, unset_same, Ready, Inv, lengths, inv_set, inv_on, operand, operand_text}
 
 has_in : (xs : List (List ℕ)) (x : List ℕ) → In x xs → has xs x ≡ true
@@ -71,16 +71,16 @@ module _ (H : List ℕ → Type 0) where
       (append_cords es others y m))
       (in_either y (cords e) (cords_of (append es others)) i)
 
-  front_cords : (e : Expr) (others : Exprs) (y : List ℕ) → In y (cords_of (in_front e others)) → In y (cords e) ⊎ In y (cords_of others)
-  front_cords (name x) others y i = in_either y (cords (name x)) (cords_of others) i
-  front_cords (run c n) others y i = inr i
-  front_cords (cat es) others y i = append_cords es others y i
-  front_cords (sub e j n) others y i = in_either y (cords e) (cords_of others) i
+  prefix_cords : (e : Expr) (others : Exprs) (y : List ℕ) → In y (cords_of (preceding e others)) → In y (cords e) ⊎ In y (cords_of others)
+  prefix_cords (name x) others y i = in_either y (cords (name x)) (cords_of others) i
+  prefix_cords (run c n) others y i = inr i
+  prefix_cords (cat es) others y i = append_cords es others y i
+  prefix_cords (sub e j n) others y i = in_either y (cords e) (cords_of others) i
 
   members_each : (es : List Expr) → EachOf es → (y : List ℕ) → In y (cords_of (members es)) → H y
   members_each [] a y i = absurd i
   members_each (e ∷ es) a y i = ⊎_elim (λ (m : In y (cords e)). a.0 y m) (λ (m : In y (cords_of (members es))). members_each es a.1 y m)
-      (front_cords e (members es) y i)
+      (prefix_cords e (members es) y i)
 
   each_then : (es : List Expr) (e : Expr) → EachOf es → Each e → EachOf (es ++ e ∷ [])
   each_then [] e a b = (b, tt)
@@ -157,7 +157,8 @@ module _ (f : State) (y : List ℕ) where
   extensible_kept : (limit : ℕ) (x t : List ℕ) → NumberKept (sets_extensible limit f x t)
   extensible_kept limit x t = then_kept (as_length limit (length t)) _ (λ k. refl)
 
-  numbers_kept : (limit : ℕ) (files : Folder) (l : Statement) → IsVerbatimButLen l → assigns l y ≡ false → NumberKept (act limit files l f)
+  numbers_kept : (limit : ℕ) (files : FileSystem) (l : Statement) → IsVerbatimButLen l → assigns l y ≡ false → NumberKept
+      (act limit files l f)
   numbers_kept limit files (Fetch line target x index) k e = then_kept (as_index (number_value f index)) _
       (λ i. then_kept (byte_at (f.texts x) i) _ (λ b. has_kept target (pos b) e))
   numbers_kept limit files (Cmp line target left right) k e = has_kept target _ e
@@ -188,14 +189,14 @@ module _ (f : State) (y : List ℕ) where
   kept_there : (r : Outcome) (u : State) (puts : List ℕ) → r ≡ Ok (u, puts) → NumberKept r → u.numbers y ≡ f.numbers y
   kept_there r u puts e k = subst (λ (w : Outcome). NumberKept w) e k
 
-module _ (s : List Statement) (d : Decisions) (ok : MeetsConditions s d) (limit : ℕ) (files : Folder) where
+module _ (s : List Statement) (d : Decisions) (ok : MeetsConditions s d) (limit : ℕ) (files : FileSystem) where
   -- the invariant, of a plan that isn't stuck
   abbrev pub Related : ℕ → State → Option Holding → Type 0
   Related p f None = ⊥
   Related p f (Some h) = Inv s d ok limit p f h
 
   module _ (p : ℕ) (f : State) (h : Holding) (inv : Inv s d ok limit p f h) where
-    module _ (l : Statement) (here : slice_get s p ≡ Some l) (simple_shape : shape_of l ≡ Simple) where
+    module _ (l : Statement) (here : slice_get s p ≡ Some l) (simple_shape : shape_of l ≡ Straight) where
       read_here : (x : List ℕ) → In x (read_by l) → reads_at (slice_get s p) x ≡ true
       read_here x i = ap (λ (o : Option Statement). reads_at o x) here ∙ has_in (read_by l) x i
 
@@ -209,7 +210,7 @@ module _ (s : List Statement) (d : Decisions) (ok : MeetsConditions s d) (limit 
         assigned_here = ap (λ (o : Option Statement). assigns_at o z) here ∙ ap (λ (o : Option (List ℕ)). is_name o z) target ∙ same_self z
 
         abbrev Excused : Type 0
-        Excused = Unread s z p ⊎ ((b : ℕ) × (d.source b z ≡ Some p))
+        Excused = NotLive s z p ⊎ ((b : ℕ) × (d.source b z ≡ Some p))
 
         excused_dead : d.dead p ≡ true → Excused
         excused_dead e = inl (ok.dead p z e assigned_here)
@@ -249,11 +250,11 @@ module _ (s : List Statement) (d : Decisions) (ok : MeetsConditions s d) (limit 
         stand_here : HaveTexts limit f (map (λ x. stands d p x) (read_by l)) (map f.texts (read_by l))
         stand_here = stand_all limit f (λ x. stands d p x) (read_by l) (λ x i. (operand s d ok limit p f h inv x (read_here x i)).1)
 
-        own_here : expr_with l (map (λ x. stands d p x) (read_by l)) ≡ Some (d.exprs p)
-        own_here = ok.own p l here simple
+        defining_here : expr_with l (map (λ x. stands d p x) (read_by l)) ≡ Some (d.exprs p)
+        defining_here = ok.defining p l here simple
 
         ready_here : Ready s d ok limit (d.exprs p) f h
-        ready_here = line_each (λ y. h.held y ≡ Text (f.texts y)) l (map (λ x. stands d p x) (read_by l)) (d.exprs p) own_here
+        ready_here = line_each (λ y. h.held y ≡ Text (f.texts y)) l (map (λ x. stands d p x) (read_by l)) (d.exprs p) defining_here
             (each_of (λ y. h.held y ≡ Text (f.texts y)) (λ x. stands d p x) (read_by l)
             (λ x i. (operand s d ok limit p f h inv x (read_here x i)).0))
 
@@ -263,11 +264,11 @@ module _ (s : List Statement) (d : Decisions) (ok : MeetsConditions s d) (limit 
         value_here : text_in limit (plain h) (d.exprs p) ≡ text_in limit f (d.exprs p)
         value_here = value_same limit (plain h) f (d.exprs p) (λ y i. ap held_text (ready_here y i)) (λ y i. λ r. inv.numbers r y)
 
-        simple_agrees : (line : ℕ) (z : List ℕ) (o : Expr) → own l ≡ Some o → target_of l ≡ Some z →
+        simple_agrees : (line : ℕ) (z : List ℕ) (o : Expr) → defining l ≡ Some o → target_of l ≡ Some z →
             Agree (Related (p + 1)) (act limit files l f) (does limit files (gives (d.dead p || d.paired p) line z (Joined (d.exprs p))) h)
-        simple_agrees line z o own_is target =
+        simple_agrees line z o defining_is target =
             makes_agree line z target (Joined (d.exprs p)) (text_in limit f (d.exprs p))
-            (line_gives limit files f l (map (λ x. stands d p x) (read_by l)) (d.exprs p) o stand_here own_here own_is z target)
+            (line_gives limit files f l (map (λ x. stands d p x) (read_by l)) (d.exprs p) o stand_here defining_here defining_is z target)
             there_here value_here refl
             (extent_is limit h f inv.numbers (lengths s d ok limit p f h inv) (d.exprs p)) (λ t e _. (ready_here, e))
             (d.dead p || d.paired p) (λ both. excused_either line z target (d.dead p) (d.paired p) refl refl both)
@@ -291,7 +292,7 @@ module _ (s : List Statement) (d : Decisions) (ok : MeetsConditions s d) (limit 
     abbrev Goal : Statement → Type 0
     Goal l = Agree (Related (p + 1)) (act limit files l f) (does limit files (operation l (d.exprs p) (d.dead p) (d.paired p)) h)
 
-    pub agrees : (l : Statement) → slice_get s p ≡ Some l → shape_of l ≡ Simple → Goal l
+    pub agrees : (l : Statement) → slice_get s p ≡ Some l → shape_of l ≡ Straight → Goal l
     agrees (Chars line z byte n) e q = simple_agrees (Chars line z byte n) e q refl line z _ refl refl
     agrees (Nul line z n) e q = simple_agrees (Nul line z n) e q refl line z _ refl refl
     agrees (Cat line z x y) e q = simple_agrees (Cat line z x y) e q refl line z _ refl refl
@@ -300,7 +301,7 @@ module _ (s : List Statement) (d : Decisions) (ok : MeetsConditions s d) (limit 
     agrees (Substr line z x i n) e q = simple_agrees (Substr line z x i n) e q refl line z _ refl refl
     agrees (Put line x) e q =
         let l : Statement = Put line x in
-        let own_is : Some (stands d p x) ≡ Some (d.exprs p) = own_here l e q refl in
+        let defining_is : Some (stands d p x) ≡ Some (d.exprs p) = defining_here l e q refl in
         let is : stands d p x ≡ d.exprs p = cc in
         put_agrees limit files (Related (p + 1)) f h line x (d.exprs p) (there_here l e q refl)
         (value_here l e q refl ∙ ap (λ (w : Expr). text_in limit f w) (sym is) ∙ (stand_here l e q refl).0)

@@ -7,7 +7,7 @@ use Rattle.std.proofs.lemmas.Int.{to_z-of_z}
 use Rattle.std.specs.Fmt as std
 use Rattle.std.proofs.lemmas.Fmt.{decimal_nonempty}
 use Rattle.cord_printf.proofs.Figures.{decimal-figures}
-use Rattle.cord_plan.specs.Shown.{decimal, signed_decimal}
+use Rattle.cord_plan.specs.PlanText.{decimal, signed_decimal}
 
 above_zero : (n : ℕ) → 0 < n → n < 2 ^ 64 → std.decimal n ≡ decimal n
 above_zero n some fits =

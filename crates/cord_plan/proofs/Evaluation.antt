@@ -1,7 +1,7 @@
 -- Values of expressions: which names they depend on, and what a line does by the value of its expression.
 use Rattle.std.proofs.Common.{◌≡◌, ℕ, ◌⊎◌, List, [], ◌∷◌, ◌++◌, length, map, Option, Some, Result, Ok, Err, refl, sym, ap, ◌∙◌, subst}
 use Rattle.std.proofs.Common.{inl, inr, ⊎_elim}
-use Rattle.cord_io.specs.Device.{Folder}
+use Rattle.cord_io.specs.Device.{FileSystem}
 use Rattle.cord_operands.specs.declared.operands.Number.{Number}
 use Rattle.cord_operands.specs.declared.operands.Number.TheVariants.{Numeral, Named}
 use Rattle.cord_operands.specs.declared.operands.Function.{Function}
@@ -12,28 +12,28 @@ use Rattle.cord_meaning.specs.State.{State, number_value, and_then, as_index, as
 use Rattle.cord_meaning.specs.Statements.{act, function_text}
 use Rattle.cord_plan.specs.Exprs.{Expr, name, run, cat, sub, Exprs, nothing, member, names, names_of, number_names}
 use Rattle.cord_plan.specs.Operands.{read_by, target_of}
-use Rattle.cord_plan.specs.Forced.{expr_with, own}
+use Rattle.cord_plan.specs.Inlined.{expr_with, defining}
 use Rattle.cord_plan.specs.Values.{within, copies, part_of, values, measured, length_of, text_in, gives_text}
 use Rattle.cord_plan.specs.Flattening.{HaveTexts}
 use Rattle.cord_plan.specs.Planned.{OfFunction}
 use Rattle.cord_plan.specs.Meaning.{Holding, plain, held_length, cords, cords_of, extent, made_text}
 use Rattle.cord_plan.proofs.Values.{measure_is}
 use Rattle.cord_plan.proofs.Flattening.{MeanSame, replaced_means}
-use Rattle.cord_plan.proofs.Owns.{Means, own_means, sets_within}
+use Rattle.cord_plan.proofs.DefiningExpressions.{Means, defining_means, sets_within}
 
--- ---- what a simple line does, by the value of its own expression, where its operands stand as expressions of their texts
-module _ (limit : ℕ) (files : Folder) (s : State) (l : Statement) (es : List Expr) (e o : Expr)
-    (stand : HaveTexts limit s es (map s.texts (read_by l))) (is : expr_with l es ≡ Some e) (own_is : own l ≡ Some o) where
-  same_own : text_in limit s e ≡ text_in limit s o
-  same_own = subst (λ (q : Option Expr). MeanSame limit s (Some e) q) own_is
-      (subst (λ (q : Option Expr). MeanSame limit s q (own l)) is (replaced_means limit s l es stand))
+-- ---- what a simple line does, by the value of its defining expression, where its operands stand as expressions of their texts
+module _ (limit : ℕ) (files : FileSystem) (s : State) (l : Statement) (es : List Expr) (e o : Expr)
+    (stand : HaveTexts limit s es (map s.texts (read_by l))) (is : expr_with l es ≡ Some e) (defining_is : defining l ≡ Some o) where
+  same_defining : text_in limit s e ≡ text_in limit s o
+  same_defining = subst (λ (q : Option Expr). MeanSame limit s (Some e) q) defining_is
+      (subst (λ (q : Option Expr). MeanSame limit s q (defining l)) is (replaced_means limit s l es stand))
 
-  means_own : (target : Option (List ℕ)) → target_of l ≡ target → Means limit s files l (Some o) target
-  means_own target to = subst (λ (t : Option (List ℕ)). Means limit s files l (Some o) t) to
-      (subst (λ (q : Option Expr). Means limit s files l q (target_of l)) own_is (own_means limit s files l))
+  means_defining : (target : Option (List ℕ)) → target_of l ≡ target → Means limit s files l (Some o) target
+  means_defining target to = subst (λ (t : Option (List ℕ)). Means limit s files l (Some o) t) to
+      (subst (λ (q : Option Expr). Means limit s files l q (target_of l)) defining_is (defining_means limit s files l))
 
   pub line_gives : (z : List ℕ) → target_of l ≡ Some z → act limit files l s ≡ gives_text s z (text_in limit s e)
-  line_gives z to = means_own (Some z) to ∙ ap (λ (r : Result (List ℕ) FaultKind). gives_text s z r) (sym same_own)
+  line_gives z to = means_defining (Some z) to ∙ ap (λ (r : Result (List ℕ) FaultKind). gives_text s z r) (sym same_defining)
 
 -- ---- what another line does that gives a text to a name
 module _ (limit : ℕ) (s : State) (z : List ℕ) where
@@ -42,7 +42,7 @@ module _ (limit : ℕ) (s : State) (z : List ℕ) where
   gives_after (Ok t) = sets_within limit s z t
   gives_after (Err kind) = refl
 
-  pub function_gives : (files : Folder) (line : ℕ) (function : Function) (n : Number) →
+  pub function_gives : (files : FileSystem) (line : ℕ) (function : Function) (n : Number) →
       act limit files (FromFn line z function n) s ≡ gives_text s z (made_text limit files (OfFunction function n) s)
   function_gives files line function n = by_checks (as_index (number_value s n))
     where

@@ -55,28 +55,28 @@ view-Two p = ap rest_view (sym (rolls-Two p))
     ∙ (fold_out-Pair _ _ _ _ _ expr_step rest_step members_step pair_step single_step p ∙ map_twice _ _ p.members))
 
 -- the members in front, where there are any
-abbrev pub front_seen : Option (Rc Members Global) → plain.Exprs
-front_seen None = plain.nothing
-front_seen (Some front) = members_view front.value
+abbrev pub prefix_seen : Option (Rc Members Global) → plain.Exprs
+prefix_seen None = plain.nothing
+prefix_seen (Some prefix) = members_view prefix.value
 
-pub members_made : (front : Option (Rc Members Global)) (rest : Rest) →
-    members_view (roll-Members (record { front = front; rest = rest })) ≡ append (front_seen front) (members_of (rest_view rest))
+pub members_made : (prefix : Option (Rc Members Global)) (rest : Rest) →
+    members_view (roll-Members (record { prefix = prefix; rest = rest })) ≡ append (prefix_seen prefix) (members_of (rest_view rest))
 members_made None rest =
-    fold-roll-Members _ _ _ _ _ expr_step rest_step members_step pair_step single_step (record { front = None; rest = rest })
-members_made (Some front) rest =
-    fold-roll-Members _ _ _ _ _ expr_step rest_step members_step pair_step single_step (record { front = Some front; rest = rest })
+    fold-roll-Members _ _ _ _ _ expr_step rest_step members_step pair_step single_step (record { prefix = None; rest = rest })
+members_made (Some prefix) rest =
+    fold-roll-Members _ _ _ _ _ expr_step rest_step members_step pair_step single_step (record { prefix = Some prefix; rest = rest })
 
 pub members_there : (ms : Members) → members_view ms
-    ≡ append (front_seen (out-Members ms).front) (members_of (rest_view (out-Members ms).rest))
+    ≡ append (prefix_seen (out-Members ms).prefix) (members_of (rest_view (out-Members ms).rest))
 members_there ms =
     let m = out-Members ms in
     fold_out-Members _ _ _ _ _ expr_step rest_step members_step pair_step single_step ms
-    ∙ (sym (fold-roll-Members _ _ _ _ _ expr_step rest_step members_step pair_step single_step m) ∙ members_made m.front m.rest)
+    ∙ (sym (fold-roll-Members _ _ _ _ _ expr_step rest_step members_step pair_step single_step m) ∙ members_made m.prefix m.rest)
 
--- the same of the two fields as they are told
-pub members_told : (ms : Members) (front : Option (Rc Members Global)) (rest : List plain.Expr) → (out-Members ms).front ≡ front →
-    rest ≡ rest_view (out-Members ms).rest → members_view ms ≡ append (front_seen front) (members_of rest)
-members_told ms front rest first last =
+-- the same of the two fields as they are reported
+pub members_reported : (ms : Members) (prefix : Option (Rc Members Global)) (rest : List plain.Expr) → (out-Members ms).prefix ≡ prefix →
+    rest ≡ rest_view (out-Members ms).rest → members_view ms ≡ append (prefix_seen prefix) (members_of rest)
+members_reported ms prefix rest first last =
     members_there ms
-    ∙ (ap (λ (o : Option (Rc Members Global)). append (front_seen o) (members_of (rest_view (out-Members ms).rest))) first
-    ∙ ap (λ (es : List plain.Expr). append (front_seen front) (members_of es)) (sym last))
+    ∙ (ap (λ (o : Option (Rc Members Global)). append (prefix_seen o) (members_of (rest_view (out-Members ms).rest))) first
+    ∙ ap (λ (es : List plain.Expr). append (prefix_seen prefix) (members_of es)) (sym last))

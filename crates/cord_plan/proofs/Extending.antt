@@ -14,9 +14,9 @@ use Rattle.cord_syntax.specs.declared.statements.Statement.TheVariants.{Balance,
 use Rattle.cord_plan.specs.Exprs.{Expr, Exprs, name, run, cat, sub, nothing, member, append, lacks, members, names, names_of}
 use Rattle.cord_plan.specs.Extending.{Extends, IsLonger, joined_at, joined_by}
 use Rattle.cord_plan.specs.inner.Extensions.{AreExtending}
-use Rattle.cord_plan.specs.Forced.{Choice, Table, choices, expr_of, expr_with, first_of, named, preserves, replaced}
+use Rattle.cord_plan.specs.Inlined.{Choice, Table, choices, expr_of, expr_with, first_of, named, preserves, replaced}
 use Rattle.cord_plan.specs.inner.Choices.{expression_of}
-use Rattle.cord_plan.specs.inner.Steps.{IsBegun, IsStep, IsToldLonger, is_last, is_longer, is_named, made_expression}
+use Rattle.cord_plan.specs.inner.Steps.{IsBegun, IsStep, IsReportedLonger, is_last, is_longer, is_named, made_expression}
 use Rattle.cord_plan.specs.inner.Steps.{measured, measured_from, operation_expression, some_source}
 use Rattle.cord_plan.specs.Operands.{assigns, assigns_at, read_by, target_of}
 use Rattle.cord_plan.specs.Planned.{Made, Joined, Literal, OfFile, OfEager, OfLazy, OfFunction, Balanced, OfExtensible, Printed, Operation}
@@ -28,10 +28,10 @@ use Rattle.cord_plan.proofs.Named.{each_at}
 use Rattle.cord_plan.proofs.Nearest.{first_in}
 use Rattle.cord_plan.proofs.Pairs.{taken_at, taken_fits}
 
-pub told_there : (told : List Bool) (place : ℕ) → get_or told place false ≡ true → slice_get told place ≡ Some true
-told_there [] place h = let bad : ⊥ = cc in absurd bad
-told_there (v ∷ told) zero h = ap (λ (w : Bool). Some w) h
-told_there (v ∷ told) (suc place) h = told_there told place h
+pub reported_there : (reported : List Bool) (place : ℕ) → get_or reported place false ≡ true → slice_get reported place ≡ Some true
+reported_there [] place h = let bad : ⊥ = cc in absurd bad
+reported_there (v ∷ reported) zero h = ap (λ (w : Bool). Some w) h
+reported_there (v ∷ reported) (suc place) h = reported_there reported place h
 
 -- ---- one operation
 measured_joins : (v : Bool) (o : Operation) → joined_by (measured v o) ≡ joined_by o
@@ -100,10 +100,10 @@ joins_at p ps [] k = refl
 joins_at p ps (o ∷ os) zero = measured_joins (some_source p ps) o
 joins_at p ps (o ∷ os) (suc k) = joins_at (p + 1) ps os k
 
-get_front : {X : Type 0} (xs ys : List X) (k : ℕ) → k < length xs → slice_get (xs ++ ys) k ≡ slice_get xs k
-get_front [] ys k lt = absurd (omega (arith, lt))
-get_front (x ∷ xs) ys zero lt = refl
-get_front (x ∷ xs) ys (suc k) lt = get_front xs ys k (omega (arith, lt))
+get_prefix : {X : Type 0} (xs ys : List X) (k : ℕ) → k < length xs → slice_get (xs ++ ys) k ≡ slice_get xs k
+get_prefix [] ys k lt = absurd (omega (arith, lt))
+get_prefix (x ∷ xs) ys zero lt = refl
+get_prefix (x ∷ xs) ys (suc k) lt = get_prefix xs ys k (omega (arith, lt))
 
 get_end : {X : Type 0} (xs : List X) (x : X) → slice_get (xs ++ x ∷ []) (length xs) ≡ Some x
 get_end [] x = refl
@@ -129,18 +129,18 @@ record Last (b : ℕ) (c : Choice) : Type 0 where
 no_cat : (v : Bool) → (v && false) ≡ true → ⊥
 no_cat v h = let bad : false ≡ true = sym (and-false v) ∙ h in cc
 
-last_told : (b : ℕ) (c : Choice) → is_last b c ≡ true → Last b c
-last_told b (named x) h = let bad : ⊥ = cc in absurd bad
-last_told b (replaced a (cat es)) h =
+last_reported : (b : ℕ) (c : Choice) → is_last b c ≡ true → Last b c
+last_reported b (named x) h = let bad : ⊥ = cc in absurd bad
+last_reported b (replaced a (cat es)) h =
     let one : b - a ≡ 1 = eqb-true (b - a) 1 (both_true (b - a == 1) true h).0 in
     record { place = a; first = es; before = (let next : a + 1 ≡ b = omega (arith, one) in next); is = refl }
-last_told b (replaced a (name x)) h = absurd (no_cat (b - a == 1) h)
-last_told b (replaced a (run c n)) h = absurd (no_cat (b - a == 1) h)
-last_told b (replaced a (sub e i n)) h = absurd (no_cat (b - a == 1) h)
+last_reported b (replaced a (name x)) h = absurd (no_cat (b - a == 1) h)
+last_reported b (replaced a (run c n)) h = absurd (no_cat (b - a == 1) h)
+last_reported b (replaced a (sub e i n)) h = absurd (no_cat (b - a == 1) h)
 
-named_told : (c : Choice) → is_named c ≡ true → (x : List ℕ) × (c ≡ named x)
-named_told (named x) h = (x, refl)
-named_told (replaced a e) h = let bad : ⊥ = cc in absurd bad
+named_reported : (c : Choice) → is_named c ≡ true → (x : List ℕ) × (c ≡ named x)
+named_reported (named x) h = (x, refl)
+named_reported (replaced a e) h = let bad : ⊥ = cc in absurd bad
 
 -- a line whose first choice takes the members that the line before it joins, and what it joins itself: those and one more
 record Longer (b : ℕ) (l : Statement) (cs : List Choice) : Type 0 where
@@ -177,8 +177,8 @@ joins_two : (b line : ℕ) (target x : List ℕ) (l : Statement) (c d : Choice) 
     (is_last b c && is_named d) ≡ true → Longer b l (c ∷ d ∷ [])
 joins_two b line target x l c d first made h =
     let p = both_true (is_last b c) (is_named d) h in
-    let last : Last b c = last_told b c p.0 in
-    let other : (y : List ℕ) × (d ≡ named y) = named_told d p.1 in
+    let last : Last b c = last_reported b c p.0 in
+    let other : (y : List ℕ) × (d ≡ named y) = named_reported d p.1 in
     record {
       choice = c;
       last = last;
@@ -209,7 +209,7 @@ catc_longer : (b line : ℕ) (target operand : List ℕ) (byte : Number) (cs : L
     is_longer b (Catc line target operand byte) cs ≡ true → Longer b (Catc line target operand byte) cs
 catc_longer b line target operand byte [] h = let bad : ⊥ = cc in absurd bad
 catc_longer b line target operand byte (c ∷ []) h =
-    let last : Last b c = last_told b c h in
+    let last : Last b c = last_reported b c h in
     record {
       choice = c;
       last = last;
@@ -286,14 +286,14 @@ module _ (s : List Statement) (later : List ℕ → ℕ → Bool) where
       at : slice_get made a ≡ Some o
       at = ap (λ (os : List Operation). slice_get os a) g.is ∙ found.2
 
-      shown : operation_expression o ≡ Some (cat es)
-      shown =
+      printed : operation_expression o ≡ Some (cat es)
+      printed =
           sym (ap expression_of (slice_get-map operation_expression made a
           ∙ ap (λ (q : Option Operation). option_map operation_expression q) at))
           ∙ (first_in (map operation_expression made) g.table a g.has ∙ t.from)
 
       j : Joins m o es
-      j = line_joins m (or_nothing entry.0.0) found.0 found.1 x es there.2 shown
+      j = line_joins m (or_nothing entry.0.0) found.0 found.1 x es there.2 printed
 
       lacking : lacks (names_of es) j.target ≡ true
       lacking = sym (preserves_lacking m j.target j.is_target (names_of es))
@@ -324,7 +324,7 @@ module _ (s : List Statement) (later : List ℕ → ℕ → Bool) where
       r = source_of_taken b old g l w.operand a w.last.first t
 
       first : joined_at (slice_get (new ++ o ∷ []) a) ≡ Some (r.target, w.last.first)
-      first = ap joined_at (get_front new (o ∷ []) a (omega (arith, next, size)))
+      first = ap joined_at (get_prefix new (o ∷ []) a (omega (arith, next, size)))
           ∙ (ap (λ (os : List Operation). joined_at (slice_get os a)) step.marked ∙ (joins_at 0 step.sources old a ∙ r.joined))
 
       second : joined_at (slice_get (new ++ o ∷ []) (suc a)) ≡ Some (w.target, append w.last.first (member w.more nothing))
@@ -333,52 +333,54 @@ module _ (s : List Statement) (later : List ℕ → ℕ → Bool) where
           ∙ (ap joined_at (get_end new o)
           ∙ (ap joined_by (made ∙ ap (λ (f : Option Expr). operation l (or_nothing f) dead false) expression) ∙ w.joined dead))
 
-  extends_next : (b : ℕ) (l : Statement) (old new : List Operation) (e : Option Expr) (o : Operation) (dead told : Bool)
+  extends_next : (b : ℕ) (l : Statement) (old new : List Operation) (e : Option Expr) (o : Operation) (dead reported : Bool)
       (g : IsBegun s later b old) → IsStep s later b l old new e → o ≡ operation l (or_nothing e) dead false → length new ≡ b →
-      IsToldLonger s later b l old told → told ≡ true → Extends (new ++ o ∷ []) b
-  extends_next b (Cat line target left right) old new e o dead told g step made size longer is =
+      IsReportedLonger s later b l old reported → reported ≡ true → Extends (new ++ o ∷ []) b
+  extends_next b (Cat line target left right) old new e o dead reported g step made size longer is =
       let l = Cat line target left right in
       longer_extends b l old new e o dead g step made size (choices s later g.table b l [] (read_by l))
       (step.next.expression g.table g.has) (are_chosen s later g.table b l [] [] (read_by l) tt)
       (cat_longer b line target left right (choices s later g.table b l [] (read_by l)) (longer g.table g.has is))
-  extends_next b (Catn line target []) old new e o dead told g step made size longer is =
+  extends_next b (Catn line target []) old new e o dead reported g step made size longer is =
       let no : false ≡ true = longer g.table g.has is in
       let bad : ⊥ = cc in absurd bad
-  extends_next b (Catn line target (x ∷ xs)) old new e o dead told g step made size longer is =
+  extends_next b (Catn line target (x ∷ xs)) old new e o dead reported g step made size longer is =
       let l = Catn line target (x ∷ xs) in
       longer_extends b l old new e o dead g step made size (choices s later g.table b l [] (read_by l))
       (step.next.expression g.table g.has) (are_chosen s later g.table b l [] [] (read_by l) tt)
       (catn_longer b line target (x ∷ xs) x (choices s later g.table b l [] (read_by l)) refl (longer g.table g.has is))
-  extends_next b (Catc line target operand byte) old new e o dead told g step made size longer is =
+  extends_next b (Catc line target operand byte) old new e o dead reported g step made size longer is =
       let l = Catc line target operand byte in
       longer_extends b l old new e o dead g step made size (choices s later g.table b l [] (read_by l))
       (step.next.expression g.table g.has) (are_chosen s later g.table b l [] [] (read_by l) tt)
       (catc_longer b line target operand byte (choices s later g.table b l [] (read_by l)) (longer g.table g.has is))
-  extends_next b l old new e o dead told g step made size longer is =
+  extends_next b l old new e o dead reported g step made size longer is =
       let no : false ≡ true = longer g.table g.has is in
       let bad : ⊥ = cc in absurd bad
 
-  -- an operation more, of which it is told whether it extends the one before it
-  pub more_extending : (all : List Bool) (told : Bool) (b : ℕ) (l : Statement) (old new : List Operation) (e : Option Expr) (o : Operation)
+  -- an operation more, of which it is reported whether it extends the one before it
+  pub more_extending : (all : List Bool) (reported : Bool) (b : ℕ) (l : Statement) (old new : List Operation) (e : Option Expr)
+      (o : Operation)
       (dead : Bool) → IsBegun s later b old → IsStep s later b l old new e → o ≡ operation l (or_nothing e) dead false → length new ≡ b →
-      length all ≡ b → AreExtending all old → IsToldLonger s later b l old told → AreExtending (all ++ told ∷ []) (new ++ o ∷ [])
-  more_extending all told b l old new e o dead g step made size long so_far longer =
-      λ place h. by_place place (last_or all told place true h)
+      length all ≡ b → AreExtending all old → IsReportedLonger s later b l old reported → AreExtending (all ++ reported ∷ [])
+      (new ++ o ∷ [])
+  more_extending all reported b l old new e o dead g step made size long so_far longer =
+      λ place h. by_place place (last_or all reported place true h)
     where
       same : (k : ℕ) → k < b → joined_at (slice_get (new ++ o ∷ []) k) ≡ joined_at (slice_get old k)
       same k lt =
-          ap joined_at (get_front new (o ∷ []) k (omega (arith, lt, size)))
+          ap joined_at (get_prefix new (o ∷ []) k (omega (arith, lt, size)))
           ∙ (ap (λ (os : List Operation). joined_at (slice_get os k)) step.marked ∙ joins_at 0 step.sources old k)
 
-      by_place : (place : ℕ) → (slice_get all place ≡ Some true) ⊎ ((place ≡ length all) × (true ≡ told)) →
+      by_place : (place : ℕ) → (slice_get all place ≡ Some true) ⊎ ((place ≡ length all) × (true ≡ reported)) →
           Extends (new ++ o ∷ []) place
       by_place place (inl h) =
           let within : place < length all = slice_get_within all place true h in
           extends_as old (new ++ o ∷ []) place (λ k le. same k (omega (arith, le, within, long))) (so_far place h)
       by_place place (inr h) =
           subst (λ (n : ℕ). Extends (new ++ o ∷ []) n) (sym (h.0 ∙ long))
-          (extends_next b l old new e o dead told g step made size longer (sym h.1))
+          (extends_next b l old new e o dead reported g step made size longer (sym h.1))
 
   module _ (b : ℕ) (l : Statement) (old : List Operation) where
-    pub never_told : IsToldLonger s later b l old false
-    never_told = λ t has is. let bad : ⊥ = cc in absurd bad
+    pub never_reported : IsReportedLonger s later b l old false
+    never_reported = λ t has is. let bad : ⊥ = cc in absurd bad

@@ -5,11 +5,12 @@ use Rattle.cord_operands.specs.declared.operands.Number.TheVariants.{Numeral}
 use Rattle.cord_syntax.specs.declared.statements.Statement.{Statement}
 use Rattle.cord_syntax.specs.declared.statements.Statement.TheVariants.{Let, File, Eager, Lazy, Chars, Nul, FromFn, Cat, Catn, Catc, Substr}
 use Rattle.cord_syntax.specs.declared.statements.Statement.TheVariants.{Balance, EcToCord, Sprintf, Put}
-use Rattle.cord_plan.specs.Exprs.{Expr, name, run, cat, sub, Exprs, nothing, member, append, in_front, members}
+use Rattle.cord_plan.specs.Exprs.{Expr, name, run, cat, sub, Exprs, nothing, member, append, preceding, members}
 use Rattle.cord_plan.specs.Operands.{read_by, target_of}
 use Rattle.cord_plan.specs.Flat.{IsFlat, AreMembers, IsFlatOperation}
-use Rattle.cord_plan.specs.Forced.{Table, Choice, named, replaced, expr_of, expr_with, first_of, own, setter, fits, is_small, chosen_from}
-use Rattle.cord_plan.specs.Forced.{chosen_of, choices, operands_chosen, grown, exprs}
+use Rattle.cord_plan.specs.Inlined.{Table, Choice, named, replaced, expr_of, expr_with, first_of, defining, setter, fits, is_small}
+use Rattle.cord_plan.specs.Inlined.{chosen_from}
+use Rattle.cord_plan.specs.Inlined.{chosen_of, choices, operands_chosen, grown, exprs}
 use Rattle.cord_plan.specs.Planned.{Operation, Joined, gives, or_nothing, operation, operations, is_dead, is_first}
 
 append_flat : (es others : Exprs) → AreMembers es → AreMembers others → AreMembers (append es others)
@@ -19,11 +20,11 @@ append_flat (member (run c n) es) others a b = append_flat es others a b
 append_flat (member (cat fs) es) others a b = absurd a
 append_flat (member (sub e i n) es) others a b = (a.0, append_flat es others a.1 b)
 
-in_front_flat : (e : Expr) (others : Exprs) → IsFlat e → AreMembers others → AreMembers (in_front e others)
-in_front_flat (name x) others a b = b
-in_front_flat (run c n) others a b = b
-in_front_flat (cat es) others a b = append_flat es others a b
-in_front_flat (sub e i n) others a b = (a, b)
+preceding_flat : (e : Expr) (others : Exprs) → IsFlat e → AreMembers others → AreMembers (preceding e others)
+preceding_flat (name x) others a b = b
+preceding_flat (run c n) others a b = b
+preceding_flat (cat es) others a b = append_flat es others a b
+preceding_flat (sub e i n) others a b = (a, b)
 
 -- each of these expressions is flat
 abbrev Each : List Expr → Type 0
@@ -32,7 +33,7 @@ Each (e ∷ es) = IsFlat e × Each es
 
 members_flat : (es : List Expr) → Each es → AreMembers (members es)
 members_flat [] a = tt
-members_flat (e ∷ es) a = in_front_flat e (members es) a.0 (members_flat es a.1)
+members_flat (e ∷ es) a = preceding_flat e (members es) a.0 (members_flat es a.1)
 
 each_then : (es : List Expr) (e : Expr) → Each es → IsFlat e → Each (es ++ e ∷ [])
 each_then [] e a b = (b, tt)
@@ -111,8 +112,8 @@ module _ (s : List Statement) (later : List ℕ → ℕ → Bool) where
   grown_flat : (table : Table) (b : ℕ) (rest : List Statement) → EachEntry table → EachEntry (grown s later table b rest)
   grown_flat table b [] a = a
   grown_flat table b (l ∷ rest) a =
-      let en : Option Expr × List Choice = operands_chosen s later table b l (own l) in
-      grown_flat (table ++ en ∷ []) (b + 1) rest (table_then table en a (operands_flat table b l (own l) a))
+      let en : Option Expr × List Choice = operands_chosen s later table b l (defining l) in
+      grown_flat (table ++ en ∷ []) (b + 1) rest (table_then table en a (operands_flat table b l (defining l) a))
 
   pub exprs_flat : EachEntry (exprs s later)
   exprs_flat = grown_flat [] 0 s tt

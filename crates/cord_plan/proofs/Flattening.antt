@@ -6,49 +6,49 @@ use Rattle.cord_syntax.specs.declared.statements.Statement.{Statement}
 use Rattle.cord_syntax.specs.declared.statements.Statement.TheVariants.{Chars, Nul, Cat, Catn, Catc, Substr, Put}
 use Rattle.cord_meaning.specs.declared.ends.FaultKind.{FaultKind}
 use Rattle.cord_meaning.specs.State.{State, number_value, and_then}
-use Rattle.cord_plan.specs.Exprs.{Expr, name, run, cat, sub, Exprs, nothing, member, append, in_front, members}
+use Rattle.cord_plan.specs.Exprs.{Expr, name, run, cat, sub, Exprs, nothing, member, append, preceding, members}
 use Rattle.cord_plan.specs.Operands.{read_by}
-use Rattle.cord_plan.specs.Forced.{expr_with, own}
+use Rattle.cord_plan.specs.Inlined.{expr_with, defining}
 use Rattle.cord_plan.specs.Values.{within, part_of, text_in}
 use Rattle.cord_plan.specs.Flattening.{nested, HaveTexts}
 use Rattle.cord_plan.proofs.Values.{passes, joined_in, cat_joined}
 
 -- one text after another
-abbrev behind : Result (List ℕ) FaultKind → Result (List ℕ) FaultKind → Result (List ℕ) FaultKind
-behind r q = and_then r (λ text. and_then q (λ rest. Ok (text ++ rest)))
+abbrev suffix : Result (List ℕ) FaultKind → Result (List ℕ) FaultKind → Result (List ℕ) FaultKind
+suffix r q = and_then r (λ text. and_then q (λ rest. Ok (text ++ rest)))
 
-behind_assoc : (r q p : Result (List ℕ) FaultKind) → behind r (behind q p) ≡ behind (behind r q) p
-behind_assoc (Ok t) (Ok u) (Ok v) = ap (λ (x : List ℕ). Ok x) (sym (append_assoc t u v))
-behind_assoc (Ok t) (Ok u) (Err kind) = refl
-behind_assoc (Ok t) (Err kind) p = refl
-behind_assoc (Err kind) q p = refl
+after_assoc : (r q p : Result (List ℕ) FaultKind) → suffix r (suffix q p) ≡ suffix (suffix r q) p
+after_assoc (Ok t) (Ok u) (Ok v) = ap (λ (x : List ℕ). Ok x) (sym (append_assoc t u v))
+after_assoc (Ok t) (Ok u) (Err kind) = refl
+after_assoc (Ok t) (Err kind) p = refl
+after_assoc (Err kind) q p = refl
 
-none_in_front : (r : Result (List ℕ) FaultKind) → r ≡ behind (Ok []) r
-none_in_front (Ok t) = refl
-none_in_front (Err kind) = refl
+none_preceding : (r : Result (List ℕ) FaultKind) → r ≡ suffix (Ok []) r
+none_preceding (Ok t) = refl
+none_preceding (Err kind) = refl
 
 module _ (limit : ℕ) (s : State) where
-  append_joined : (es others : Exprs) → joined_in limit s (append es others) ≡ behind (joined_in limit s es) (joined_in limit s others)
-  append_joined nothing others = none_in_front (joined_in limit s others)
+  append_joined : (es others : Exprs) → joined_in limit s (append es others) ≡ suffix (joined_in limit s es) (joined_in limit s others)
+  append_joined nothing others = none_preceding (joined_in limit s others)
   append_joined (member e es) others =
-      ap (λ (r : Result (List ℕ) FaultKind). behind (text_in limit s e) r) (append_joined es others)
-      ∙ behind_assoc (text_in limit s e) (joined_in limit s es) (joined_in limit s others)
+      ap (λ (r : Result (List ℕ) FaultKind). suffix (text_in limit s e) r) (append_joined es others)
+      ∙ after_assoc (text_in limit s e) (joined_in limit s es) (joined_in limit s others)
 
-  front_joined : (e : Expr) (others : Exprs) (text : List ℕ) → text_in limit s e ≡ Ok text →
-      joined_in limit s (in_front e others) ≡ behind (Ok text) (joined_in limit s others)
-  front_joined (name x) others text h = ap (λ (r : Result (List ℕ) FaultKind). behind r (joined_in limit s others)) h
-  front_joined (run c n) others text h = ap (λ (r : Result (List ℕ) FaultKind). behind r (joined_in limit s others)) h
-  front_joined (cat es) others text h = append_joined es others
-      ∙ ap (λ (r : Result (List ℕ) FaultKind). behind r (joined_in limit s others)) (cat_joined limit s es text h).joined
-  front_joined (sub e i n) others text h = ap (λ (r : Result (List ℕ) FaultKind). behind r (joined_in limit s others)) h
+  prefix_joined : (e : Expr) (others : Exprs) (text : List ℕ) → text_in limit s e ≡ Ok text →
+      joined_in limit s (preceding e others) ≡ suffix (Ok text) (joined_in limit s others)
+  prefix_joined (name x) others text h = ap (λ (r : Result (List ℕ) FaultKind). suffix r (joined_in limit s others)) h
+  prefix_joined (run c n) others text h = ap (λ (r : Result (List ℕ) FaultKind). suffix r (joined_in limit s others)) h
+  prefix_joined (cat es) others text h = append_joined es others
+      ∙ ap (λ (r : Result (List ℕ) FaultKind). suffix r (joined_in limit s others)) (cat_joined limit s es text h).joined
+  prefix_joined (sub e i n) others text h = ap (λ (r : Result (List ℕ) FaultKind). suffix r (joined_in limit s others)) h
 
   nested_joined : (es : List Expr) (text : List ℕ) → joined_in limit s (nested es) ≡ Ok text → joined_in limit s (members es) ≡ Ok text
   nested_joined [] text h = h
   nested_joined (e ∷ es) text h =
       let p = passes (text_in limit s e) (λ t. and_then (joined_in limit s (nested es)) (λ rest. Ok (t ++ rest))) text h in
       let q = passes (joined_in limit s (nested es)) (λ rest. Ok (p.middle ++ rest)) text p.next in
-      front_joined e (members es) p.middle p.first
-      ∙ ap (λ (r : Result (List ℕ) FaultKind). behind (Ok p.middle) r) (nested_joined es q.middle q.first)
+      prefix_joined e (members es) p.middle p.first
+      ∙ ap (λ (r : Result (List ℕ) FaultKind). suffix (Ok p.middle) r) (nested_joined es q.middle q.first)
       ∙ q.next
 
   -- a `cat` of members is their `cat` as they stand, where that has no fault
@@ -67,9 +67,9 @@ module _ (limit : ℕ) (s : State) where
   same_joined (e ∷ es) fs [] more h k = absurd h
   same_joined (e ∷ es) [] (t ∷ ts) more h k = absurd k
   same_joined (e ∷ es) (f ∷ fs) (t ∷ ts) more h k =
-      front_joined e (members (es ++ more)) t h.0
-      ∙ ap (λ (r : Result (List ℕ) FaultKind). behind (Ok t) r) (same_joined es fs ts more h.1 k.1)
-      ∙ sym (front_joined f (members (fs ++ more)) t k.0)
+      prefix_joined e (members (es ++ more)) t h.0
+      ∙ ap (λ (r : Result (List ℕ) FaultKind). suffix (Ok t) r) (same_joined es fs ts more h.1 k.1)
+      ∙ sym (prefix_joined f (members (fs ++ more)) t k.0)
 
   names_have : (xs : List (List ℕ)) → HaveTexts limit s (map (λ x. name x) xs) (map s.texts xs)
   names_have [] = tt
@@ -94,7 +94,8 @@ module _ (limit : ℕ) (s : State) where
   MeanSame (Some e) None = Unit {0}
   MeanSame (Some e) (Some o) = text_in limit s e ≡ text_in limit s o
 
-  pub replaced_means : (l : Statement) (es : List Expr) → HaveTexts limit s es (map s.texts (read_by l)) → MeanSame (expr_with l es) (own l)
+  pub replaced_means : (l : Statement) (es : List Expr) → HaveTexts limit s es (map s.texts (read_by l)) → MeanSame (expr_with l es)
+      (defining l)
   replaced_means (Cat line target left right) es h = all_replaced es (left ∷ right ∷ []) h
   replaced_means (Catn line target many) es h = all_replaced es many h
   replaced_means (Catc line target operand byte) es h = cat_replaced es (operand ∷ []) (run byte (Numeral (pos 1)) ∷ []) h

@@ -4,12 +4,12 @@ use Rattle.std.proofs.Common.{ap, ◌∙◌, inl, inr}
 use Rattle.std.specs.Prelude.{slice_get, not}
 use Rattle.std.proofs.lemmas.Bool.{or_left, or_right}
 use Rattle.cord_syntax.specs.declared.statements.Statement.{Statement}
-use Rattle.cord_meaning.specs.Blocks.{Shape, Simple, Loop, Branch, Otherwise, Close, jump}
+use Rattle.cord_meaning.specs.Blocks.{Shape, Straight, Loop, Branch, Otherwise, Close, jump}
 use Rattle.cord_meaning.specs.Paths.{Next, NextOf, NextOfClose, open_at}
 use Rattle.cord_meaning.specs.Statements.{shape_of}
 use Rattle.cord_plan.specs.Operands.{reads_at, assigns_at}
-use Rattle.cord_plan.specs.Unread.{ReadBy, ReadLater, IsLater, IsFixed, successors, close_successors, shape_successors, some_of, live}
-use Rattle.cord_plan.specs.Unread.{later_within}
+use Rattle.cord_plan.specs.Liveness.{ReadBy, ReadLater, IsLater, IsFixed, successors, close_successors, shape_successors, some_of, live}
+use Rattle.cord_plan.specs.Liveness.{later_within}
 
 pub or_true : (a b : Bool) → (a || b) ≡ true → (a ≡ true) ⊎ (b ≡ true)
 or_true true b e = inl refl
@@ -60,7 +60,7 @@ module _ (holds : ℕ → Bool) where
 
     pub shape_found : (o : Option Shape) → some_of holds (shape_successors shapes p o) ≡ true → Found (NextOf shapes p o)
     shape_found None e = let bad : ⊥ = cc in absurd bad
-    shape_found (Some Simple) e = record { place = p + 1; next = refl; true_there = of_one (p + 1) e }
+    shape_found (Some Straight) e = record { place = p + 1; next = refl; true_there = of_one (p + 1) e }
     shape_found (Some Loop) e = two_found (p + 1) (jump shapes p) (of_two (p + 1) (jump shapes p) e)
     shape_found (Some Branch) e = two_found (p + 1) (jump shapes p) (of_two (p + 1) (jump shapes p) e)
     shape_found (Some Otherwise) e = record { place = jump shapes p; next = refl; true_there = of_one (jump shapes p) e }
@@ -79,7 +79,7 @@ module _ (holds : ℕ → Bool) where
     -- what holds of a place that may come next holds of one of those after
     pub shape_held : (o : Option Shape) (q : ℕ) → NextOf shapes p o q → holds q ≡ true → some_of holds (shape_successors shapes p o) ≡ true
     shape_held None q n h = absurd n
-    shape_held (Some Simple) q n h = to_first (p + 1) q [] n h
+    shape_held (Some Straight) q n h = to_first (p + 1) q [] n h
     shape_held (Some Loop) q n h = two_held (p + 1) (jump shapes p) q n h
     shape_held (Some Branch) q n h = two_held (p + 1) (jump shapes p) q n h
     shape_held (Some Otherwise) q n h = to_first (jump shapes p) q [] n h
@@ -102,9 +102,9 @@ pub record Reading (s : List Statement) (x : List ℕ) (p : ℕ) : Type 0 where
   pub reads : ReadBy s x p path
 
 module _ (s : List Statement) (k : ℕ) (x : List ℕ) (p : ℕ) (ih : (q : ℕ) → live s k x q ≡ true → Reading s x q) where
-  reading_behind : assigns_at (slice_get s p) x ≡ false → Found (λ q. live s k x q) (map shape_of s) p (Next (map shape_of s) p) →
+  reading_after : assigns_at (slice_get s p) x ≡ false → Found (λ q. live s k x q) (map shape_of s) p (Next (map shape_of s) p) →
       Reading s x p
-  reading_behind unset found =
+  reading_after unset found =
       let later : Reading s x found.place = ih found.place found.true_there in
       record { path = found.place ∷ later.path; reads = (unset, found.next, later.reads) }
 
@@ -114,7 +114,7 @@ module _ (s : List Statement) (k : ℕ) (x : List ℕ) (p : ℕ) (ih : (q : ℕ)
   reading_step (inr e) =
       let both : (assigns_at (slice_get s p) x ≡ false) × (some_of (λ q. live s k x q) (successors (map shape_of s) p) ≡ true) =
       and_true (assigns_at (slice_get s p) x) (some_of (λ q. live s k x q) (successors (map shape_of s) p)) e in
-      reading_behind both.0 (shape_found (λ q. live s k x q) (map shape_of s) p (slice_get (map shape_of s) p) both.1)
+      reading_after both.0 (shape_found (λ q. live s k x q) (map shape_of s) p (slice_get (map shape_of s) p) both.1)
 
 -- what the backwards flow found after k steps, a path reads
 pub path_of : (s : List Statement) (k : ℕ) (x : List ℕ) (p : ℕ) → live s k x p ≡ true → Reading s x p
@@ -132,7 +132,7 @@ module _ (s : List Statement) (k : ℕ) where
   -- where k steps leave a fixed point, they tell exactly what is read later
   pub settled : IsFixed s (λ x p. live s k x p) → IsLater s (λ x p. later_within s k x p)
   settled fixed = record {
-    unread = λ x p e q n path r.
+    not_live = λ x p e q n path r.
         let there : live s k x q ≡ true = path_in s (λ y m. live s k y m) fixed x q path r in
         let held : later_within s k x p ≡ true =
         shape_held (λ m. live s k x m) (map shape_of s) p (slice_get (map shape_of s) p) q n there in
@@ -142,10 +142,10 @@ module _ (s : List Statement) (k : ℕ) where
 
 -- two oracles that tell exactly what is read later tell the same
 pub one_oracle : (s : List Statement) (a b : List ℕ → ℕ → Bool) → IsLater s a → IsLater s b → (x : List ℕ) (p : ℕ) → a x p ≡ b x p
-one_oracle s a b told other x p = pick (a x p) (b x p) refl refl
+one_oracle s a b reported other x p = pick (a x p) (b x p) refl refl
   where
     pick : (u v : Bool) → a x p ≡ u → b x p ≡ v → a x p ≡ b x p
     pick true true e f = e ∙ sym f
     pick false false e f = e ∙ sym f
-    pick true false e f = let r : ReadLater s x p = told.read x p e in absurd (other.unread x p f r.first r.next r.path r.reads)
-    pick false true e f = let r : ReadLater s x p = other.read x p f in absurd (told.unread x p e r.first r.next r.path r.reads)
+    pick true false e f = let r : ReadLater s x p = reported.read x p e in absurd (other.not_live x p f r.first r.next r.path r.reads)
+    pick false true e f = let r : ReadLater s x p = other.read x p f in absurd (reported.not_live x p e r.first r.next r.path r.reads)

@@ -5,11 +5,11 @@ use Rattle.std.specs.Prelude.{slice_get}
 use Rattle.std.proofs.lemmas.List.{drop-map, take_rest}
 use Rattle.std.proofs.lemmas.Option.{slice_get-map, slice_get-get_or, slice_get_past, slice_get_cases}
 use Rattle.cord_meaning.specs.Blocks as control
-use Rattle.cord_meaning.specs.Blocks.{Simple, Loop, Branch, Otherwise, Close, to_end, to_else, jump}
+use Rattle.cord_meaning.specs.Blocks.{Straight, Loop, Branch, Otherwise, Close, to_end, to_else, jump}
 use Rattle.cord_meaning.specs.Paths.{opened, open_at}
 use Rattle.cord_plan.specs.declared.flow.successors.Shape.{Shape}
 use Rattle.cord_plan.specs.declared.flow.successors.Successors.{Successors}
-use Rattle.cord_plan.specs.Unread.{successors, close_successors}
+use Rattle.cord_plan.specs.Liveness.{successors, close_successors}
 use Rattle.cord_plan.specs.inner.Liveness.{shape_view, innermost, places, places_at, AreSuccessors}
 
 -- the shape at a place
@@ -20,14 +20,14 @@ shape_there xs p x d lt is =
     rw (slice_get-map shape_view xs p, there) refl
 
 -- the shapes after a place
-pub shapes_behind : (xs : List Shape) (n : ℕ) → map shape_view (take (length xs - n) (drop n xs)) ≡ drop n (map shape_view xs)
-shapes_behind xs n = rw (take_rest xs n) (sym (drop-map shape_view n xs))
+pub shapes_after : (xs : List Shape) (n : ℕ) → map shape_view (take (length xs - n) (drop n xs)) ≡ drop n (map shape_view xs)
+shapes_after xs n = rw (take_rest xs n) (sym (drop-map shape_view n xs))
 
 module _ (shapes : List control.Shape) (p : ℕ) where
-  pub behind_simple : slice_get shapes p ≡ Some Simple → (p + 1) ∷ [] ≡ successors shapes p
-  behind_simple is = rw is refl
+  pub after_simple : slice_get shapes p ≡ Some Straight → (p + 1) ∷ [] ≡ successors shapes p
+  after_simple is = rw is refl
 
-  pub jump_simple : slice_get shapes p ≡ Some Simple → p + 1 ≡ jump shapes p
+  pub jump_simple : slice_get shapes p ≡ Some Straight → p + 1 ≡ jump shapes p
   jump_simple is = rw is refl
 
   pub jump_close : slice_get shapes p ≡ Some Close → p + 1 ≡ jump shapes p
@@ -42,20 +42,20 @@ module _ (shapes : List control.Shape) (p : ℕ) where
   pub jump_otherwise : (n : ℕ) → slice_get shapes p ≡ Some Otherwise → n ≡ to_end 0 (drop (p + 1) shapes) → p + 1 + n ≡ jump shapes p
   jump_otherwise n is count = rw (is, count) refl
 
-  pub behind_loop : (q : ℕ) → slice_get shapes p ≡ Some Loop → q ≡ jump shapes p → (p + 1) ∷ q ∷ [] ≡ successors shapes p
-  behind_loop q is leads = ap (λ (w : ℕ). (p + 1) ∷ w ∷ []) leads ∙ two
+  pub after_loop : (q : ℕ) → slice_get shapes p ≡ Some Loop → q ≡ jump shapes p → (p + 1) ∷ q ∷ [] ≡ successors shapes p
+  after_loop q is leads = ap (λ (w : ℕ). (p + 1) ∷ w ∷ []) leads ∙ two
     where
       two : (p + 1) ∷ jump shapes p ∷ [] ≡ successors shapes p
       two = rw (is, is) refl
 
-  pub behind_branch : (q : ℕ) → slice_get shapes p ≡ Some Branch → q ≡ jump shapes p → (p + 1) ∷ q ∷ [] ≡ successors shapes p
-  behind_branch q is leads = ap (λ (w : ℕ). (p + 1) ∷ w ∷ []) leads ∙ two
+  pub after_branch : (q : ℕ) → slice_get shapes p ≡ Some Branch → q ≡ jump shapes p → (p + 1) ∷ q ∷ [] ≡ successors shapes p
+  after_branch q is leads = ap (λ (w : ℕ). (p + 1) ∷ w ∷ []) leads ∙ two
     where
       two : (p + 1) ∷ jump shapes p ∷ [] ≡ successors shapes p
       two = rw (is, is) refl
 
-  pub behind_otherwise : (q : ℕ) → slice_get shapes p ≡ Some Otherwise → q ≡ jump shapes p → q ∷ [] ≡ successors shapes p
-  behind_otherwise q is leads = ap (λ (w : ℕ). w ∷ []) leads ∙ one
+  pub after_otherwise : (q : ℕ) → slice_get shapes p ≡ Some Otherwise → q ≡ jump shapes p → q ∷ [] ≡ successors shapes p
+  after_otherwise q is leads = ap (λ (w : ℕ). w ∷ []) leads ∙ one
     where
       one : jump shapes p ∷ [] ≡ successors shapes p
       one = rw (is, is) refl
@@ -70,12 +70,12 @@ module _ (shapes : List control.Shape) (p : ℕ) where
   back_of_close r (None ∷ blocks) e = cc
   back_of_close r (Some q ∷ blocks) e = cc
 
-  pub behind_branch_end : slice_get shapes p ≡ Some Close → None ≡ innermost (open_at shapes p) → (p + 1) ∷ [] ≡ successors shapes p
-  behind_branch_end is e = rw is (next_of_close (open_at shapes p) e)
+  pub after_branch_end : slice_get shapes p ≡ Some Close → None ≡ innermost (open_at shapes p) → (p + 1) ∷ [] ≡ successors shapes p
+  after_branch_end is e = rw is (next_of_close (open_at shapes p) e)
 
-  pub behind_loop_end : (r : ℕ) → slice_get shapes p ≡ Some Close → Some r ≡ innermost (open_at shapes p) →
+  pub after_loop_end : (r : ℕ) → slice_get shapes p ≡ Some Close → Some r ≡ innermost (open_at shapes p) →
       (r + 1) ∷ (p + 1) ∷ [] ≡ successors shapes p
-  behind_loop_end r is e = rw is (back_of_close r (open_at shapes p) e)
+  after_loop_end r is e = rw is (back_of_close r (open_at shapes p) e)
 
 -- each open `repeat` stands before this place
 abbrev Below : ℕ → List (Option ℕ) → Type 0
@@ -94,7 +94,7 @@ rest_below p (Some r) blocks h = h.1
 
 opened_below : (p : ℕ) (blocks : List (Option ℕ)) (x : Option control.Shape) → Below p blocks → Below (suc p) (opened p blocks x)
 opened_below p blocks None h = below_more p blocks h
-opened_below p blocks (Some Simple) h = below_more p blocks h
+opened_below p blocks (Some Straight) h = below_more p blocks h
 opened_below p blocks (Some Loop) h = (omega arith, below_more p blocks h)
 opened_below p blocks (Some Branch) h = below_more p blocks h
 opened_below p blocks (Some Otherwise) h = below_more p blocks h
@@ -135,9 +135,9 @@ all_places found shapes size below p =
     rw (none, nowhere) refl)
     (slice_get_cases shapes p).1
 
-pub all_behind : (found : List Successors) (shapes : List control.Shape) → length found ≡ length shapes →
+pub all_after : (found : List Successors) (shapes : List control.Shape) → length found ≡ length shapes →
     ((k : ℕ) → k < length shapes → places_at found k ≡ successors shapes k) → AreSuccessors shapes found
-all_behind found shapes size below = record { size = size; told = λ p. all_places found shapes size below p }
+all_after found shapes size below = record { size = size; reported = λ p. all_places found shapes size below p }
 
 -- the open blocks after one more place
 pub open_more : (xs : List Shape) (p : ℕ) (d : Shape) (old new : List (Option ℕ)) → p < length xs → old ≡ open_at (map shape_view xs) p →
@@ -146,7 +146,7 @@ open_more xs p d old new lt is e =
     let there : slice_get (map shape_view xs) p ≡ Some (shape_view (get_or xs p d)) = shape_there xs p (get_or xs p d) d lt refl in
     rw (add-one, there, ← is) e
 
-pub told_more : (found new : List Successors) (b : Successors) (f : ℕ → List ℕ) (p : ℕ) → length found ≡ p → new ≡ found ++ b ∷ [] →
+pub reported_more : (found new : List Successors) (b : Successors) (f : ℕ → List ℕ) (p : ℕ) → length found ≡ p → new ≡ found ++ b ∷ [] →
     ((k : ℕ) → k < p → places_at found k ≡ f k) → places b ≡ f p → (k : ℕ) → k < p + 1 → places_at new k ≡ f k
-told_more found new b f p size is below here k lt = rw is (pushed found b f (λ n h. below n (omega arith)) (here ∙ ap f (sym size)) k
+reported_more found new b f p size is below here k lt = rw is (pushed found b f (λ n h. below n (omega arith)) (here ∙ ap f (sym size)) k
     (omega arith))

@@ -9,7 +9,7 @@ use Rattle.std.proofs.lemmas.Option.{slice_get-map, slice_get_within}
 use Rattle.std.proofs.lemmas.Slice.Eq.{bytes_eq-Decides}
 use Rattle.cord_syntax.specs.declared.statements.Statement.{Statement}
 use Rattle.cord_syntax.specs.declared.statements.Statement.TheVariants.{Chars, Nul, Cat, Catn, Catc, Substr, Put, Repeat, If, Else, End}
-use Rattle.cord_meaning.specs.Blocks.{Shape, Simple, Loop, Branch, Otherwise, Close}
+use Rattle.cord_meaning.specs.Blocks.{Shape, Straight, Loop, Branch, Otherwise, Close}
 use Rattle.cord_meaning.specs.Paths.{NextOf, Next}
 use Rattle.cord_meaning.specs.State.{State, with_value}
 use Rattle.cord_meaning.specs.Statements.{shape_of}
@@ -17,11 +17,11 @@ use Rattle.cord_meaning.specs.inner.Simulation.{IsControl}
 use Rattle.cord_core.proofs.Places.{at_here, some_here}
 use Rattle.cord_plan.specs.Exprs.{Expr, name, names}
 use Rattle.cord_plan.specs.Operands.{target_of, is_name, assigns, assigns_at, reads_at}
-use Rattle.cord_plan.specs.Unread.{ReadBy, Unread}
-use Rattle.cord_plan.specs.Forced.{is_block, is_block_at, preserves}
+use Rattle.cord_plan.specs.Liveness.{ReadBy, NotLive}
+use Rattle.cord_plan.specs.Inlined.{is_block, is_block_at, preserves}
 use Rattle.cord_plan.specs.Values.{text_in}
 use Rattle.cord_plan.specs.Meaning.{Held, Text, Long, Holding, held_length, gets, cords}
-use Rattle.cord_plan.specs.Conditions.{Decisions, is_simple, is_simple_at, makes_cord, assigns_other_at, stands, stands_by, IsForced}
+use Rattle.cord_plan.specs.Conditions.{Decisions, is_simple, is_simple_at, makes_cord, assigns_other_at, stands, stands_by, IsInlined}
 use Rattle.cord_plan.specs.Conditions.{MeetsConditions}
 use Rattle.cord_plan.proofs.Evaluation.{In, value_same, cords_named}
 use Rattle.cord_plan.proofs.BlockLines.{is_block_or_none, IsByBlock, next_by_block}
@@ -65,7 +65,7 @@ kept_name o (x ∷ xs) e y i = pick (λ g j. kept_name o xs g y j) (assigns_at o
     pick rest false f g (inl same) = ap (λ (w : List ℕ). assigns_at o w) same ∙ f
     pick rest false f g (inr i) = rest g i
 
-simple_shape : (l : Statement) → is_simple l ≡ true → shape_of l ≡ Simple
+simple_shape : (l : Statement) → is_simple l ≡ true → shape_of l ≡ Straight
 simple_shape (Chars line target byte count) e = refl
 simple_shape (Nul line target count) e = refl
 simple_shape (Cat line target left right) e = refl
@@ -90,7 +90,7 @@ module _ (s : List Statement) (d : Decisions) (ok : MeetsConditions s d) (limit 
   abbrev UnreadFrom : List ℕ → ℕ → Type 0
   UnreadFrom x p = (path : List ℕ) → ReadBy s x p path → ⊥
 
-  -- the run is between the two lines of a forced pair, and the second is not yet run
+  -- the run is between the two lines of an inlined pair, and the second is not yet run
   pub record InFlight (p a b : ℕ) (x : List ℕ) : Type 0 where
     pub before : a < p
     pub until : p ≤ b
@@ -128,10 +128,10 @@ module _ (s : List Statement) (d : Decisions) (ok : MeetsConditions s d) (limit 
       pick (Some l) f = let same : Some (shape_of l) ≡ Some x = sym (shape_at p (Some l) f) ∙ e in let shape : shape_of l ≡ x =
           cc in (l, f, shape)
 
-  simple_line : (p : ℕ) → is_simple_at (slice_get s p) ≡ true → (l : Statement) × (slice_get s p ≡ Some l) × (shape_of l ≡ Simple)
+  simple_line : (p : ℕ) → is_simple_at (slice_get s p) ≡ true → (l : Statement) × (slice_get s p ≡ Some l) × (shape_of l ≡ Straight)
   simple_line p e = pick (slice_get s p) refl
     where
-      pick : (o : Option Statement) → slice_get s p ≡ o → (l : Statement) × (slice_get s p ≡ Some l) × (shape_of l ≡ Simple)
+      pick : (o : Option Statement) → slice_get s p ≡ o → (l : Statement) × (slice_get s p ≡ Some l) × (shape_of l ≡ Straight)
       pick None f = let bad : ⊥ = cc in absurd bad
       pick (Some l) f = (l, f, simple_shape l (ap is_simple_at (sym f) ∙ e))
 
@@ -143,7 +143,7 @@ module _ (s : List Statement) (d : Decisions) (ok : MeetsConditions s d) (limit 
       not_both (is_block_or_none (slice_get shapes m)) b open_here
 
   -- nor is one between the lines of a pair
-  between_not_block : (a b m : ℕ) (x : List ℕ) → IsForced s d a b x → a < m → m < b → is_block_or_none (slice_get shapes m) ≡ true → ⊥
+  between_not_block : (a b m : ℕ) (x : List ℕ) → IsInlined s d a b x → a < m → m < b → is_block_or_none (slice_get shapes m) ≡ true → ⊥
   between_not_block a b m x fd low high bar =
       let last = simple_line b fd.second in
       let within : b < length s = slice_get_within s b last.0 last.1 in
@@ -156,18 +156,18 @@ module _ (s : List Statement) (d : Decisions) (ok : MeetsConditions s d) (limit 
   -- a pair is not under way at a place that control enters otherwise than from the line before
   pub by_block_out : (q a b : ℕ) (x : List ℕ) → IsByBlock shapes q → InFlight q a b x → ⊥
   by_block_out q a b x (inl bar) fl =
-      let fd : IsForced s d a b x = ok.forced a b x fl.from in
+      let fd : IsInlined s d a b x = ok.inlined a b x fl.from in
       ⊎_elim (λ (e : q ≡ b). simple_not_block q (subst (λ (n : ℕ). is_simple_at (slice_get s n) ≡ true) (sym e) fd.second) bar)
       (λ (lt : q < b). between_not_block a b q x fd fl.before lt bar) (eq-or-lt_of_le fl.until)
   by_block_out q a b x (inr w) fl =
-      let fd : IsForced s d a b x = ok.forced a b x fl.from in
+      let fd : IsInlined s d a b x = ok.inlined a b x fl.from in
       let low : a ≤ w.0 = omega (arith, fl.before, w.1) in
       let high : w.0 < b = omega (arith, fl.until, w.1) in
       ⊎_elim (λ (e : a ≡ w.0). simple_not_block w.0 (subst (λ (n : ℕ). is_simple_at (slice_get s n) ≡ true) e fd.first) w.2)
       (λ (lt : a < w.0). between_not_block a b w.0 x fd lt high w.2) (eq-or-lt_of_le low)
 
   plain_next : (sh : Shape) (p q : ℕ) → is_block sh ≡ false → NextOf shapes p (Some sh) q → q ≡ p + 1
-  plain_next Simple p q e n = n
+  plain_next Straight p q e n = n
   plain_next Loop p q e n = let bad : ⊥ = cc in absurd bad
   plain_next Branch p q e n = let bad : ⊥ = cc in absurd bad
   plain_next Otherwise p q e n = let bad : ⊥ = cc in absurd bad
@@ -187,12 +187,12 @@ module _ (s : List Statement) (d : Decisions) (ok : MeetsConditions s d) (limit 
 
   flight_on : (x : List ℕ) (p q a b : ℕ) → assigns_at (slice_get s p) x ≡ false → Next shapes p q → InFlight p a b x → Spare x q
   flight_on x p q a b unset n fl =
-      let fd : IsForced s d a b x = ok.forced a b x fl.from in
+      let fd : IsInlined s d a b x = ok.inlined a b x fl.from in
       ⊎_elim {C = Spare x q}
       (λ (e : p ≡ b). ⊎_elim {C = Spare x q}
       (λ (t : assigns_at (slice_get s b) x ≡ true).
       absurd (not_both (assigns_at (slice_get s b) x) t (subst (λ (m : ℕ). assigns_at (slice_get s m) x ≡ false) e unset)))
-      (λ (u : Unread s x b). inl (subst (λ (m : ℕ). Unread s x m) (sym e) u q n)) fd.later)
+      (λ (u : NotLive s x b). inl (subst (λ (m : ℕ). NotLive s x m) (sym e) u q n)) fd.later)
       (λ (lt : p < b).
       let at : q ≡ p + 1 = next_plain p q (fd.straight p fl.before lt) n in
       inr (a, b, record { before = omega (arith, fl.before); until = omega arith; from = fl.from }))
@@ -217,7 +217,7 @@ module _ (s : List Statement) (d : Decisions) (ok : MeetsConditions s d) (limit 
       }
 
   -- ---- a line that gives a text to a name
-  module _ (p : ℕ) (l : Statement) (here : slice_get s p ≡ Some l) (plain : shape_of l ≡ Simple) (f : State) (h : Holding)
+  module _ (p : ℕ) (l : Statement) (here : slice_get s p ≡ Some l) (plain : shape_of l ≡ Straight) (f : State) (h : Holding)
       (inv : Inv p f h) where
     next_here : Next shapes p (p + 1)
     next_here = subst (λ (o : Option Shape). NextOf shapes p o (p + 1)) (sym (shape_at p (Some l) here ∙ ap (λ (x : Shape). Some x) plain))
@@ -253,7 +253,7 @@ module _ (s : List Statement) (d : Decisions) (ok : MeetsConditions s d) (limit 
         begun : (b : ℕ) (x : List ℕ) → d.source b x ≡ Some p → Ready (d.exprs p) f_set h_set ×
             (text_in limit f_set (d.exprs p) ≡ Ok (f_set.texts x))
         begun b x from =
-            let fd : IsForced s d p b x = ok.forced p b x from in
+            let fd : IsInlined s d p b x = ok.inlined p b x from in
             let got = knows fd.first in
             let low : p ≤ p = omega arith in
             let fixed : preserves (slice_get s p) (names (d.exprs p)) ≡ true = fd.fixed p low fd.before in (
@@ -267,7 +267,7 @@ module _ (s : List Statement) (d : Decisions) (ok : MeetsConditions s d) (limit 
         pair_on a b x fl (inl e) = subst (λ (m : ℕ). Ready (d.exprs m) f_set h_set ×
             (text_in limit f_set (d.exprs m) ≡ Ok (f_set.texts x))) (sym e) (begun b x (subst (λ (m : ℕ). d.source b x ≡ Some m) e fl.from))
         pair_on a b x fl (inr lt) =
-            let fd : IsForced s d a b x = ok.forced a b x fl.from in
+            let fd : IsInlined s d a b x = ok.inlined a b x fl.from in
             let on : p < b = omega (arith, fl.until) in
             let low : a ≤ p = omega arith in
             let until : p ≤ b = omega arith in
@@ -279,12 +279,12 @@ module _ (s : List Statement) (d : Decisions) (ok : MeetsConditions s d) (limit 
             )
 
         abbrev Excused : Type 0
-        Excused = Unread s z p ⊎ ((b : ℕ) × (d.source b z ≡ Some p))
+        Excused = NotLive s z p ⊎ ((b : ℕ) × (d.source b z ≡ Some p))
 
         excused_on : Excused → Spare z (p + 1)
         excused_on (inl u) = inl (u (p + 1) next_here)
         excused_on (inr w) =
-            let ahead : p < w.0 = (ok.forced p w.0 z w.1).before in
+            let ahead : p < w.0 = (ok.inlined p w.0 z w.1).before in
             inr (p, w.0, record { before = omega arith; until = omega arith; from = w.1 })
 
         held_set : HeldAs Excused k v → (x : List ℕ) (w : Bool) → bytes_eq x z ≡ w →
@@ -324,10 +324,10 @@ module _ (s : List Statement) (d : Decisions) (ok : MeetsConditions s d) (limit 
       on_pair : (a b : ℕ) (x : List ℕ) → InFlight (p + 1) a b x → (a ≡ p) ⊎ (a < p) → Ready (d.exprs a) u h_on ×
           (text_in limit u (d.exprs a) ≡ Ok (u.texts x))
       on_pair a b x fl (inl e) =
-          let fd : IsForced s d p b x = ok.forced p b x (subst (λ (m : ℕ). d.source b x ≡ Some m) e fl.from) in
+          let fd : IsInlined s d p b x = ok.inlined p b x (subst (λ (m : ℕ). d.source b x ≡ Some m) e fl.from) in
           absurd (bare x (ap is_simple_at (sym here) ∙ fd.first) (ap (λ (o : Option Statement). assigns_at o x) (sym here) ∙ fd.sets))
       on_pair a b x fl (inr lt) =
-          let fd : IsForced s d a b x = ok.forced a b x fl.from in
+          let fd : IsInlined s d a b x = ok.inlined a b x fl.from in
           let on : p < b = omega (arith, fl.until) in
           let low : a ≤ p = omega arith in
           let until : p ≤ b = omega arith in
@@ -360,9 +360,9 @@ module _ (s : List Statement) (d : Decisions) (ok : MeetsConditions s d) (limit 
     text_there x r none (Long n) e (l, inl u) = absurd (u [] r)
     text_there x r none (Long n) e (l, inr w) =
         let fl : InFlight p w.0 w.1 x = w.2 in
-        let fd : IsForced s d w.0 w.1 x = ok.forced w.0 w.1 x fl.from in
+        let fd : IsInlined s d w.0 w.1 x = ok.inlined w.0 w.1 x fl.from in
         absurd (⊎_elim (λ (q : p ≡ w.1). none_or_some w.0 (d.source p x) none (subst (λ (c : ℕ). d.source c x ≡ Some w.0) (sym q) fl.from))
-        (λ (lt : p < w.1). not_both (reads_at (slice_get s p) x) r (fd.unread p fl.before lt)) (eq-or-lt_of_le fl.until))
+        (λ (lt : p < w.1). not_both (reads_at (slice_get s p) x) r (fd.not_live p fl.before lt)) (eq-or-lt_of_le fl.until))
 
     -- what stands for an operand can be built, and its value is the operand's text
     pub operand : (x : List ℕ) → reads_at (slice_get s p) x ≡ true → Ready (stands d p x) f h ×
@@ -379,7 +379,7 @@ module _ (s : List Statement) (d : Decisions) (ok : MeetsConditions s d) (limit 
             named y (inr i) = absurd i
         pick (Some a) e =
             let low : p ≤ p = omega arith in
-            inv.flight a p x (record { before = (ok.forced a p x e).before; until = low; from = e })
+            inv.flight a p x (record { before = (ok.inlined a p x e).before; until = low; from = e })
 
     -- in a line that isn't simple each operand is there as a text
     pub operand_text : is_simple_at (slice_get s p) ≡ false → (x : List ℕ) → reads_at (slice_get s p) x ≡ true → h.held x ≡ Text (f.texts x)
@@ -387,4 +387,4 @@ module _ (s : List Statement) (d : Decisions) (ok : MeetsConditions s d) (limit 
       where
         pick : (o : Option ℕ) → d.source p x ≡ o → d.source p x ≡ None
         pick None e = e
-        pick (Some a) e = absurd (not_both (is_simple_at (slice_get s p)) (ok.forced a p x e).second bare)
+        pick (Some a) e = absurd (not_both (is_simple_at (slice_get s p)) (ok.inlined a p x e).second bare)

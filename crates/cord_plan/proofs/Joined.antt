@@ -2,27 +2,27 @@
 use Rattle.std.proofs.Common.{◌≡◌, ℕ, ◌+◌, ◌<◌, List, [], ◌∷◌, ◌++◌, map, take, length, get_or, refl, sym, ap, ◌∙◌}
 use Rattle.std.proofs.lemmas.List.{map-append, take_more}
 use Rattle.cord_operands.specs.declared.operands.Number.{Number}
-use Rattle.cord_plan.specs.Exprs.{Expr, Exprs, name, run, cat, sub, nothing, member, append, in_front, members}
-use Rattle.cord_plan.specs.declared.planner.choosing.Choice.{Choice}
-use Rattle.cord_plan.specs.Forced as plain
-use Rattle.cord_plan.specs.Forced.{expr_of}
+use Rattle.cord_plan.specs.Exprs.{Expr, Exprs, name, run, cat, sub, nothing, member, append, preceding, members}
+use Rattle.cord_plan.specs.declared.planner.operand_choices.Choice.{Choice}
+use Rattle.cord_plan.specs.Inlined as plain
+use Rattle.cord_plan.specs.Inlined.{expr_of}
 use Rattle.cord_plan.specs.inner.Choices.{choice_view}
 use Rattle.cord_plan.proofs.Appending.{append_nothing, append_thrice}
 
-front_append : (e : Expr) (a b : Exprs) → in_front e (append a b) ≡ append (in_front e a) b
-front_append (name x) a b = refl
-front_append (run c n) a b = refl
-front_append (cat es) a b = sym (append_thrice es a b)
-front_append (sub e i n) a b = refl
+prefix_append : (e : Expr) (a b : Exprs) → preceding e (append a b) ≡ append (preceding e a) b
+prefix_append (name x) a b = refl
+prefix_append (run c n) a b = refl
+prefix_append (cat es) a b = sym (append_thrice es a b)
+prefix_append (sub e i n) a b = refl
 
 -- one expression more
-pub members_more : (es : List Expr) (e : Expr) → members (es ++ e ∷ []) ≡ append (members es) (in_front e nothing)
+pub members_more : (es : List Expr) (e : Expr) → members (es ++ e ∷ []) ≡ append (members es) (preceding e nothing)
 members_more [] e = refl
-members_more (d ∷ es) e = ap (λ (ms : Exprs). in_front d ms) (members_more es e) ∙ front_append d (members es) (in_front e nothing)
+members_more (d ∷ es) e = ap (λ (ms : Exprs). preceding d ms) (members_more es e) ∙ prefix_append d (members es) (preceding e nothing)
 
 -- the members that choices give, with one choice more
 pub more_joined : (cs : List Choice) (i : ℕ) (c : Choice) → i < length cs → c ≡ get_or cs i c →
-    append (members (map (λ d. expr_of d) (map choice_view (take i cs)))) (in_front (expr_of (choice_view c)) nothing)
+    append (members (map (λ d. expr_of d) (map choice_view (take i cs)))) (preceding (expr_of (choice_view c)) nothing)
     ≡ members (map (λ d. expr_of d) (map choice_view (take (i + 1) cs)))
 more_joined cs i c lt is = sym (
     ap (λ (xs : List Choice). members (map (λ d. expr_of d) (map choice_view xs)))
@@ -32,15 +32,15 @@ more_joined cs i c lt is = sym (
     ∙ members_more (map (λ d. expr_of d) (map choice_view (take i cs))) (expr_of (choice_view c)))))
 
 -- a member more, which is no `cat`
-pub added_one : (old : Exprs) (copy v w : Expr) → copy ≡ v → v ≡ w → in_front w nothing ≡ member w nothing →
-    append old (member copy nothing) ≡ append old (in_front v nothing)
-added_one old copy v w made same front = ap (λ (ms : Exprs). append old ms)
-    (ap (λ (e : Expr). member e nothing) (made ∙ same) ∙ (sym front ∙ ap (λ (e : Expr). in_front e nothing) (sym same)))
+pub added_one : (old : Exprs) (copy v w : Expr) → copy ≡ v → v ≡ w → preceding w nothing ≡ member w nothing →
+    append old (member copy nothing) ≡ append old (preceding v nothing)
+added_one old copy v w made same prefix = ap (λ (ms : Exprs). append old ms)
+    (ap (λ (e : Expr). member e nothing) (made ∙ same) ∙ (sym prefix ∙ ap (λ (e : Expr). preceding e nothing) (sym same)))
 
 -- members more, for a `cat`
-pub added_all : (old inner : Exprs) (v : Expr) → v ≡ cat inner → append old inner ≡ append old (in_front v nothing)
+pub added_all : (old inner : Exprs) (v : Expr) → v ≡ cat inner → append old inner ≡ append old (preceding v nothing)
 added_all old inner v same = ap (λ (ms : Exprs). append old ms)
-    (sym (append_nothing inner) ∙ ap (λ (e : Expr). in_front e nothing) (sym same))
+    (sym (append_nothing inner) ∙ ap (λ (e : Expr). preceding e nothing) (sym same))
 
 -- a `cat` of expressions and a run after them
 pub joined_more : (es : List Expr) (old new : Exprs) (last : Expr) (c n : Number) → old ≡ members es →
@@ -53,5 +53,5 @@ joined_more es old new last c n made added is = ap cat (
 
 -- a name more
 pub added_name : (old : Exprs) (copy v : Expr) (x : List ℕ) → copy ≡ name x → v ≡ name x →
-    append old (member copy nothing) ≡ append old (in_front v nothing)
+    append old (member copy nothing) ≡ append old (preceding v nothing)
 added_name old copy v x made same = added_one old copy v (name x) (made ∙ sym same) same refl

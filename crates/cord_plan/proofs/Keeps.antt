@@ -1,7 +1,7 @@
 -- A statement that makes no cord does the same where other texts stand for the names that it doesn't read.
 use Rattle.std.proofs.Common.{◌≡◌, ℕ, ◌++◌, ℤ, Bool, true, false, List, [], ◌∷◌, Result, Ok, Err, refl, ap, ◌∙◌}
 use Rattle.std.specs.Prelude.{if◌then◌else◌, ◌+ℤ◌, ◌-ℤ◌, take, drop, length}
-use Rattle.cord_io.specs.Device.{Folder}
+use Rattle.cord_io.specs.Device.{FileSystem}
 use Rattle.cord_operands.specs.declared.operands.Number.{Number}
 use Rattle.cord_operands.specs.declared.operands.Number.TheVariants.{Numeral, Named}
 use Rattle.cord_syntax.specs.declared.statements.Statement.{Statement}
@@ -78,7 +78,7 @@ module _ (t : List ℕ → List ℕ) where
     has_same : (target : List ℕ) (z w : ℤ) → z ≡ w → has_number (over s) target z ≡ with_texts (has_number s target w)
     has_same target z w e = ap (λ (v : ℤ). has_number (over s) target v) e
 
-    module _ (limit : ℕ) (files : Folder) where
+    module _ (limit : ℕ) (files : FileSystem) where
       extensible_set : (name : List ℕ) (u v : List ℕ) → u ≡ v →
           sets_extensible limit (over s) name u ≡ with_texts (sets_extensible limit s name v)
       extensible_set name u v e = ap (λ (w : List ℕ). sets_extensible limit (over s) name w) e

@@ -7,18 +7,18 @@ use Rattle.std.specs.Int.RustNames.{bit_or}
 use Rattle.std.proofs.Math.Bool.{or-false}
 use Rattle.cord_syntax.specs.declared.statements.Statement.{Statement}
 use Rattle.cord_syntax.specs.declared.statements.Statement.TheVariants.{Chars, Nul, Cat, Catn, Catc, Substr, Put}
-use Rattle.cord_plan.specs.Exprs.{Expr, Exprs, name, run, cat, sub, nothing, in_front, members}
+use Rattle.cord_plan.specs.Exprs.{Expr, Exprs, name, run, cat, sub, nothing, preceding, members}
 use Rattle.cord_plan.specs.Exprs.{names, names_of, parts}
 use Rattle.cord_plan.specs.Operands.{has}
-use Rattle.cord_plan.specs.Forced as plain
+use Rattle.cord_plan.specs.Inlined as plain
 use Rattle.cord_plan.specs.inner.Choices.{Has, IsChoice, expression_in, simple_operands}
-use Rattle.cord_plan.specs.inner.Known.{HasFacts, IsFacts, IsFrom, IsKnown}
-use Rattle.cord_plan.specs.inner.Marks.{IsBit, Marks, bit}
+use Rattle.cord_plan.specs.inner.ExpressionFacts.{HasFacts, IsFacts, IsFrom, IsKnown}
+use Rattle.cord_plan.specs.inner.NameSets.{IsBit, Marks, bit}
 use Rattle.cord_plan.specs.inner.Numbering.{number_of}
 use Rattle.cord_plan.specs.Exprs.{lacks}
 use Rattle.cord_plan.specs.declared.flow.numbering.Numbering.{Numbering}
-use Rattle.cord_plan.specs.declared.planner.known.Facts.{Facts}
-use Rattle.cord_plan.specs.declared.planner.known.Known.{Known}
+use Rattle.cord_plan.specs.declared.planner.expression_facts.Facts.{Facts}
+use Rattle.cord_plan.specs.declared.planner.expression_facts.Known.{Known}
 use Rattle.cord_plan.proofs.Appending.{names_append}
 use Rattle.cord_plan.proofs.MarkedNames.{has_both, marks_or, marks_same}
 use Rattle.cord_plan.proofs.Named.{no_true, own_bytes, same_bytes}
@@ -45,16 +45,16 @@ lacks_rest (y ∷ ys) x =
     pick true more = refl
     pick false more = more
 
-has_front : (e : Expr) (es : Exprs) (x : List ℕ) → has (names_of (in_front e es)) x ≡ (has (names e) x || has (names_of es) x)
-has_front (name y) es x = has_both (names (name y)) (names_of es) x
-has_front (run c n) es x = has_both (names (run c n)) (names_of es) x
-has_front (cat ds) es x = ap (λ (ys : List (List ℕ)). has ys x) (names_append ds es) ∙ has_both (names_of ds) (names_of es) x
-has_front (sub e i n) es x = has_both (names (sub e i n)) (names_of es) x
+has_prefix : (e : Expr) (es : Exprs) (x : List ℕ) → has (names_of (preceding e es)) x ≡ (has (names e) x || has (names_of es) x)
+has_prefix (name y) es x = has_both (names (name y)) (names_of es) x
+has_prefix (run c n) es x = has_both (names (run c n)) (names_of es) x
+has_prefix (cat ds) es x = ap (λ (ys : List (List ℕ)). has ys x) (names_append ds es) ∙ has_both (names_of ds) (names_of es) x
+has_prefix (sub e i n) es x = has_both (names (sub e i n)) (names_of es) x
 
 has_two : (d e : Expr) (x : List ℕ) → has (names (cat (members (d ∷ e ∷ [])))) x ≡ (has (names d) x || has (names e) x)
 has_two d e x =
-    has_front d (members (e ∷ [])) x
-    ∙ ap (λ (v : Bool). has (names d) x || v) (has_front e nothing x ∙ or-false (has (names e) x))
+    has_prefix d (members (e ∷ [])) x
+    ∙ ap (λ (v : Bool). has (names d) x || v) (has_prefix e nothing x ∙ or-false (has (names e) x))
 
 module _ (t : Numbering) where
   pub marks_both : (g : ℕ) (d e : Expr) (v w : ℕ) → Marks t g (λ x. has (names d) x) v → Marks t g (λ x. has (names e) x) w →
@@ -63,9 +63,9 @@ module _ (t : Numbering) where
       (bit_or v w) (λ x. has_two d e x) (marks_or t g (λ x. has (names d) x) (λ x. has (names e) x) v w one two)
 
   -- what a word tells of a name by its number
-  pub told_lacks : (g : ℕ) (e : Expr) (w n k : ℕ) (x : List ℕ) → Marks t g (λ y. has (names e) y) w → number_of t x ≡ Some n →
+  pub reported_lacks : (g : ℕ) (e : Expr) (w n k : ℕ) (x : List ℕ) → Marks t g (λ y. has (names e) y) w → number_of t x ≡ Some n →
       128 * g + k ≡ n → k < 128 → not (bit w k) ≡ lacks (names e) x
-  told_lacks g e w n k x marks is place within =
+  reported_lacks g e w n k x marks is place within =
       let mine : IsBit t g x k = record { within = within; number = is ∙ ap Some (sym place) } in
       ap not (marks x k mine) ∙ sym (lacks_rest (names e) x)
 

@@ -5,7 +5,7 @@ use Rattle.std.specs.Prelude.{not}
 use Rattle.std.specs.Str.{bytes_eq}
 use Rattle.cord_syntax.specs.declared.statements.Statement.{Statement}
 use Rattle.cord_plan.specs.Operands.{is_name, target_of}
-use Rattle.cord_plan.specs.Forced.{preserves}
+use Rattle.cord_plan.specs.Inlined.{preserves}
 use Rattle.cord_plan.specs.Exprs.{lacks}
 
 module _ (l : Statement) where

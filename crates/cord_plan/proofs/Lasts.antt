@@ -12,7 +12,7 @@ use Rattle.cord_plan.specs.Views.{Shared, members_of, shared_view}
 use Rattle.cord_meaning.specs.Statements.{shape_of}
 use Rattle.cord_plan.specs.Operands.{assigns, assigns_at, reads, reads_at}
 use Rattle.cord_plan.specs.declared.flow.numbering.Numbering.{Numbering}
-use Rattle.cord_plan.specs.Forced.{each_from, is_block, is_block_at, preserves, setter}
+use Rattle.cord_plan.specs.Inlined.{each_from, is_block, is_block_at, preserves, setter}
 use Rattle.cord_plan.specs.inner.Choices.{nearest}
 use Rattle.cord_plan.specs.inner.Recent.{Notes, entry_of, reader, blocker, is_before, is_after, stay, unless_after}
 use Rattle.cord_plan.proofs.Appending.{names_append}
@@ -21,11 +21,11 @@ use Rattle.cord_plan.proofs.Nearest.{each_more}
 use Rattle.cord_plan.proofs.PartSums.{preserves_append}
 use Rattle.cord_plan.proofs.Recents.{last_then}
 
-not_behind : (p a : ℕ) → p ≤ a → is_after (Some p) a ≡ false
-not_behind p a le = ap not (le-leb p a le)
+not_after : (p a : ℕ) → p ≤ a → is_after (Some p) a ≡ false
+not_after p a le = ap not (le-leb p a le)
 
-behind : (p a : ℕ) → a < p → is_after (Some p) a ≡ true
-behind p a lt = elim (leb_tells p a) [
+suffix : (p a : ℕ) → a < p → is_after (Some p) a ≡ true
+suffix p a lt = elim (leb_tells p a) [
   | inl w ↦ absurd (omega (arith, lt, w.1))
   | inr w ↦ ap not w.0
 ]
@@ -48,9 +48,9 @@ module _ (s : List Statement) (x : List ℕ) where
       pick false h before = let below : q < b = before h in omega arith
 
   -- nothing before b stands after it
-  none_behind : (o : Option ℕ) (b : ℕ) → ((q : ℕ) → o ≡ Some q → q < b) → is_after o b ≡ false
-  none_behind None b below = refl
-  none_behind (Some q) b below = let lt : q < b = below q refl in not_behind q b (omega arith)
+  none_after : (o : Option ℕ) (b : ℕ) → ((q : ℕ) → o ≡ Some q → q < b) → is_after o b ≡ false
+  none_after None b below = refl
+  none_after (Some q) b below = let lt : q < b = below q refl in not_after q b (omega arith)
 
   -- the nearest line by the last ones
   pub nearest_by_last : (b : ℕ) → nearest s x b ≡ unless_after (setter s x b) (reader s x b) (blocker s b)
@@ -73,13 +73,13 @@ module _ (s : List Statement) (x : List ℕ) where
       by_assigns true k r ih = sym (ap (λ (v : Bool). if v then None else Some b) (free k r))
         where
           here : is_after (Some b) b ≡ false
-          here = not_behind b b (omega arith)
+          here = not_after b b (omega arith)
 
           read : is_after (reader s x b) b ≡ false
-          read = none_behind (reader s x b) b (reader_before b)
+          read = none_after (reader s x b) b (reader_before b)
 
           block : is_after (blocker s b) b ≡ false
-          block = none_behind (blocker s b) b (blocker_before b)
+          block = none_after (blocker s b) b (blocker_before b)
 
           free : (k r : Bool) → (is_after (if r then Some b else reader s x b) b || is_after (if k then Some b else blocker s b) b)
               ≡ false
@@ -88,9 +88,9 @@ module _ (s : List Statement) (x : List ℕ) where
           free false true = rw (here, block) refl
           free false false = rw (read, block) refl
       by_assigns false true r ih = shut (setter s x b) (λ a e. (setter_is s x b a e).before) (if r then Some b else reader s x b) (Some b)
-          (λ a lt. or_true (is_after (if r then Some b else reader s x b) a) (is_after (Some b) a) (behind b a lt))
+          (λ a lt. or_true (is_after (if r then Some b else reader s x b) a) (is_after (Some b) a) (suffix b a lt))
       by_assigns false false true ih = shut (setter s x b) (λ a e. (setter_is s x b a e).before) (Some b) (blocker s b)
-          (λ a lt. ap (λ (v : Bool). v || is_after (blocker s b) a) (behind b a lt))
+          (λ a lt. ap (λ (v : Bool). v || is_after (blocker s b) a) (suffix b a lt))
       by_assigns false false false ih = ih
 
   -- a name stays where no line assigned it since
@@ -178,11 +178,11 @@ module _ (s : List Statement) (a b : ℕ) where
       ∙ stay_append (names (shared_view m)) (names_of (members_of (map shared_view (drop (k + 1) ms)))))
 
   -- what stays of members, by those in front
-  pub stay_both : (all front rest : Exprs) → all ≡ append front rest →
-      stay s a b (names_of all) ≡ (stay s a b (names_of front) && stay s a b (names_of rest))
-  stay_both all front rest e =
+  pub stay_both : (all prefix rest : Exprs) → all ≡ append prefix rest →
+      stay s a b (names_of all) ≡ (stay s a b (names_of prefix) && stay s a b (names_of rest))
+  stay_both all prefix rest e =
       ap (λ (es : Exprs). stay s a b (names_of es)) e
-      ∙ (ap (λ (xs : List (List ℕ)). stay s a b xs) (names_append front rest) ∙ stay_append (names_of front) (names_of rest))
+      ∙ (ap (λ (xs : List (List ℕ)). stay s a b xs) (names_append prefix rest) ∙ stay_append (names_of prefix) (names_of rest))
 
 -- a line more
 module _ (s : List Statement) (t : Numbering) (b : ℕ) (l : Statement) (here : slice_get s b ≡ Some l) where

@@ -13,7 +13,7 @@ use Rattle.cord_syntax.specs.declared.statements.Statement.TheVariants.{Let, Fil
 use Rattle.cord_syntax.specs.declared.statements.Statement.TheVariants.{Balance, EcToCord, Sprintf, Put}
 use Rattle.cord_plan.specs.Exprs.{Expr}
 use Rattle.cord_plan.specs.Operands.{read_by, target_of}
-use Rattle.cord_plan.specs.Forced.{Table, Choice, named, replaced, own, choices, operands_chosen, grown, exprs}
+use Rattle.cord_plan.specs.Inlined.{Table, Choice, named, replaced, defining, choices, operands_chosen, grown, exprs}
 use Rattle.cord_plan.specs.inner.Choices.{simple_operands}
 use Rattle.cord_plan.specs.inner.Steps.{made_expression, operation_expression, measured, source_of, is_source, some_source, measured_from}
 use Rattle.cord_plan.specs.inner.Steps.{IsStep, IsBegun}
@@ -184,8 +184,8 @@ first_then p = or_push (λ t. is_first p t) (λ en. some_from p en.1) refl (λ e
 -- ---- the next line
 -- the expression of the operation that a line's choices make
 by_line : (s : List Statement) (later : List ℕ → ℕ → Bool) (t : Table) (b : ℕ) (l : Statement) (dead v : Bool) →
-    operation_expression (operation l (or_nothing (operands_chosen s later t b l (own l)).0) dead v)
-    ≡ (operands_chosen s later t b l (own l)).0
+    operation_expression (operation l (or_nothing (operands_chosen s later t b l (defining l)).0) dead v)
+    ≡ (operands_chosen s later t b l (defining l)).0
 by_line s later t b (Cat line target left right) dead v = gives_expression (dead || v) line target _
 by_line s later t b (Catn line target many) dead v = gives_expression (dead || v) line target _
 by_line s later t b (Catc line target operand byte) dead v = gives_expression (dead || v) line target _
@@ -215,13 +215,13 @@ module _ (s : List Statement) (later : List ℕ → ℕ → Bool) (b : ℕ) (l :
     marked = sym (nothing_measured 0 os);
   }
     where
-      entry_is : (t : Table) → operands_chosen s later t b l (own l) ≡ (None, [])
+      entry_is : (t : Table) → operands_chosen s later t b l (defining l) ≡ (None, [])
       entry_is t = chosen_simple s later t b l ∙ ap (λ (o : Option (List (List ℕ))). entry_of s later t b l o) none
 
   -- the expression of the line's operation
   entry_expression : (t : Table) (dead v : Bool) →
-      operation_expression (operation l (or_nothing (operands_chosen s later t b l (own l)).0) dead v)
-      ≡ (operands_chosen s later t b l (own l)).0
+      operation_expression (operation l (or_nothing (operands_chosen s later t b l (defining l)).0) dead v)
+      ≡ (operands_chosen s later t b l (defining l)).0
   entry_expression t dead v = by_line s later t b l dead v
 
   -- a line takes expressions of lines before it alone
@@ -235,8 +235,8 @@ module _ (s : List Statement) (later : List ℕ → ℕ → Bool) (b : ℕ) (l :
       let below : a < b = h.0.set.before in
       ap (λ (v : Bool). v || some_from p cs) (ne_eqb a p (λ e. omega (arith, e, below, le))) ∙ takes_before t p le xs cs h.1
 
-  entry_before : (t : Table) (p : ℕ) → b ≤ p → some_from p (operands_chosen s later t b l (own l)).1 ≡ false
-  entry_before t p le = pick (own l)
+  entry_before : (t : Table) (p : ℕ) → b ≤ p → some_from p (operands_chosen s later t b l (defining l)).1 ≡ false
+  entry_before t p le = pick (defining l)
     where
       pick : (o : Option Expr) → some_from p (operands_chosen s later t b l o).1 ≡ false
       pick None = refl
@@ -297,7 +297,7 @@ module _ (s : List Statement) (later : List ℕ → ℕ → Bool) where
       ∙ (ap (λ (es : List (Option Expr)). es ++ operation_expression o ∷ []) kept
       ∙ ap (λ (f : Option Expr). map operation_expression old ++ f ∷ []) last)
     where
-      e_is : e ≡ (operands_chosen s later so_far.table b l (own l)).0
+      e_is : e ≡ (operands_chosen s later so_far.table b l (defining l)).0
       e_is = next.next.expression so_far.table so_far.has
 
       last : operation_expression o ≡ e
@@ -325,7 +325,7 @@ module _ (s : List Statement) (later : List ℕ → ℕ → Bool) where
         ∙ (ap (λ (f : Option Expr). map operation_expression old ++ f ∷ []) (sym e_is)
         ∙ sym (expressions_then b l old new e o (is_dead later b (target_of l)) so_far next made)));
     grows =
-        ap (λ (m : Statement). grown s later (t ++ operands_chosen s later t b m (own m) ∷ []) (b + 1) (drop (b + 1) s)) here
+        ap (λ (m : Statement). grown s later (t ++ operands_chosen s later t b m (defining m) ∷ []) (b + 1) (drop (b + 1) s)) here
         ∙ (sym (at_drop_more (λ (ls : List Statement). grown s later t b ls) s b l within)
         ∙ so_far.grows);
     long = length-append t (en ∷ []) ∙ ap (λ (n : ℕ). n + 1) so_far.long;
@@ -343,7 +343,7 @@ module _ (s : List Statement) (later : List ℕ → ℕ → Bool) where
       t = so_far.table
 
       en : Option Expr × List Choice
-      en = operands_chosen s later t b l (own l)
+      en = operands_chosen s later t b l (defining l)
 
       e_is : e ≡ en.0
       e_is = next.next.expression t so_far.has

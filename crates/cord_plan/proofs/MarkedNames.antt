@@ -11,7 +11,7 @@ use Rattle.std.proofs.lemmas.List.{take_more}
 use Rattle.cord_plan.specs.declared.flow.numbering.Numbering.{Numbering}
 use Rattle.cord_plan.specs.Operands.{has, is_name}
 use Rattle.cord_plan.specs.inner.Numbering.{names_of, number_in, number_of}
-use Rattle.cord_plan.specs.inner.Marks.{bit, IsBit, Marks}
+use Rattle.cord_plan.specs.inner.NameSets.{bit, IsBit, Marks}
 use Rattle.cord_plan.proofs.Named.{same_bytes, own_bytes}
 use Rattle.cord_plan.proofs.Numbers.{number_there}
 use Rattle.cord_plan.proofs.Words.{bit_or_is, bit_zero_is, bit_one_same, bit_one_other}
@@ -73,9 +73,9 @@ has_one y x = or-false (bytes_eq x y)
 pub has_more : (names : List (List ℕ)) (i : ℕ) (y x : List ℕ) → i < length names → y ≡ get_or names i y →
     has (take (i + 1) names) x ≡ (has (take i names) x || bytes_eq x y)
 has_more names i y x lt is =
-    let front : take (i + 1) names ≡ take i names ++ y ∷ [] =
+    let prefix : take (i + 1) names ≡ take i names ++ y ∷ [] =
     take_more names i y lt ∙ ap (λ (z : List ℕ). take i names ++ z ∷ []) (sym is) in
-    rw (front, has_both (take i names) (y ∷ []) x, has_one y x) refl
+    rw (prefix, has_both (take i names) (y ∷ []) x, has_one y x) refl
 
 module _ (t : Numbering) (g : ℕ) where
   -- a name by its number

@@ -3,7 +3,7 @@ use Rattle.std.proofs.Common.{◌≡◌, ◌<◌, ℕ, zero, suc, ◌+◌, List,
 use Rattle.std.proofs.Common.{append_assoc, arith}
 use Rattle.std.specs.Prelude.{if◌then◌else◌}
 use Rattle.cord_plan.specs.Exprs as plain
-use Rattle.cord_plan.specs.Shown.{expr, exprs, more_exprs}
+use Rattle.cord_plan.specs.PlanText.{expr, exprs, more_exprs}
 use Rattle.cord_plan.specs.inner.Exprs.{is_nothing}
 use Rattle.cord_plan.specs.Views.{Shared, members_of, shared_view}
 use Rattle.cord_plan.proofs.Spacing.{AreSpaced}
@@ -50,7 +50,7 @@ abbrev pub member_text : Shared → List ℕ
 member_text m = expr (shared_view m)
 
 pub members_spaced : AreSpaced members_text more_text member_text
-members_spaced = record { nil = refl; cons = λ m ms. refl; behind = record { nil = refl; cons = λ m ms. refl } }
+members_spaced = record { nil = refl; cons = λ m ms. refl; suffix = record { nil = refl; cons = λ m ms. refl } }
 
 -- the member at hand on a walk over all of them
 pub member_there : (ms : List Shared) (i : ℕ) (m : Shared) → i < length ms → m ≡ get_or ms i m →

@@ -8,10 +8,10 @@ use Rattle.std.proofs.lemmas.Slice.Eq.{bytes_eq-Decides}
 use Rattle.cord_operands.specs.declared.operands.Number.TheVariants.{Numeral}
 use Rattle.cord_syntax.specs.declared.statements.Statement.{Statement}
 use Rattle.cord_syntax.specs.declared.statements.Statement.TheVariants.{Chars, Nul, Cat, Catn, Catc, Substr, Put}
-use Rattle.cord_plan.specs.Exprs.{Expr, name, run, cat, sub, Exprs, nothing, member, append, in_front, members, names, names_of}
+use Rattle.cord_plan.specs.Exprs.{Expr, name, run, cat, sub, Exprs, nothing, member, append, preceding, members, names, names_of}
 use Rattle.cord_plan.specs.Exprs.{number_names}
 use Rattle.cord_plan.specs.Operands.{count, has, assigns_at}
-use Rattle.cord_plan.specs.Forced.{expr_with, each_from, preserves}
+use Rattle.cord_plan.specs.Inlined.{expr_with, each_from, preserves}
 use Rattle.cord_plan.specs.Pairs.{numbers_named}
 use Rattle.cord_plan.proofs.Chosen.{both_true, last_or}
 use Rattle.cord_plan.proofs.Flows.{or_true}
@@ -117,11 +117,11 @@ append_names nothing others = refl
 append_names (member e es) others = ap (λ (x : List (List ℕ)). names e ++ x) (append_names es others)
     ∙ sym (append_assoc (names e) (names_of es) (names_of others))
 
-front_names : (e : Expr) (others : Exprs) → names_of (in_front e others) ≡ names e ++ names_of others
-front_names (name x) others = refl
-front_names (run c n) others = refl
-front_names (cat es) others = append_names es others
-front_names (sub e i n) others = refl
+prefix_names : (e : Expr) (others : Exprs) → names_of (preceding e others) ≡ names e ++ names_of others
+prefix_names (name x) others = refl
+prefix_names (run c n) others = refl
+prefix_names (cat es) others = append_names es others
+prefix_names (sub e i n) others = refl
 
 -- one of these expressions names it
 pub record SomeNames (es : List Expr) (y : List ℕ) : Type 0 where
@@ -130,19 +130,19 @@ pub record SomeNames (es : List Expr) (y : List ℕ) : Type 0 where
   pub is : slice_get es place ≡ Some expression
   pub names_it : has (names expression) y ≡ true
 
-behind_names : (e : Expr) (es : List Expr) (y : List ℕ) → SomeNames es y → SomeNames (e ∷ es) y
-behind_names e es y h = record { place = suc h.place; expression = h.expression; is = h.is; names_it = h.names_it }
+after_names : (e : Expr) (es : List Expr) (y : List ℕ) → SomeNames es y → SomeNames (e ∷ es) y
+after_names e es y h = record { place = suc h.place; expression = h.expression; is = h.is; names_it = h.names_it }
 
 members_name : (es : List Expr) (y : List ℕ) → has (names_of (members es)) y ≡ true → SomeNames es y
 members_name [] y e = let bad : ⊥ = cc in absurd bad
 members_name (f ∷ es) y e =
-    pick (has_append (names f) (names_of (members es)) y (ap (λ (x : List (List ℕ)). has x y) (sym (front_names f (members es))) ∙ e))
+    pick (has_append (names f) (names_of (members es)) y (ap (λ (x : List (List ℕ)). has x y) (sym (prefix_names f (members es))) ∙ e))
     (λ h. members_name es y h)
   where
     pick : (has (names f) y ≡ true) ⊎ (has (names_of (members es)) y ≡ true) → (has (names_of (members es)) y ≡ true → SomeNames es y) →
         SomeNames (f ∷ es) y
     pick (inl h) others = record { place = 0; expression = f; is = refl; names_it = h }
-    pick (inr h) others = behind_names f es y (others h)
+    pick (inr h) others = after_names f es y (others h)
 
 last_names : (es : List Expr) (f : Expr) (y : List ℕ) → SomeNames (es ++ f ∷ []) y → SomeNames es y ⊎ (has (names f) y ≡ true)
 last_names es f y h = pick (last_or es f h.place h.expression h.is)

@@ -10,8 +10,8 @@ use Rattle.cord_syntax.specs.declared.statements.Statement.{Statement}
 use Rattle.cord_meaning.specs.Statements.{shape_of}
 use Rattle.cord_plan.specs.Exprs.{Expr, names}
 use Rattle.cord_plan.specs.Operands.{assigns, assigns_at, count, reads, reads_at, read_by}
-use Rattle.cord_plan.specs.Forced.{Choice, named, replaced, Table, first_of, is_block, is_block_at, preserves, each_from, setter, is_small}
-use Rattle.cord_plan.specs.Forced.{expr_with, chosen_from, chosen_of}
+use Rattle.cord_plan.specs.Inlined.{Choice, named, replaced, Table, first_of, is_block, is_block_at, preserves, each_from, setter, is_small}
+use Rattle.cord_plan.specs.Inlined.{expr_with, chosen_from, chosen_of}
 use Rattle.cord_plan.specs.inner.Choices.{nearest, is_spare, stands, expression_of, expression_in, Has}
 use Rattle.cord_plan.proofs.Chosen.{setter_is}
 
@@ -48,9 +48,9 @@ module _ (s : List Statement) (x : List ℕ) where
       pick false w = refl
 
   -- what the nearest line tells of the last one that assigns x
-  abbrev pub Told : ℕ → Option ℕ → Type 0
-  Told p None = (a : ℕ) → setter s x p ≡ Some a → each_from clear (p - (a + 1)) (a + 1) ≡ false
-  Told p (Some a) = (setter s x p ≡ Some a) × (each_from clear (p - (a + 1)) (a + 1) ≡ true)
+  abbrev pub Reported : ℕ → Option ℕ → Type 0
+  Reported p None = (a : ℕ) → setter s x p ≡ Some a → each_from clear (p - (a + 1)) (a + 1) ≡ false
+  Reported p (Some a) = (setter s x p ≡ Some a) × (each_from clear (p - (a + 1)) (a + 1) ≡ true)
 
   -- the lines between, with one more
   step : (p a : ℕ) → a < p → each_from clear (suc p - (a + 1)) (a + 1) ≡ each_from clear (p - (a + 1)) (a + 1) && clear p
@@ -61,48 +61,48 @@ module _ (s : List Statement) (x : List ℕ) where
       ∙ (each_more clear (p - (a + 1)) (a + 1)
       ∙ ap (λ (m : ℕ). each_from clear (p - (a + 1)) (a + 1) && clear m) last)
 
-  pub nearest_told : (p : ℕ) → Told p (nearest s x p)
-  nearest_told zero = λ a e. (let bad : ⊥ = cc in absurd bad)
-  nearest_told (suc p) = pick (assigns_at (slice_get s p) x) refl (nearest_told p)
+  pub nearest_reported : (p : ℕ) → Reported p (nearest s x p)
+  nearest_reported zero = λ a e. (let bad : ⊥ = cc in absurd bad)
+  nearest_reported (suc p) = pick (assigns_at (slice_get s p) x) refl (nearest_reported p)
     where
       on : assigns_at (slice_get s p) x ≡ false → setter s x (suc p) ≡ setter s x p
       on f = ap (λ (v : Bool). if v then Some p else setter s x p) f
 
-      over : (o : Option ℕ) → assigns_at (slice_get s p) x ≡ false → clear p ≡ true → Told p o → Told (suc p) o
-      over None f free told = λ a set.
+      over : (o : Option ℕ) → assigns_at (slice_get s p) x ≡ false → clear p ≡ true → Reported p o → Reported (suc p) o
+      over None f free reported = λ a set.
           (let before : setter s x p ≡ Some a = sym (on f) ∙ set in
-          step p a (setter_is s x p a before).before ∙ ap (λ (v : Bool). v && clear p) (told a before))
-      over (Some a) f free told =
-          (on f ∙ told.0, step p a (setter_is s x p a told.0).before ∙ (ap (λ (v : Bool). v && clear p) told.1 ∙ free))
+          step p a (setter_is s x p a before).before ∙ ap (λ (v : Bool). v && clear p) (reported a before))
+      over (Some a) f free reported =
+          (on f ∙ reported.0, step p a (setter_is s x p a reported.0).before ∙ (ap (λ (v : Bool). v && clear p) reported.1 ∙ free))
 
-      here : (v : Bool) → stopped p ≡ v → assigns_at (slice_get s p) x ≡ false → Told p (nearest s x p) →
-          Told (suc p) (if v then None else nearest s x p)
-      here true e f told = λ a set.
+      here : (v : Bool) → stopped p ≡ v → assigns_at (slice_get s p) x ≡ false → Reported p (nearest s x p) →
+          Reported (suc p) (if v then None else nearest s x p)
+      here true e f reported = λ a set.
           (let before : setter s x p ≡ Some a = sym (on f) ∙ set in
           let shut : clear p ≡ false = clear_or_stopped p ∙ ap not e in
           step p a (setter_is s x p a before).before ∙ (ap (λ (v : Bool). each_from clear (p - (a + 1)) (a + 1) && v) shut
           ∙ and-false (each_from clear (p - (a + 1)) (a + 1))))
-      here false e f told = over (nearest s x p) f (clear_or_stopped p ∙ ap not e) told
+      here false e f reported = over (nearest s x p) f (clear_or_stopped p ∙ ap not e) reported
 
-      pick : (v : Bool) → assigns_at (slice_get s p) x ≡ v → Told p (nearest s x p) →
-          Told (suc p) (if v then Some p else (if stopped p then None else nearest s x p))
-      pick true f told =
+      pick : (v : Bool) → assigns_at (slice_get s p) x ≡ v → Reported p (nearest s x p) →
+          Reported (suc p) (if v then Some p else (if stopped p then None else nearest s x p))
+      pick true f reported =
           let none : suc p - (p + 1) ≡ 0 = omega arith in
           (ap (λ (v : Bool). if v then Some p else setter s x p) f, ap (λ (n : ℕ). each_from clear n (p + 1)) none)
-      pick false f told = here (stopped p) refl f told
+      pick false f reported = here (stopped p) refl f reported
 
 module _ (s : List Statement) (later : List ℕ → ℕ → Bool) (t : Table) (b : ℕ) (l : Statement) (x : List ℕ) (before after : List Expr) where
   -- where there is no nearest line, the operand stands by its name
   pub kept_far : nearest s x b ≡ None → named x ≡ chosen_of s later t b l x before after (setter s x b)
   kept_far e = pick (setter s x b) refl
     where
-      told : (a : ℕ) → setter s x b ≡ Some a → each_from (clear s x) (b - (a + 1)) (a + 1) ≡ false
-      told = rw e at (nearest_told s x b)
+      reported : (a : ℕ) → setter s x b ≡ Some a → each_from (clear s x) (b - (a + 1)) (a + 1) ≡ false
+      reported = rw e at (nearest_reported s x b)
 
       from : (a : ℕ) (o : Option Expr) → setter s x b ≡ Some a → named x ≡ chosen_from s later b l x before after a o
       from a None set = refl
       from a (Some e) set = ap (λ (v : Bool). if (v && stands s later e a b l (read_by l) x) && is_small
-          (expr_with l (before ++ e ∷ after)) then replaced a e else named x) (sym (told a set))
+          (expr_with l (before ++ e ∷ after)) then replaced a e else named x) (sym (reported a set))
 
       pick : (o : Option ℕ) → setter s x b ≡ o → named x ≡ chosen_of s later t b l x before after o
       pick None set = refl
@@ -111,10 +111,10 @@ module _ (s : List Statement) (later : List ℕ → ℕ → Bool) (t : Table) (b
   -- where there is one, its expression is looked at
   from_near : (a : ℕ) → nearest s x b ≡ Some a → chosen_of s later t b l x before after (setter s x b)
       ≡ chosen_from s later b l x before after a (first_of (slice_get t a))
-  from_near a e = ap (λ (o : Option ℕ). chosen_of s later t b l x before after o) (told.0)
+  from_near a e = ap (λ (o : Option ℕ). chosen_of s later t b l x before after o) (reported.0)
     where
-      told : (setter s x b ≡ Some a) × (each_from (clear s x) (b - (a + 1)) (a + 1) ≡ true)
-      told = rw e at (nearest_told s x b)
+      reported : (setter s x b ≡ Some a) × (each_from (clear s x) (b - (a + 1)) (a + 1) ≡ true)
+      reported = rw e at (nearest_reported s x b)
 
   pub kept_bare : (a : ℕ) → nearest s x b ≡ Some a → first_of (slice_get t a) ≡ None →
       named x ≡ chosen_of s later t b l x before after (setter s x b)
@@ -126,13 +126,13 @@ module _ (s : List Statement) (later : List ℕ → ℕ → Bool) (t : Table) (b
       (if v then replaced a r else named x) ≡ chosen_of s later t b l x before after (setter s x b)
   by_tests xs reads a r e some v tests = sym (from_near a e ∙ (ap (λ (o : Option Expr). chosen_from s later b l x before after a o) some
       ∙ (ap (λ (w : Bool). if (w && stands s later r a b l (read_by l) x) && is_small (expr_with l (before ++ r ∷ after)) then replaced a r
-      else named x) told.1
+      else named x) reported.1
       ∙ (ap (λ (ys : List (List ℕ)). if stands s later r a b l ys x && is_small (expr_with l (before ++ r ∷ after)) then replaced a r
       else named x) reads
       ∙ ap (λ (w : Bool). if w then replaced a r else named x) tests))))
     where
-      told : (setter s x b ≡ Some a) × (each_from (clear s x) (b - (a + 1)) (a + 1) ≡ true)
-      told = rw e at (nearest_told s x b)
+      reported : (setter s x b ≡ Some a) × (each_from (clear s x) (b - (a + 1)) (a + 1) ≡ true)
+      reported = rw e at (nearest_reported s x b)
 
 -- for a spare operand an expression stands that stays
 pub spare_stands : (s : List Statement) (later : List ℕ → ℕ → Bool) (e : Expr) (a b : ℕ) (l : Statement) (xs : List (List ℕ))

@@ -2,8 +2,8 @@
 use Rattle.std.proofs.Common.{◌≡◌, ◌+◌, ℕ, List, Bool, false, Option, Some, None, drop, refl}
 use Rattle.std.specs.Prelude.{slice_get}
 use Rattle.cord_meaning.specs.Blocks.{Shape, jump, jump_at}
-use Rattle.cord_meaning.specs.Blocks.Shape.{Simple, Loop, Branch, Otherwise, Close}
-use Rattle.cord_plan.specs.Forced.{is_block}
+use Rattle.cord_meaning.specs.Blocks.Shape.{Straight, Loop, Branch, Otherwise, Close}
+use Rattle.cord_plan.specs.Inlined.{is_block}
 
 -- whether a shape, where there is one, belongs to a block
 abbrev pub is_block_shape : Option Shape → Bool
@@ -12,7 +12,7 @@ is_block_shape (Some s) = is_block s
 
 next_of : (shape : Option Shape) (p : ℕ) (rest : List Shape) → is_block_shape shape ≡ false → jump_at shape p rest ≡ p + 1
 next_of None p rest e = refl
-next_of (Some Simple) p rest e = refl
+next_of (Some Straight) p rest e = refl
 next_of (Some Loop) p rest e = let bad : ⊥ = cc in absurd bad
 next_of (Some Branch) p rest e = let bad : ⊥ = cc in absurd bad
 next_of (Some Otherwise) p rest e = let bad : ⊥ = cc in absurd bad

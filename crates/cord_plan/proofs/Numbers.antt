@@ -122,11 +122,11 @@ module _ (names : List (List ℕ)) (distinct : IsDistinct bytes_eq names) (x : L
       let found = place_within names x (has_there names x n e) in
       found.1 ∙ ap Some (one_place found.0 n (place_found names x found.0 found.1) e)
 
-  -- a place that is told, where there is one, is the first
-  pub place_told : (o : Option ℕ) → IfSome o (λ n. slice_get names n ≡ Some x) → IfNone o (All (λ z. bytes_eq x z ≡ false) names) →
+  -- a place that is reported, where there is one, is the first
+  pub place_reported : (o : Option ℕ) → IfSome o (λ n. slice_get names n ≡ Some x) → IfNone o (All (λ z. bytes_eq x z ≡ false) names) →
       o ≡ place_of names x
-  place_told None there none = sym (unplaced x names none)
-  place_told (Some n) there none = sym (place_at n there)
+  place_reported None there none = sym (unplaced x names none)
+  place_reported (Some n) there none = sym (place_at n there)
 
 -- ---- lists that grow
 get_before : {A : Type 0} (xs ys : List A) (k : ℕ) (x : A) → slice_get xs k ≡ Some x → slice_get (xs ++ ys) k ≡ Some x
@@ -223,9 +223,9 @@ both_added xs ys a b c p q r one two = record {
 pub more_added : (names : List (List ℕ)) (i : ℕ) (y : List ℕ) (a b c : List (List ℕ)) (p q r : List ℕ) → i < length names →
     y ≡ get_or names i y → Adds (take i names) a b p q → Adds (y ∷ []) b c q r → Adds (take (i + 1) names) a c p r
 more_added names i y a b c p q r lt is one two =
-    let front : take (i + 1) names ≡ take i names ++ y ∷ [] =
+    let prefix : take (i + 1) names ≡ take i names ++ y ∷ [] =
     take_more names i y lt ∙ ap (λ (z : List ℕ). take i names ++ z ∷ []) (sym is) in
-    rw front (both_added (take i names) (y ∷ []) a b c p q r one two)
+    rw prefix (both_added (take i names) (y ∷ []) a b c p q r one two)
 
 cords_append : (xs ys : List Argument) → cord_arguments (xs ++ ys) ≡ cord_arguments xs ++ cord_arguments ys
 cords_append [] ys = refl
@@ -236,10 +236,10 @@ pub more_arguments : (arguments : List Argument) (i : ℕ) (e : Argument) (a b c
     i < length arguments → e ≡ get_or arguments i e → Adds (cord_arguments (take i arguments)) a b p q →
     Adds (cord_arguments (e ∷ [])) b c q r → Adds (cord_arguments (take (i + 1) arguments)) a c p r
 more_arguments arguments i e a b c p q r lt is one two =
-    let front : take (i + 1) arguments ≡ take i arguments ++ e ∷ [] =
+    let prefix : take (i + 1) arguments ≡ take i arguments ++ e ∷ [] =
     take_more arguments i e lt ∙ ap (λ (z : Argument). take i arguments ++ z ∷ []) (sym is) in
     let more : cord_arguments (take (i + 1) arguments) ≡ cord_arguments (take i arguments) ++ cord_arguments (e ∷ []) =
-    rw front (cords_append (take i arguments) (e ∷ [])) in
+    rw prefix (cords_append (take i arguments) (e ∷ [])) in
     rw more (both_added (cord_arguments (take i arguments)) (cord_arguments (e ∷ [])) a b c p q r one two)
 
 -- what was noted last
@@ -274,7 +274,7 @@ LinesTo s i names read lines = (p : ℕ) (l : Statement) → p < i → slice_get
 pub lines_more : (s : List Statement) (i : ℕ) (l : Statement) (old new : List (List ℕ)) (before after : List ℕ) (lines : List NumberedLine)
     (line : NumberedLine) → length lines ≡ i → i < length s → l ≡ get_or s i l → AddsLine l old new before after line →
     LinesTo s i old before lines → LinesTo s (i + 1) new after (lines ++ line ∷ [])
-lines_more s i l old new before after lines line size lt is adds told p m within there =
+lines_more s i l old new before after lines line size lt is adds reported p m within there =
     by_place (eq-or-lt_of_le (let le : p ≤ i = omega arith in le))
   where
     here : slice_get s i ≡ Some l
@@ -290,7 +290,7 @@ lines_more s i l old new before after lines line size lt is adds told p m within
           subst (λ (k : Statement). IsLine new after k line) one adds.is,
         )
     by_place (inr less) =
-        let found : (found : NumberedLine) × (slice_get lines p ≡ Some found) × IsLine old before m found = told p m less there in (
+        let found : (found : NumberedLine) × (slice_get lines p ≡ Some found) × IsLine old before m found = reported p m less there in (
           found.0,
           get_before lines (line ∷ []) p found.0 found.1,
           rw adds.noted (line_stays old new adds.grows before adds.numbers m found.0 found.2),
@@ -299,11 +299,11 @@ lines_more s i l old new before after lines line size lt is adds told p m within
 -- ---- what numbers tell
 module _ (t : Numbering) where
   -- the number of a name, where there is one
-  pub number_told : (o : Option (List ℕ)) (n : Option ℕ) → IsNumber (names_of t) o n → n ≡ number_in t o
-  number_told None None e = refl
-  number_told None (Some n) e = let bad : ⊥ = cc in absurd bad
-  number_told (Some x) None e = let bad : ⊥ = cc in absurd bad
-  number_told (Some x) (Some n) e =
+  pub number_reported : (o : Option (List ℕ)) (n : Option ℕ) → IsNumber (names_of t) o n → n ≡ number_in t o
+  number_reported None None e = refl
+  number_reported None (Some n) e = let bad : ⊥ = cc in absurd bad
+  number_reported (Some x) None e = let bad : ⊥ = cc in absurd bad
+  number_reported (Some x) (Some n) e =
       let there : slice_get (names_of t) n ≡ Some x = cc in
       sym (place_at (names_of t) t.distinct x n there)
 
@@ -369,7 +369,7 @@ module _ (t : Numbering) where
       numbers.target ≡ line.target → numbers.read.now ≡ take (line.end - line.start) (drop line.start t.read.items) →
       IsNumbered t l numbers
   line_numbered l line numbers is target read = record {
-    target = target ∙ number_told (target_of l) line.target is.target;
+    target = target ∙ number_reported (target_of l) line.target is.target;
     read = rw read is.reads;
   }
 

@@ -5,18 +5,18 @@ use Rattle.std.specs.Int.Digits.{digits_of}
 use Rattle.std.proofs.lemmas.Int.Digits.{digits_of_step}
 use Rattle.cord_printf.specs.declared.pieces.Radix.TheVariants.{Decimal}
 use Rattle.cord_printf.specs.PieceText.{figure}
-use Rattle.cord_meaning.specs.Rows.{numeral}
+use Rattle.cord_meaning.specs.Examples.{numeral}
 use Rattle.cord_plan.specs.Exprs.{Expr, name, run, cat, sub, nothing, member}
 use Rattle.cord_plan.specs.Planned.{Operation, Build, Measure, Write, Joined, Literal}
-use Rattle.cord_plan.specs.Shown.{decimal, spaced, called, shown}
+use Rattle.cord_plan.specs.PlanText.{decimal, spaced, called, text_of_plan}
 
 -- one digit more
 ends_with : (n : ℕ) (ds : List ℕ) → 0 < n → digits_of 10 (n / 10) ≡ ds → digits_of 10 n ≡ ds ++ n % 10 ∷ []
-ends_with n ds some front = digits_of_step 10 n (omega arith) some ∙ ap (λ (x : List ℕ). x ++ n % 10 ∷ []) front
+ends_with n ds some prefix = digits_of_step 10 n (omega arith) some ∙ ap (λ (x : List ℕ). x ++ n % 10 ∷ []) prefix
 
 -- digits as they are printed
 abbrev pub figures : List ℕ → List ℕ
-figures ds = let shown = map (λ d. figure Decimal d) ds in replicate (1 - length shown) 48 ++ shown
+figures ds = let text_of_plan = map (λ d. figure Decimal d) ds in replicate (1 - length text_of_plan) 48 ++ text_of_plan
 
 figures_of : (n : ℕ) (ds : List ℕ) → digits_of 10 n ≡ ds → decimal n ≡ figures ds
 figures_of n ds e = ap figures e
@@ -59,29 +59,29 @@ operations_with n =
     ∷ []
 
 -- its text, with these digits for n
-abbrev pub zeros_shown : List ℕ → List ℕ
-zeros_shown digits = called (codes "run") (spaced (codes "0" ∷ digits ∷ []))
+abbrev pub zeros_printed : List ℕ → List ℕ
+zeros_printed digits = called (codes "run") (spaced (codes "0" ∷ digits ∷ []))
 
-abbrev pub joined_shown : List ℕ → List ℕ
-joined_shown digits = called (codes "cat") (zeros_shown digits ++ codes " b")
+abbrev pub joined_printed : List ℕ → List ℕ
+joined_printed digits = called (codes "cat") (zeros_printed digits ++ codes " b")
 
-abbrev pub lines_shown : List (List ℕ) → List ℕ
-lines_shown [] = []
-lines_shown (line ∷ rest) = line ++ 10 ∷ lines_shown rest
+abbrev pub lines_printed : List (List ℕ) → List ℕ
+lines_printed [] = []
+lines_printed (line ∷ rest) = line ++ 10 ∷ lines_printed rest
 
 abbrev pub text_with : List ℕ → List ℕ
-text_with digits = lines_shown (
-    spaced (codes "1" ∷ codes "measure" ∷ codes "a" ∷ zeros_shown digits ∷ [])
+text_with digits = lines_printed (
+    spaced (codes "1" ∷ codes "measure" ∷ codes "a" ∷ zeros_printed digits ∷ [])
     ∷ codes "2 build b literal(1)"
-    ∷ spaced (codes "3" ∷ codes "measure" ∷ codes "t" ∷ joined_shown digits ∷ [])
-    ∷ spaced (codes "4" ∷ codes "measure" ∷ codes "z" ∷ called (codes "sub") (spaced (joined_shown digits ∷ codes "0" ∷ codes "1" ∷ []))
+    ∷ spaced (codes "3" ∷ codes "measure" ∷ codes "t" ∷ joined_printed digits ∷ [])
+    ∷ spaced (codes "4" ∷ codes "measure" ∷ codes "z" ∷ called (codes "sub") (spaced (joined_printed digits ∷ codes "0" ∷ codes "1" ∷ []))
     ∷ [])
     ∷ codes "5 write b"
     ∷ [])
 
-shows : (n : ℕ) → shown (operations_with n) ≡ text_with (decimal n)
+shows : (n : ℕ) → text_of_plan (operations_with n) ≡ text_with (decimal n)
 shows n = refl
 
 pub unread_cat_shows : (operations : List Operation) (n : ℕ) (digits : List ℕ) → operations ≡ operations_with n → decimal n ≡ digits →
-    shown operations ≡ text_with digits
-unread_cat_shows operations n digits same written = ap shown same ∙ shows n ∙ ap text_with written
+    text_of_plan operations ≡ text_with digits
+unread_cat_shows operations n digits same written = ap text_of_plan same ∙ shows n ∙ ap text_with written

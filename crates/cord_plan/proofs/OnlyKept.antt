@@ -8,7 +8,7 @@ use Rattle.cord_syntax.specs.declared.statements.Statement.TheVariants.{Balance,
 use Rattle.cord_syntax.specs.declared.statements.Statement.TheVariants.{Assign, Add, Sub, EcInit, EcPut, EcCat, EcStr, Put, Repeat, If}
 use Rattle.cord_syntax.specs.declared.statements.Statement.TheVariants.{Else, End}
 use Rattle.cord_plan.specs.Exprs.{Expr}
-use Rattle.cord_plan.specs.Forced.{Table, own, exprs}
+use Rattle.cord_plan.specs.Inlined.{Table, defining, exprs}
 use Rattle.cord_plan.specs.Verbatim.{KeepsNoOther}
 use Rattle.cord_plan.specs.Operands.{target_of}
 use Rattle.cord_plan.specs.Planned.{Made, Joined, Literal, OfFile, OfEager, OfLazy, OfFunction, Balanced, OfExtensible, Printed, gives}
@@ -55,8 +55,8 @@ kept_line (End line) e dead paired = tt
 
 pub kept_trivial : (s : List Statement) → All KeepsNoOther (trivial s)
 kept_trivial [] = All-nil KeepsNoOther
-kept_trivial (l ∷ rest) = All-cons KeepsNoOther (operation l (or_nothing (own l)) false false) (trivial rest)
-    (kept_line l (or_nothing (own l)) false false) (kept_trivial rest)
+kept_trivial (l ∷ rest) = All-cons KeepsNoOther (operation l (or_nothing (defining l)) false false) (trivial rest)
+    (kept_line l (or_nothing (defining l)) false false) (kept_trivial rest)
 
 kept_lines : (later : List ℕ → ℕ → Bool) (table : Table) (p : ℕ) (s : List Statement) (entries : Table) →
     All KeepsNoOther (operations later table p s entries)

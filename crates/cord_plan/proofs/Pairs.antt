@@ -1,4 +1,4 @@
--- What the expressions of forced pairs name, and how great they are.
+-- What the expressions of inlined pairs name, and how great they are.
 use Rattle.std.proofs.Common.{◌≡◌, ◌⊎◌, ℕ, zero, suc, ◌+◌, ◌-◌, ◌<◌, ◌≤◌, Bool, true, false, ◌&&◌, ◌||◌, List, [], ◌∷◌, ◌++◌, map, Option}
 use Rattle.std.proofs.Common.{Some, None, refl, sym, ap, ◌∙◌, subst, inl, inr, arith, append-nil}
 use Rattle.std.specs.Prelude.{slice_get, not, ◌==◌, nat_le}
@@ -10,11 +10,11 @@ use Rattle.cord_syntax.specs.declared.statements.Statement.{Statement}
 use Rattle.cord_plan.specs.declared.TheConstants.{MAX_EXPR_PARTS}
 use Rattle.cord_plan.specs.Exprs.{Expr, parts, names}
 use Rattle.cord_plan.specs.Operands.{count, has, read_by, reads_at, assigns, assigns_at}
-use Rattle.cord_plan.specs.Forced.{Table, Choice, named, replaced, expr_of, expr_with, is_small, is_block_at, each_from, preserves}
-use Rattle.cord_plan.specs.Forced.{first_of}
-use Rattle.cord_plan.specs.Forced.{own, choices, operands_chosen}
+use Rattle.cord_plan.specs.Inlined.{Table, Choice, named, replaced, expr_of, expr_with, is_small, is_block_at, each_from, preserves}
+use Rattle.cord_plan.specs.Inlined.{first_of}
+use Rattle.cord_plan.specs.Inlined.{defining, choices, operands_chosen}
 use Rattle.cord_plan.specs.Pairs.{IsPair, numbers_named, numbers_named_at, IsNoNumber}
-use Rattle.cord_plan.proofs.Chosen.{both_true, Taken, Chosen, AreChosen, are_chosen, stay_small, EachEntry, IsFront, each_entry}
+use Rattle.cord_plan.proofs.Chosen.{both_true, Taken, Chosen, AreChosen, are_chosen, stay_small, EachEntry, IsPrefix, each_entry}
 use Rattle.cord_plan.proofs.Flows.{or_true}
 use Rattle.cord_plan.proofs.Named.{not_true, no_true, same_bytes, has_at, one_place, each_at, preserves_at, SomeNames, Names, with_names}
 use Rattle.cord_plan.proofs.ReadNames.{no_number}
@@ -38,7 +38,7 @@ module _ (s : List Statement) (later : List ℕ → ℕ → Bool) where
 
   -- what is known there
   record Facts (r : Expr) (a b : ℕ) (l : Statement) (x : List ℕ) : Type 0 where
-    unread : (m : ℕ) → a < m → m < b → reads_at (slice_get s m) x ≡ false
+    not_live : (m : ℕ) → a < m → m < b → reads_at (slice_get s m) x ≡ false
     once : count x (read_by l) ≡ 1
     stays : (m : ℕ) (y : List ℕ) → a ≤ m → m < b → has (names r) y ≡ true → assigns_at (slice_get s m) y ≡ false
 
@@ -49,7 +49,7 @@ module _ (s : List Statement) (later : List ℕ → ℕ → Bool) where
       let quiet : ℕ → Bool = λ m. not (is_block_at (slice_get s m)) && not (reads_at (slice_get s m) x) in
       let preserved : ℕ → Bool = λ m. preserves (slice_get s m) (names r) in
       record {
-        unread = λ m low high. not_true (reads_at (slice_get s m) x)
+        not_live = λ m low high. not_true (reads_at (slice_get s m) x)
             (both_true (not (is_block_at (slice_get s m))) (not (reads_at (slice_get s m) x))
             (each_at quiet (b - (a + 1)) (a + 1) m f.quiet (omega arith) (omega arith))).1;
         once = eqb-true (count x (read_by l)) 1 f.once;
@@ -203,7 +203,7 @@ module _ (s : List Statement) (later : List ℕ → ℕ → Bool) where
               by_name above (omega arith) n.names_it
             where
               by_name : a < n.place → n.place < b → NamesIt (slice_get s n.place) t → ⊥
-              by_name low high (inl f) = clash (reads_at (slice_get s n.place) t) f (known.unread n.place low high)
+              by_name low high (inl f) = clash (reads_at (slice_get s n.place) t) f (known.not_live n.place low high)
               by_name low high (inr f) = clash (has (numbers_named_at (slice_get s n.place)) t) f (no_number n.place)
 
       not_chosen : (k : ℕ) (f : Expr) → (c : ChosenAt table b l (read_by l) made k f) → has (names f) t ≡ true → ⊥
@@ -250,13 +250,13 @@ module _ (s : List Statement) (later : List ℕ → ℕ → Bool) where
   abbrev EntryFine : ℕ → Option Expr × List Choice → Type 0
   EntryFine k en = EntryNamed k en × EntryOut k en
 
-  entry_fine : (table : Table) (b : ℕ) (l : Statement) → slice_get s b ≡ Some l → IsFront s later table →
-      EachEntry s later EntryFine table → EntryFine b (operands_chosen s later table b l (own l))
-  entry_fine table b l at front each = (
-    entry_named table b l at is_named (own l),
+  entry_fine : (table : Table) (b : ℕ) (l : Statement) → slice_get s b ≡ Some l → IsPrefix s later table →
+      EachEntry s later EntryFine table → EntryFine b (operands_chosen s later table b l (defining l))
+  entry_fine table b l at prefix each = (
+    entry_named table b l at is_named (defining l),
     λ line t a i r e line_at is operand is_replaced no_number. (
         let same : l ≡ line = (let both : Some l ≡ Some line = sym at ∙ line_at in cc) in
-        entry_out table b l at is_named (own l) t a i r e is
+        entry_out table b l at is_named (defining l) t a i r e is
         (subst (λ (x : Statement). slice_get (read_by x) i ≡ Some t) (sym same) operand)
         is_replaced no_number),
   )
@@ -281,26 +281,26 @@ module _ (s : List Statement) (later : List ℕ → ℕ → Bool) where
       (sym (append-nil (map (λ c. expr_of c) cs))) ∙ small)
 
   pub stays_small : (a b : ℕ) (t : List ℕ) (e : Expr) → IsPair s later a b t e → parts e ≤ MAX_EXPR_PARTS
-  stays_small a b t e h = each_entry s later EntrySmall (λ table b l at front each. small_of table b l (own l)) b
+  stays_small a b t e h = each_entry s later EntrySmall (λ table b l at prefix each. small_of table b l (defining l)) b
       (Some e, h.choices) h.is_expression e h.operand a h.earlier refl h.is_replaced
 
-  abbrev pub EntryOwn : ℕ → Option Expr × List Choice → Type 0
-  EntryOwn k en = (l : Statement) (e : Expr) → slice_get s k ≡ Some l → en.0 ≡ Some e → (o : Expr) × (own l ≡ Some o)
+  abbrev pub EntryDefining : ℕ → Option Expr × List Choice → Type 0
+  EntryDefining k en = (l : Statement) (e : Expr) → slice_get s k ≡ Some l → en.0 ≡ Some e → (o : Expr) × (defining l ≡ Some o)
 
-  own_of : (table : Table) (b : ℕ) (l : Statement) (o : Option Expr) → own l ≡ o → (e : Expr) →
-      (operands_chosen s later table b l o).0 ≡ Some e → (o : Expr) × (own l ≡ Some o)
-  own_of table b l None own_is e is = let bad : ⊥ = cc in absurd bad
-  own_of table b l (Some first) own_is e is = (first, own_is)
+  defining_of : (table : Table) (b : ℕ) (l : Statement) (o : Option Expr) → defining l ≡ o → (e : Expr) →
+      (operands_chosen s later table b l o).0 ≡ Some e → (o : Expr) × (defining l ≡ Some o)
+  defining_of table b l None defining_is e is = let bad : ⊥ = cc in absurd bad
+  defining_of table b l (Some first) defining_is e is = (first, defining_is)
 
-  pub entry_own : (table : Table) (b : ℕ) (l : Statement) → slice_get s b ≡ Some l → IsFront s later table →
-      EachEntry s later EntryOwn table → EntryOwn b (operands_chosen s later table b l (own l))
-  entry_own table b l at front each line e line_at is =
+  pub entry_defining : (table : Table) (b : ℕ) (l : Statement) → slice_get s b ≡ Some l → IsPrefix s later table →
+      EachEntry s later EntryDefining table → EntryDefining b (operands_chosen s later table b l (defining l))
+  entry_defining table b l at prefix each line e line_at is =
       let same : l ≡ line = (let both : Some l ≡ Some line = sym at ∙ line_at in cc) in
-      subst (λ (x : Statement). (o : Expr) × (own x ≡ Some o)) same (own_of table b l (own l) refl e is)
+      subst (λ (x : Statement). (o : Expr) × (defining x ≡ Some o)) same (defining_of table b l (defining l) refl e is)
 
   -- the same in a script that is read
   pub leaves_out_read : (g : Grammar) (text : List ℕ) → ReadsBy g text s → (a b : ℕ) (t : List ℕ) (e : Expr) → IsPair s later a b t e →
       has (names e) t ≡ false
   leaves_out_read g text read a b t e h =
-      let first = each_entry s later EntryOwn entry_own b (Some e, h.choices) h.is_expression h.line e h.is_line refl in
+      let first = each_entry s later EntryDefining entry_defining b (Some e, h.choices) h.is_expression h.line e h.is_line refl in
       leaves_out a b t e h (no_number g text s b h.operand h.line first.0 t read h.is_line first.1 h.is_operand)

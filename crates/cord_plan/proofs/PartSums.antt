@@ -8,10 +8,10 @@ use Rattle.std.proofs.lemmas.List.Sums.{sum_by-cons}
 use Rattle.cord_operands.specs.declared.operands.Number.TheVariants.{Numeral}
 use Rattle.cord_syntax.specs.declared.statements.Statement.{Statement}
 use Rattle.cord_syntax.specs.declared.statements.Statement.TheVariants.{Chars, Nul, Cat, Catn, Catc, Substr, Put}
-use Rattle.cord_plan.specs.Exprs.{Expr, Exprs, name, run, cat, sub, parts, parts_of, append, in_front, members}
+use Rattle.cord_plan.specs.Exprs.{Expr, Exprs, name, run, cat, sub, parts, parts_of, append, preceding, members}
 use Rattle.cord_plan.specs.Views.{Shared, members_of, shared_view}
 use Rattle.cord_plan.specs.Operands.{assigns_at}
-use Rattle.cord_plan.specs.Forced.{Choice, expr_of, preserves, is_small, expr_with}
+use Rattle.cord_plan.specs.Inlined.{Choice, expr_of, preserves, is_small, expr_with}
 use Rattle.cord_plan.specs.inner.Choices.{room_left, room_left_by, simple_operands, parts_beside}
 use Rattle.cord_plan.proofs.Appending.{parts_append}
 
@@ -67,9 +67,9 @@ parts_member ms k m lt is =
     ∙ ap (λ (e : Shared). parts_of (members_of (map shared_view (e ∷ drop (k + 1) ms)))) (sym is)
 
 -- the room that members leave, by those in front
-pub parts_both : (all front rest : Exprs) (room : ℕ) → all ≡ append front rest →
-    room_left (parts_of all) room ≡ room_left (parts_of front + parts_of rest) room
-parts_both all front rest room e = ap (λ (n : ℕ). room_left n room) (ap parts_of e ∙ parts_append front rest)
+pub parts_both : (all prefix rest : Exprs) (room : ℕ) → all ≡ append prefix rest →
+    room_left (parts_of all) room ≡ room_left (parts_of prefix + parts_of rest) room
+parts_both all prefix rest room e = ap (λ (n : ℕ). room_left n room) (ap parts_of e ∙ parts_append prefix rest)
 
 -- what preserves the names of two lists
 pub preserves_append : (l : Option Statement) (xs ys : List (List ℕ)) → preserves l (xs ++ ys) ≡ preserves l xs && preserves l ys
@@ -85,15 +85,15 @@ abbrev pub sum_parts : List Expr → ℕ
 sum_parts [] = 0
 sum_parts (e ∷ es) = parts e + sum_parts es
 
-parts_front : (e : Expr) (b : Exprs) → parts_of (in_front e b) ≡ parts e + parts_of b
-parts_front (name x) b = refl
-parts_front (run c n) b = refl
-parts_front (cat es) b = parts_append es b
-parts_front (sub e i n) b = refl
+parts_prefix : (e : Expr) (b : Exprs) → parts_of (preceding e b) ≡ parts e + parts_of b
+parts_prefix (name x) b = refl
+parts_prefix (run c n) b = refl
+parts_prefix (cat es) b = parts_append es b
+parts_prefix (sub e i n) b = refl
 
 pub parts_members : (es : List Expr) → parts_of (members es) ≡ sum_parts es
 parts_members [] = refl
-parts_members (e ∷ es) = parts_front e (members es) ∙ ap (λ (n : ℕ). parts e + n) (parts_members es)
+parts_members (e ∷ es) = parts_prefix e (members es) ∙ ap (λ (n : ℕ). parts e + n) (parts_members es)
 
 pub sum_append : (a b : List Expr) → sum_parts (a ++ b) ≡ sum_parts a + sum_parts b
 sum_append [] b = omega arith
@@ -133,17 +133,17 @@ module _ (l : Statement) (xs : List (List ℕ)) (done : List Choice) (e : Expr) 
   standing = map (λ c. expr_of c) done ++ e ∷ map (λ y. name y) (drop (length done + 1) xs)
 
   module _ (simple : simple_operands l ≡ Some xs) (size : length done ≡ k) (more : k < length xs) where
-    behind : length (drop (length done + 1) xs) ≡ length xs - k - 1
-    behind = length-drop (length done + 1) xs ∙ omega arith
+    suffix : length (drop (length done + 1) xs) ≡ length xs - k - 1
+    suffix = length-drop (length done + 1) xs ∙ omega arith
 
     standing_size : length standing ≡ length xs
     standing_size =
         let both : length standing ≡ length (map (λ c. expr_of c) done) + length (e ∷ map (λ y. name y) (drop (length done + 1) xs)) =
         length-append (map (λ c. expr_of c) done) (e ∷ map (λ y. name y) (drop (length done + 1) xs)) in
-        let front : length (map (λ c. expr_of c) done) ≡ length done = length-map done (λ c. expr_of c) in
+        let prefix : length (map (λ c. expr_of c) done) ≡ length done = length-map done (λ c. expr_of c) in
         let back : length (map (λ y. name y) (drop (length done + 1) xs)) ≡ length (drop (length done + 1) xs) =
         length-map (drop (length done + 1) xs) (λ y. name y) in
-        let left : length (drop (length done + 1) xs) ≡ length xs - k - 1 = behind in
+        let left : length (drop (length done + 1) xs) ≡ length xs - k - 1 = suffix in
         omega arith
 
     standing_sum : sum_parts standing + parts_beside l ≡ sum_by (λ c. parts (expr_of c)) done
@@ -152,10 +152,10 @@ module _ (l : Statement) (xs : List (List ℕ)) (done : List Choice) (e : Expr) 
         let both : sum_parts standing ≡ sum_parts (map (λ c. expr_of c) done) + sum_parts
         (e ∷ map (λ y. name y) (drop (length done + 1) xs)) =
         sum_append (map (λ c. expr_of c) done) (e ∷ map (λ y. name y) (drop (length done + 1) xs)) in
-        let front : sum_parts (map (λ c. expr_of c) done) ≡ sum_by (λ c. parts (expr_of c)) done = sum_choices done in
+        let prefix : sum_parts (map (λ c. expr_of c) done) ≡ sum_by (λ c. parts (expr_of c)) done = sum_choices done in
         let back : sum_parts (map (λ y. name y) (drop (length done + 1) xs)) ≡ length (drop (length done + 1) xs) =
         sum_names (drop (length done + 1) xs) in
-        let left : length (drop (length done + 1) xs) ≡ length xs - k - 1 = behind in
+        let left : length (drop (length done + 1) xs) ≡ length xs - k - 1 = suffix in
         omega arith
 
     -- whether the line's expression stays small then

@@ -1,4 +1,4 @@
--- The operations of forced pairs.
+-- The operations of inlined pairs.
 use Rattle.std.proofs.Common.{◌≡◌, ℕ, zero, suc, ◌+◌, Bool, true, false, ◌||◌, List, [], ◌∷◌, Option, Some, None, refl, sym, ap, ◌∙◌, subst}
 use Rattle.std.proofs.Common.{arith}
 use Rattle.std.specs.Prelude.{slice_get}
@@ -9,14 +9,14 @@ use Rattle.cord_syntax.specs.declared.statements.Statement.{Statement}
 use Rattle.cord_syntax.specs.declared.statements.Statement.TheVariants.{Chars, Nul, Cat, Catn, Catc, Substr, Put}
 use Rattle.cord_plan.specs.Exprs.{Expr}
 use Rattle.cord_plan.specs.Operands.{read_by, target_of, assigns, assigns_at}
-use Rattle.cord_plan.specs.Forced.{Table, Choice, replaced, own, choices, operands_chosen, exprs}
+use Rattle.cord_plan.specs.Inlined.{Table, Choice, replaced, defining, choices, operands_chosen, exprs}
 use Rattle.cord_plan.specs.Planned.{Operation, Measure, Joined, gives, or_nothing, operation, is_from, some_from, is_first, is_dead}
 use Rattle.cord_plan.specs.Planned.{operations, planned}
 use Rattle.cord_plan.specs.Pairs.{IsPair, expression_of}
-use Rattle.cord_plan.proofs.Chosen.{Taken, are_chosen, EachEntry, IsFront, each_entry}
+use Rattle.cord_plan.proofs.Chosen.{Taken, are_chosen, EachEntry, IsPrefix, each_entry}
 use Rattle.cord_plan.proofs.Named.{same_bytes}
-use Rattle.cord_plan.proofs.ReadNames.{HasOwn}
-use Rattle.cord_plan.proofs.Pairs.{taken_at, EntryOf, entry_of, EntryOwn, entry_own}
+use Rattle.cord_plan.proofs.ReadNames.{HasDefining}
+use Rattle.cord_plan.proofs.Pairs.{taken_at, EntryOf, entry_of, EntryDefining, entry_defining}
 
 -- the operation at a line's place
 operation_at : (later : List ℕ → ℕ → Bool) (table : Table) (p : ℕ) (s : List Statement) (entries : Table) (k : ℕ) (l : Statement)
@@ -58,7 +58,8 @@ gives_expression true line x e = refl
 gives_expression false line x e = refl
 
 -- the operation of a line with an expression has it
-has_expression : (l : Statement) (e : Expr) (dead paired : Bool) → HasOwn (own l) → expression_of (operation l e dead paired) ≡ Some e
+has_expression : (l : Statement) (e : Expr) (dead paired : Bool) → HasDefining (defining l) → expression_of (operation l e dead paired) ≡
+    Some e
 has_expression (Cat line target left right) e dead paired o = gives_expression (dead || paired) line target e
 has_expression (Catn line target many) e dead paired o = gives_expression (dead || paired) line target e
 has_expression (Catc line target operand byte) e dead paired o = gives_expression (dead || paired) line target e
@@ -75,7 +76,8 @@ measured_by dead paired line x t e first named =
     ∙ ap (λ (y : List ℕ). Measure line y (Joined e)) (sym (same_bytes t x named))
 
 -- the first line of a pair only measures the name that it assigns
-only_measures : (l : Statement) (e : Expr) (dead paired : Bool) (t : List ℕ) → HasOwn (own l) → assigns l t ≡ true → paired ≡ true →
+only_measures : (l : Statement) (e : Expr) (dead paired : Bool) (t : List ℕ) → HasDefining (defining l) → assigns l t ≡ true → paired ≡ true
+    →
     operation l e dead paired ≡ Measure (line_of l) t (Joined e)
 only_measures (Cat line target left right) e dead paired t o named first = measured_by dead paired line target t e first named
 only_measures (Catn line target many) e dead paired t o named first = measured_by dead paired line target t e first named
@@ -109,28 +111,29 @@ module _ (s : List Statement) (later : List ℕ → ℕ → Bool) where
   EntryEarlier k en = (l : Statement) (t : List ℕ) (a i : ℕ) (r e : Expr) → slice_get s k ≡ Some l → en.0 ≡ Some e →
       slice_get (read_by l) i ≡ Some t → slice_get en.1 i ≡ Some (replaced a r) → Earlier a t r
 
-  earlier_of : (table : Table) (b : ℕ) (l : Statement) → IsFront s later table → (o : Option Expr) (t : List ℕ) (a i : ℕ) (r e : Expr) →
+  earlier_of : (table : Table) (b : ℕ) (l : Statement) → IsPrefix s later table → (o : Option Expr) (t : List ℕ) (a i : ℕ) (r e : Expr) →
       (operands_chosen s later table b l o).0 ≡ Some e → slice_get (read_by l) i ≡ Some t →
       slice_get (operands_chosen s later table b l o).1 i ≡ Some (replaced a r) → Earlier a t r
-  earlier_of table b l front None t a i r e is operand is_replaced = let bad : ⊥ = cc in absurd bad
-  earlier_of table b l front (Some first) t a i r e is operand is_replaced =
+  earlier_of table b l prefix None t a i r e is operand is_replaced = let bad : ⊥ = cc in absurd bad
+  earlier_of table b l prefix (Some first) t a i r e is operand is_replaced =
       let taken : Taken s later table b l t a r =
       taken_at s later table b l (read_by l) (choices s later table b l [] (read_by l)) i t a r
       (are_chosen s later table b l [] [] (read_by l) tt) operand is_replaced in
       let en : EntryOf s later table a r = entry_of s later table a r taken.from in
-      record { assigned = taken.set.assigns; entry = record { en = en.en; at = front a en.en en.at; is = en.is } }
+      record { assigned = taken.set.assigns; entry = record { en = en.en; at = prefix a en.en en.at; is = en.is } }
 
-  entry_earlier : (table : Table) (b : ℕ) (l : Statement) → slice_get s b ≡ Some l → IsFront s later table →
-      EachEntry s later EntryEarlier table → EntryEarlier b (operands_chosen s later table b l (own l))
-  entry_earlier table b l at front each line t a i r e line_at is operand is_replaced =
+  entry_earlier : (table : Table) (b : ℕ) (l : Statement) → slice_get s b ≡ Some l → IsPrefix s later table →
+      EachEntry s later EntryEarlier table → EntryEarlier b (operands_chosen s later table b l (defining l))
+  entry_earlier table b l at prefix each line t a i r e line_at is operand is_replaced =
       let same : line ≡ l = (let both : Some line ≡ Some l = sym line_at ∙ at in cc) in
-      earlier_of table b l front (own l) t a i r e is (subst (λ (x : Statement). slice_get (read_by x) i ≡ Some t) same operand) is_replaced
+      earlier_of table b l prefix (defining l) t a i r e is (subst (λ (x : Statement). slice_get (read_by x) i ≡ Some t) same operand)
+      is_replaced
 
-  has_own : (k : ℕ) (en : Option Expr × List Choice) (l : Statement) (e : Expr) → slice_get (exprs s later) k ≡ Some en →
-      slice_get s k ≡ Some l → en.0 ≡ Some e → HasOwn (own l)
-  has_own k en l e entry at is =
-      let first = each_entry s later (EntryOwn s later) (entry_own s later) k en entry l e at is in
-      subst (λ (o : Option Expr). HasOwn o) (sym first.1) tt
+  has_defining : (k : ℕ) (en : Option Expr × List Choice) (l : Statement) (e : Expr) → slice_get (exprs s later) k ≡ Some en →
+      slice_get s k ≡ Some l → en.0 ≡ Some e → HasDefining (defining l)
+  has_defining k en l e entry at is =
+      let first = each_entry s later (EntryDefining s later) (entry_defining s later) k en entry l e at is in
+      subst (λ (o : Option Expr). HasDefining o) (sym first.1) tt
 
   module _ (a b : ℕ) (t : List ℕ) (e : Expr) (pair : IsPair s later a b t e) where
     -- the later operation has the pair's expression
@@ -139,7 +142,7 @@ module _ (s : List Statement) (later : List ℕ → ℕ → Bool) where
       operation pair.line e (is_dead later (0 + b) (target_of pair.line)) (is_first (0 + b) (exprs s later)),
       operation_at later (exprs s later) 0 s (exprs s later) b pair.line (Some e, pair.choices) pair.is_line pair.is_expression,
       has_expression pair.line e (is_dead later (0 + b) (target_of pair.line)) (is_first (0 + b) (exprs s later))
-          (has_own b (Some e, pair.choices) pair.line e pair.is_expression pair.is_line refl),
+          (has_defining b (Some e, pair.choices) pair.line e pair.is_expression pair.is_line refl),
     )
 
     -- the earlier one only measures the name
@@ -150,7 +153,8 @@ module _ (s : List Statement) (later : List ℕ → ℕ → Bool) where
         pair.earlier e pair.is_line refl pair.is_operand pair.is_replaced in
         let line : LineAt s a t = line_at s a t earlier.assigned in
         let en : Option Expr × List Choice = earlier.entry.en in
-        let own_is : HasOwn (own line.line) = has_own a en line.line pair.earlier earlier.entry.at line.at earlier.entry.is in
+        let defining_is : HasDefining (defining line.line) = has_defining a en line.line pair.earlier earlier.entry.at line.at
+        earlier.entry.is in
         let first : is_first a (exprs s later) ≡ true =
         first_found a b (exprs s later) (Some e, pair.choices) pair.is_expression
         (some_found a pair.operand pair.earlier pair.choices pair.is_replaced) in
@@ -162,5 +166,5 @@ module _ (s : List Statement) (later : List ℕ → ℕ → Bool) where
               ∙ ap (λ (o : Option Expr). Some (operation line.line (or_nothing o) (is_dead later a (target_of line.line))
               (is_first a (exprs s later)))) earlier.entry.is
               ∙ ap (λ (o : Operation). Some o) (only_measures line.line pair.earlier (is_dead later a (target_of line.line))
-              (is_first a (exprs s later)) t own_is line.assigns_it first),
+              (is_first a (exprs s later)) t defining_is line.assigns_it first),
         )

@@ -13,11 +13,12 @@ use Rattle.cord_syntax.specs.declared.statements.Statement.TheVariants.{Chars, N
 use Rattle.cord_core.proofs.Places.{at_here, some_here}
 use Rattle.cord_plan.specs.Exprs.{Expr, name, names}
 use Rattle.cord_plan.specs.Operands.{count, read_by, target_of, is_name, assigns, assigns_at, reads_at}
-use Rattle.cord_plan.specs.Unread.{Unread, IsLater}
-use Rattle.cord_plan.specs.Forced.{Table, Choice, named, replaced, expr_of, expr_with, first_of, own, setter, fits, is_small, is_block_at}
-use Rattle.cord_plan.specs.Forced.{each_from, preserves, chosen_from, chosen_of, choices, operands_chosen, entry, grown, exprs}
+use Rattle.cord_plan.specs.Liveness.{NotLive, IsLater}
+use Rattle.cord_plan.specs.Inlined.{Table, Choice, named, replaced, expr_of, expr_with, first_of, defining, setter, fits, is_small}
+use Rattle.cord_plan.specs.Inlined.{is_block_at}
+use Rattle.cord_plan.specs.Inlined.{each_from, preserves, chosen_from, chosen_of, choices, operands_chosen, entry, grown, exprs}
 use Rattle.cord_plan.specs.Planned.{or_nothing, operation, operations, is_dead, is_first, some_from, planned}
-use Rattle.cord_plan.specs.Conditions.{Decisions, decided, decided_from, is_simple, is_simple_at, HasKinds, stands, stands_by, IsForced}
+use Rattle.cord_plan.specs.Conditions.{Decisions, decided, decided_from, is_simple, is_simple_at, HasKinds, stands, stands_by, IsInlined}
 use Rattle.cord_plan.specs.Conditions.{MeetsConditions}
 use Rattle.cord_plan.proofs.Chosen.{both_true}
 use Rattle.cord_plan.proofs.Flows.{or_true}
@@ -33,15 +34,15 @@ get_last : {X : Type 0} (xs : List X) (x : X) → slice_get (xs ++ x ∷ []) (le
 get_last [] x = refl
 get_last (z ∷ xs) x = get_last xs x
 
-simple_own : (l : Statement) (e : Expr) → own l ≡ Some e → is_simple l ≡ true
-simple_own (Chars line target byte count) e h = refl
-simple_own (Nul line target count) e h = refl
-simple_own (Cat line target left right) e h = refl
-simple_own (Catn line target parts) e h = refl
-simple_own (Catc line target operand byte) e h = refl
-simple_own (Substr line target operand start count) e h = refl
-simple_own (Put line operand) e h = refl
-simple_own l e h = let bad : ⊥ = cc in absurd bad
+simple_defining : (l : Statement) (e : Expr) → defining l ≡ Some e → is_simple l ≡ true
+simple_defining (Chars line target byte count) e h = refl
+simple_defining (Nul line target count) e h = refl
+simple_defining (Cat line target left right) e h = refl
+simple_defining (Catn line target parts) e h = refl
+simple_defining (Catc line target operand byte) e h = refl
+simple_defining (Substr line target operand start count) e h = refl
+simple_defining (Put line operand) e h = refl
+simple_defining l e h = let bad : ⊥ = cc in absurd bad
 
 -- what a simple line makes of expressions of its operands
 expr_there : (g : List ℕ → Expr) (l : Statement) → is_simple l ≡ true → (e : Expr) × (expr_with l (map g (read_by l)) ≡ Some e)
@@ -54,8 +55,8 @@ expr_there g (Substr line target operand start count) h = (_, refl)
 expr_there g (Put line operand) h = (_, refl)
 expr_there g l h = let bad : ⊥ = cc in absurd bad
 
-pub own_simple : (l : Statement) → is_simple l ≡ true → (e : Expr) × (own l ≡ Some e)
-own_simple l h = expr_there (λ x. name x) l h
+pub defining_simple : (l : Statement) → is_simple l ≡ true → (e : Expr) × (defining l ≡ Some e)
+defining_simple l h = expr_there (λ x. name x) l h
 
 -- a line that assigns both assigns one name
 one_target : (o : Option Statement) (x y : List ℕ) → assigns_at o x ≡ true → assigns_at o y ≡ true → x ≡ y
@@ -75,9 +76,9 @@ record IsLast (s : List Statement) (x : List ℕ) (b a : ℕ) : Type 0 where
   sets : assigns_at (slice_get s a) x ≡ true
   kept_so : (m : ℕ) → a < m → m < b → assigns_at (slice_get s m) x ≡ false
 
-last_told : (s : List Statement) (x : List ℕ) (b a : ℕ) → setter s x b ≡ Some a → IsLast s x b a
-last_told s x zero a e = let bad : ⊥ = cc in absurd bad
-last_told s x (suc b) a e = pick (λ h. last_told s x b a h) (assigns_at (slice_get s b) x) refl e
+last_reported : (s : List Statement) (x : List ℕ) (b a : ℕ) → setter s x b ≡ Some a → IsLast s x b a
+last_reported s x zero a e = let bad : ⊥ = cc in absurd bad
+last_reported s x (suc b) a e = pick (λ h. last_reported s x b a h) (assigns_at (slice_get s b) x) refl e
   where
     pick : (setter s x b ≡ Some a → IsLast s x b a) → (v : Bool) → assigns_at (slice_get s b) x ≡ v →
         (if v then Some b else setter s x b) ≡ Some a → IsLast s x (suc b) a
@@ -160,20 +161,20 @@ has_source (y ∷ xs) (replaced b q ∷ cs) x (suc i) a r e f none = pick (λ n.
     pick rest true n = let bad : ⊥ = cc in bad
     pick rest false n = rest n
 
-some_told : (p : ℕ) (cs : List Choice) → some_from p cs ≡ true → (i : ℕ) × (r : Expr) × (slice_get cs i ≡ Some (replaced p r))
-some_told p [] e = let bad : ⊥ = cc in absurd bad
-some_told p (named x ∷ cs) e = let w = some_told p cs e in (suc w.0, w.1, w.2)
-some_told p (replaced a r ∷ cs) e = pick (λ h. some_told p cs h) (or_true (a == p) (some_from p cs) e)
+some_reported : (p : ℕ) (cs : List Choice) → some_from p cs ≡ true → (i : ℕ) × (r : Expr) × (slice_get cs i ≡ Some (replaced p r))
+some_reported p [] e = let bad : ⊥ = cc in absurd bad
+some_reported p (named x ∷ cs) e = let w = some_reported p cs e in (suc w.0, w.1, w.2)
+some_reported p (replaced a r ∷ cs) e = pick (λ h. some_reported p cs h) (or_true (a == p) (some_from p cs) e)
   where
     pick : (some_from p cs ≡ true → (i : ℕ) × (r : Expr) × (slice_get cs i ≡ Some (replaced p r))) → ((a == p) ≡ true) ⊎
         (some_from p cs ≡ true) → (i : ℕ) × (q : Expr) × (slice_get (replaced a r ∷ cs) i ≡ Some (replaced p q))
     pick rest (inl h) = (0, r, ap (λ (n : ℕ). Some (replaced n r)) (eqb-true a p h))
     pick rest (inr h) = let w = rest h in (suc w.0, w.1, w.2)
 
-first_told : (p : ℕ) (table : Table) → is_first p table ≡ true → (b : ℕ) × (en : Option Expr × List Choice) ×
+first_reported : (p : ℕ) (table : Table) → is_first p table ≡ true → (b : ℕ) × (en : Option Expr × List Choice) ×
     (slice_get table b ≡ Some en) × (some_from p en.1 ≡ true)
-first_told p [] e = let bad : ⊥ = cc in absurd bad
-first_told p (en ∷ table) e = pick (λ h. first_told p table h) (or_true (some_from p en.1) (is_first p table) e)
+first_reported p [] e = let bad : ⊥ = cc in absurd bad
+first_reported p (en ∷ table) e = pick (λ h. first_reported p table h) (or_true (some_from p en.1) (is_first p table) e)
   where
     pick : (is_first p table ≡ true → (b : ℕ) × (en : Option Expr × List Choice) × (slice_get table b ≡ Some en) ×
         (some_from p en.1 ≡ true)) → (some_from p en.1 ≡ true) ⊎ (is_first p table ≡ true) → (b : ℕ) ×
@@ -248,13 +249,13 @@ module _ (s : List Statement) (later : List ℕ → ℕ → Bool) where
   -- what is known where the expression r of the line at a stands for x in the line l at b
   record IsFit (r : Expr) (a b : ℕ) (l : Statement) (x : List ℕ) : Type 0 where
     straight : (m : ℕ) → a < m → m < b → is_block_at (slice_get s m) ≡ false
-    unread : (m : ℕ) → a < m → m < b → reads_at (slice_get s m) x ≡ false
+    not_live : (m : ℕ) → a < m → m < b → reads_at (slice_get s m) x ≡ false
     once : count x (read_by l) ≡ 1
     later_or : (assigns l x ≡ true) ⊎ (later x b ≡ false)
     fixed : (m : ℕ) → a ≤ m → m < b → preserves (slice_get s m) (names r) ≡ true
 
-  fit_told : (r : Expr) (a b : ℕ) (l : Statement) (x : List ℕ) → fits s later r a b l x ≡ true → IsFit r a b l x
-  fit_told r a b l x h =
+  fit_reported : (r : Expr) (a b : ℕ) (l : Statement) (x : List ℕ) → fits s later r a b l x ≡ true → IsFit r a b l x
+  fit_reported r a b l x h =
       let quiet : ℕ → Bool = λ m. not (is_block_at (slice_get s m)) && not (reads_at (slice_get s m) x) in
       let preserved : ℕ → Bool = λ m. preserves (slice_get s m) (names r) in
       let p = both_true (each_from quiet (b - (a + 1)) (a + 1))
@@ -266,7 +267,7 @@ module _ (s : List Statement) (later : List ℕ → ℕ → Bool) where
       record {
         straight = λ m low high. not_true (is_block_at (slice_get s m))
             (both_true (not (is_block_at (slice_get s m))) (not (reads_at (slice_get s m) x)) (between m low high)).0;
-        unread = λ m low high. not_true (reads_at (slice_get s m) x)
+        not_live = λ m low high. not_true (reads_at (slice_get s m) x)
             (both_true (not (is_block_at (slice_get s m))) (not (reads_at (slice_get s m) x)) (between m low high)).1;
         once = eqb-true (count x (read_by l)) 1 q.0;
         later_or = ⊎_elim (λ (e : assigns l x ≡ true). inl e) (λ (e : not (later x b) ≡ true). inr (not_true (later x b) e))
@@ -281,31 +282,31 @@ module _ (s : List Statement) (later : List ℕ → ℕ → Bool) where
   grown_keeps : (table : Table) (b : ℕ) (rest : List Statement) (k : ℕ) (en : Option Expr × List Choice) → slice_get table k ≡ Some en →
       slice_get (grown s later table b rest) k ≡ Some en
   grown_keeps table b [] k en e = e
-  grown_keeps table b (l ∷ rest) k en e = grown_keeps (table ++ operands_chosen s later table b l (own l) ∷ []) (b + 1) rest k en
-      (get_append table (operands_chosen s later table b l (own l) ∷ []) k en e)
+  grown_keeps table b (l ∷ rest) k en e = grown_keeps (table ++ operands_chosen s later table b l (defining l) ∷ []) (b + 1) rest k en
+      (get_append table (operands_chosen s later table b l (defining l) ∷ []) k en e)
 
   pub grown_length : (table : Table) (b : ℕ) (rest : List Statement) → length (grown s later table b rest) ≡ length table + length rest
   grown_length table b [] = omega arith
   grown_length table b (l ∷ rest) =
-      let ih : length (grown s later (table ++ operands_chosen s later table b l (own l) ∷ []) (b + 1) rest)
-      ≡ length (table ++ operands_chosen s later table b l (own l) ∷ []) + length rest =
-      grown_length (table ++ operands_chosen s later table b l (own l) ∷ []) (b + 1) rest in
-      let long : length (table ++ operands_chosen s later table b l (own l) ∷ []) ≡ length table + 1 =
-      length-append table (operands_chosen s later table b l (own l) ∷ []) in
+      let ih : length (grown s later (table ++ operands_chosen s later table b l (defining l) ∷ []) (b + 1) rest)
+      ≡ length (table ++ operands_chosen s later table b l (defining l) ∷ []) + length rest =
+      grown_length (table ++ operands_chosen s later table b l (defining l) ∷ []) (b + 1) rest in
+      let long : length (table ++ operands_chosen s later table b l (defining l) ∷ []) ≡ length table + 1 =
+      length-append table (operands_chosen s later table b l (defining l) ∷ []) in
       omega (arith, ih, long)
 
-  -- the entry of a line, chosen over a front of the table
+  -- the entry of a line, chosen over a prefix of the table
   record EntryAt (final : Table) (b : ℕ) (l : Statement) : Type 0 where
-    front : Table
-    keeps_on : (k : ℕ) (en : Option Expr × List Choice) → slice_get front k ≡ Some en → slice_get final k ≡ Some en
-    entry_is : slice_get final b ≡ Some (operands_chosen s later front b l (own l))
+    prefix : Table
+    keeps_on : (k : ℕ) (en : Option Expr × List Choice) → slice_get prefix k ≡ Some en → slice_get final k ≡ Some en
+    entry_is : slice_get final b ≡ Some (operands_chosen s later prefix b l (defining l))
 
   grown_at : (table : Table) (rest : List Statement) (k : ℕ) (l : Statement) → slice_get rest k ≡ Some l →
       EntryAt (grown s later table (length table) rest) (length table + k) l
   grown_at table [] k l e = let bad : ⊥ = cc in absurd bad
   grown_at table (m ∷ rest) zero l e =
       let b : ℕ = length table in
-      let en : Option Expr × List Choice = operands_chosen s later table b m (own m) in
+      let en : Option Expr × List Choice = operands_chosen s later table b m (defining m) in
       let same : m ≡ l = cc in
       let place : b ≡ b + 0 = omega arith in
       let here : slice_get (grown s later (table ++ en ∷ []) (b + 1) rest) b ≡ Some en =
@@ -313,13 +314,13 @@ module _ (s : List Statement) (later : List ℕ → ℕ → Bool) where
       subst (λ (n : ℕ). EntryAt (grown s later (table ++ en ∷ []) (b + 1) rest) n l) place
       (subst (λ (w : Statement). EntryAt (grown s later (table ++ en ∷ []) (b + 1) rest) b w) same
       (record {
-        front = table;
+        prefix = table;
         keeps_on = λ k old f. grown_keeps (table ++ en ∷ []) (b + 1) rest k old (get_append table (en ∷ []) k old f);
         entry_is = here;
       }))
   grown_at table (m ∷ rest) (suc k) l e =
       let b : ℕ = length table in
-      let en : Option Expr × List Choice = operands_chosen s later table b m (own m) in
+      let en : Option Expr × List Choice = operands_chosen s later table b m (defining m) in
       let long : length (table ++ en ∷ []) ≡ b + 1 = length-append table (en ∷ []) in
       let place : length (table ++ en ∷ []) + k ≡ b + suc k = omega (arith, long) in
       subst (λ (n : ℕ). EntryAt (grown s later (table ++ en ∷ []) n rest) (b + suc k) l) long
@@ -379,20 +380,20 @@ module _ (s : List Statement) (later : List ℕ → ℕ → Bool) where
     at = entry_at b l here
 
     abbrev chosen_here : List Choice
-    chosen_here = choices s later at.front b l [] (read_by l)
+    chosen_here = choices s later at.prefix b l [] (read_by l)
 
-    picked_here : ArePicked at.front b l (read_by l) chosen_here
-    picked_here = all_picked at.front b l [] [] (read_by l) tt
+    picked_here : ArePicked at.prefix b l (read_by l) chosen_here
+    picked_here = all_picked at.prefix b l [] [] (read_by l) tt
 
-    module _ (e : Expr) (own_is : own l ≡ Some e) where
+    module _ (e : Expr) (defining_is : defining l ≡ Some e) where
       entry_chosen : slice_get whole_table b ≡ Some (expr_with l (map (λ c. expr_of c) chosen_here), chosen_here)
-      entry_chosen = at.entry_is ∙ ap (λ (o : Option Expr). Some (operands_chosen s later at.front b l o)) own_is
+      entry_chosen = at.entry_is ∙ ap (λ (o : Option Expr). Some (operands_chosen s later at.prefix b l o)) defining_is
 
       -- an expression that was taken is that of its line
-      taken_is : (x : List ℕ) (a : ℕ) (r : Expr) → Picked at.front b l x (replaced a r) → decisions.exprs a ≡ r
-      taken_is x a r h = pick (slice_get at.front a) refl
+      taken_is : (x : List ℕ) (a : ℕ) (r : Expr) → Picked at.prefix b l x (replaced a r) → decisions.exprs a ≡ r
+      taken_is x a r h = pick (slice_get at.prefix a) refl
         where
-          pick : (o : Option (Option Expr × List Choice)) → slice_get at.front a ≡ o → decisions.exprs a ≡ r
+          pick : (o : Option (Option Expr × List Choice)) → slice_get at.prefix a ≡ o → decisions.exprs a ≡ r
           pick None f = let gone : first_of None ≡ Some r = ap first_of (sym f) ∙ h.1 in let bad : ⊥ = cc in absurd bad
           pick (Some en) f = ap (λ (o : Option (Option Expr × List Choice)). or_nothing (first_of o)) (at.keeps_on a en f)
               ∙ ap or_nothing (ap first_of (sym f) ∙ h.1)
@@ -402,43 +403,43 @@ module _ (s : List Statement) (later : List ℕ → ℕ → Bool) where
 
       -- what stands for the operand at a place is its choice's expression
       stands_here : (i : ℕ) (x : List ℕ) (c : Choice) → slice_get (read_by l) i ≡ Some x → slice_get chosen_here i ≡ Some c →
-          Picked at.front b l x c → (o : Option ℕ) → source_in (read_by l) chosen_here x ≡ o → stands_by decisions.exprs o x ≡ expr_of c
+          Picked at.prefix b l x c → (o : Option ℕ) → source_in (read_by l) chosen_here x ≡ o → stands_by decisions.exprs o x ≡ expr_of c
       stands_here i x (named y) operand choice h None source = ap (λ (w : List ℕ). name w) (sym h)
       stands_here i x (replaced a r) operand choice h None source =
           absurd (has_source (read_by l) chosen_here x i a r operand choice source)
       stands_here i x c operand choice h (Some a) source =
           let f : Found (read_by l) chosen_here x a = found (read_by l) chosen_here x a source in
-          let p : Picked at.front b l x (replaced a f.expression) =
-          picked_at at.front b l (read_by l) chosen_here f.place x a f.expression picked_here f.operand f.choice in
-          let once : count x (read_by l) ≡ 1 = (fit_told f.expression a b l x p.2).once in
+          let p : Picked at.prefix b l x (replaced a f.expression) =
+          picked_at at.prefix b l (read_by l) chosen_here f.place x a f.expression picked_here f.operand f.choice in
+          let once : count x (read_by l) ≡ 1 = (fit_reported f.expression a b l x p.2).once in
           let place : i ≡ f.place = one_place x (read_by l) i f.place once operand f.operand in
           let same : Some c ≡ Some (replaced a f.expression) = sym choice ∙ ap (λ (n : ℕ). slice_get chosen_here n) place ∙ f.choice in
           let is : c ≡ replaced a f.expression = cc in
           taken_is x a f.expression p ∙ ap expr_of (sym is)
 
-      all_stand : (xs : List (List ℕ)) (cs : List Choice) → ArePicked at.front b l xs cs →
-          ((i : ℕ) (x : List ℕ) (c : Choice) → slice_get xs i ≡ Some x → slice_get cs i ≡ Some c → Picked at.front b l x c →
+      all_stand : (xs : List (List ℕ)) (cs : List Choice) → ArePicked at.prefix b l xs cs →
+          ((i : ℕ) (x : List ℕ) (c : Choice) → slice_get xs i ≡ Some x → slice_get cs i ≡ Some c → Picked at.prefix b l x c →
           stands decisions b x ≡ expr_of c) → map (λ x. stands decisions b x) xs ≡ map (λ c. expr_of c) cs
       all_stand [] [] h each = refl
       all_stand [] (c ∷ cs) h each = absurd h
       all_stand (x ∷ xs) [] h each = absurd h
       all_stand (x ∷ xs) (c ∷ cs) h each = λ i. each 0 x c refl refl h.0 i ∷ all_stand xs cs h.1 (λ k y d e f g. each (suc k) y d e f g) i
 
-      own_stands : expr_with l (map (λ x. stands decisions b x) (read_by l)) ≡ expr_with l (map (λ c. expr_of c) chosen_here)
-      own_stands = ap (λ (es : List Expr). expr_with l es) (all_stand (read_by l) chosen_here picked_here
+      defining_stands : expr_with l (map (λ x. stands decisions b x) (read_by l)) ≡ expr_with l (map (λ c. expr_of c) chosen_here)
+      defining_stands = ap (λ (es : List Expr). expr_with l es) (all_stand (read_by l) chosen_here picked_here
           (λ i x c operand choice h. stands_here i x c operand choice h (decisions.source b x) (sym (source_is x))))
 
   -- the line at a place that has an expression
-  simple_with_own : (a : ℕ) (r : Expr) (en : Option Expr × List Choice) → slice_get whole_table a ≡ Some en → en.0 ≡ Some r →
+  simple_with_defining : (a : ℕ) (r : Expr) (en : Option Expr × List Choice) → slice_get whole_table a ≡ Some en → en.0 ≡ Some r →
       (l : Statement) → slice_get s a ≡ Some l → is_simple l ≡ true
-  simple_with_own a r en e first l here = pick (own l) refl
+  simple_with_defining a r en e first l here = pick (defining l) refl
     where
-      pick : (o : Option Expr) → own l ≡ o → is_simple l ≡ true
-      pick (Some first) f = simple_own l first f
+      pick : (o : Option Expr) → defining l ≡ o → is_simple l ≡ true
+      pick (Some first) f = simple_defining l first f
       pick None f =
-          let same : Some en ≡ Some (operands_chosen s later (entry_at a l here).front a l None) =
+          let same : Some en ≡ Some (operands_chosen s later (entry_at a l here).prefix a l None) =
           sym e ∙ (entry_at a l here).entry_is
-          ∙ ap (λ (o : Option Expr). Some (operands_chosen s later (entry_at a l here).front a l o)) f in
+          ∙ ap (λ (o : Option Expr). Some (operands_chosen s later (entry_at a l here).prefix a l o)) f in
           let none : en.0 ≡ None = ap (λ (o : Option (Option Expr × List Choice)). first_of o) same in
           let bad : ⊥ = (let clash : Some r ≡ None = sym first ∙ none in cc) in
           absurd bad
@@ -451,108 +452,110 @@ module _ (s : List Statement) (later : List ℕ → ℕ → Bool) where
       pick None f = let none : false ≡ true = ap (λ (o : Option Statement). assigns_at o x) (sym f) ∙ e in let bad : ⊥ = cc in absurd bad
       pick (Some l) f = (l, f)
 
-  module _ (told : IsLater s later) where
-    module _ (b : ℕ) (l : Statement) (here : slice_get s b ≡ Some l) (e : Expr) (own_is : own l ≡ Some e) where
-      forced_here : (a : ℕ) (x : List ℕ) → decisions.source b x ≡ Some a → IsForced s decisions a b x
-      forced_here a x from =
+  module _ (reported : IsLater s later) where
+    module _ (b : ℕ) (l : Statement) (here : slice_get s b ≡ Some l) (e : Expr) (defining_is : defining l ≡ Some e) where
+      inlined_here : (a : ℕ) (x : List ℕ) → decisions.source b x ≡ Some a → IsInlined s decisions a b x
+      inlined_here a x from =
           let f : Found (read_by l) (chosen_here b l here) x a =
-          found (read_by l) (chosen_here b l here) x a (sym (source_is b l here e own_is x) ∙ from) in
-          let p : Picked (at b l here).front b l x (replaced a f.expression) =
-          picked_at (at b l here).front b l (read_by l) (chosen_here b l here) f.place x a f.expression (picked_here b l here)
+          found (read_by l) (chosen_here b l here) x a (sym (source_is b l here e defining_is x) ∙ from) in
+          let p : Picked (at b l here).prefix b l x (replaced a f.expression) =
+          picked_at (at b l here).prefix b l (read_by l) (chosen_here b l here) f.place x a f.expression (picked_here b l here)
           f.operand f.choice in
-          let last : IsLast s x b a = last_told s x b a p.0 in
-          let fit : IsFit f.expression a b l x = fit_told f.expression a b l x p.2 in
+          let last : IsLast s x b a = last_reported s x b a p.0 in
+          let fit : IsFit f.expression a b l x = fit_reported f.expression a b l x p.2 in
           let line = assigning_line a x last.sets in
-          let second : is_simple_at (slice_get s b) ≡ true = ap is_simple_at here ∙ simple_own l e own_is in
+          let second : is_simple_at (slice_get s b) ≡ true = ap is_simple_at here ∙ simple_defining l e defining_is in
           record {
             before = last.before;
-            first = ap is_simple_at line.1 ∙ first_simple f.expression line.0 line.1 (slice_get (at b l here).front a) refl p.1;
+            first = ap is_simple_at line.1 ∙ first_simple f.expression line.0 line.1 (slice_get (at b l here).prefix a) refl p.1;
             second = second;
             sets = last.sets;
             unassigned = last.kept_so;
             straight = fit.straight;
-            unread = fit.unread;
+            not_live = fit.not_live;
             later = ⊎_elim (λ (g : assigns l x ≡ true). inl (ap (λ (o : Option Statement). assigns_at o x) here ∙ g))
-                (λ (g : later x b ≡ false). inr (told.unread x b g)) fit.later_or;
-            fixed = λ m low high. ap (λ (r : Expr). preserves (slice_get s m) (names r)) (taken_is b l here e own_is x a f.expression p)
+                (λ (g : later x b ≡ false). inr (reported.not_live x b g)) fit.later_or;
+            fixed = λ m low high. ap (λ (r : Expr). preserves (slice_get s m) (names r))
+                (taken_is b l here e defining_is x a f.expression p)
                 ∙ fit.fixed m low high;
           }
         where
           first_simple : (r : Expr) (k : Statement) → slice_get s a ≡ Some k → (o : Option (Option Expr × List Choice)) →
-              slice_get (at b l here).front a ≡ o → first_of (slice_get (at b l here).front a) ≡ Some r → is_simple k ≡ true
+              slice_get (at b l here).prefix a ≡ o → first_of (slice_get (at b l here).prefix a) ≡ Some r → is_simple k ≡ true
           first_simple r k line None g h = let gone : first_of None ≡ Some r = ap first_of (sym g) ∙ h in let bad : ⊥ = cc in absurd bad
-          first_simple r k line (Some en) g h = simple_with_own a r en ((at b l here).keeps_on a en g) (ap first_of (sym g) ∙ h) k line
+          first_simple r k line (Some en) g h = simple_with_defining a r en ((at b l here).keeps_on a en g) (ap first_of (sym g) ∙ h) k line
 
-      own_here : is_simple l ≡ true → expr_with l (map (λ x. stands decisions b x) (read_by l)) ≡ Some (decisions.exprs b)
-      own_here simple =
+      defining_here : is_simple l ≡ true → expr_with l (map (λ x. stands decisions b x) (read_by l)) ≡ Some (decisions.exprs b)
+      defining_here simple =
           let w = expr_there (λ x. stands decisions b x) l simple in
           let is : decisions.exprs b ≡ w.0 =
-          ap (λ (o : Option (Option Expr × List Choice)). or_nothing (first_of o)) (entry_chosen b l here e own_is)
-          ∙ ap or_nothing (sym (own_stands b l here e own_is) ∙ w.1) in
+          ap (λ (o : Option (Option Expr × List Choice)). or_nothing (first_of o)) (entry_chosen b l here e defining_is)
+          ∙ ap or_nothing (sym (defining_stands b l here e defining_is) ∙ w.1) in
           w.1 ∙ ap (λ (r : Expr). Some r) (sym is)
 
-    forced_at : (a b : ℕ) (x : List ℕ) → decisions.source b x ≡ Some a → IsForced s decisions a b x
-    forced_at a b x from = pick (slice_get s b) refl
+    inlined_at : (a b : ℕ) (x : List ℕ) → decisions.source b x ≡ Some a → IsInlined s decisions a b x
+    inlined_at a b x from = pick (slice_get s b) refl
       where
-        by_own : (l : Statement) → slice_get s b ≡ Some l → (o : Option Expr) → own l ≡ o → IsForced s decisions a b x
-        by_own l here (Some e) f = forced_here b l here e f a x from
-        by_own l here None f =
+        by_defining : (l : Statement) → slice_get s b ≡ Some l → (o : Option Expr) → defining l ≡ o → IsInlined s decisions a b x
+        by_defining l here (Some e) f = inlined_here b l here e f a x from
+        by_defining l here None f =
             let entry_is : slice_get whole_table b ≡ Some (None, []) =
-            (entry_at b l here).entry_is ∙ ap (λ (o : Option Expr). Some (operands_chosen s later (entry_at b l here).front b l o)) f in
+            (entry_at b l here).entry_is ∙ ap (λ (o : Option Expr). Some (operands_chosen s later (entry_at b l here).prefix b l o)) f in
             let none : decisions.source b x ≡ None =
             (λ i. source_in (read_at (here i)) (choices_at (entry_is i)) x) ∙ no_choices (read_by l) x in
             let bad : None ≡ Some a = sym none ∙ from in
             let no_one : ⊥ = cc in
             absurd no_one
 
-        pick : (o : Option Statement) → slice_get s b ≡ o → IsForced s decisions a b x
+        pick : (o : Option Statement) → slice_get s b ≡ o → IsInlined s decisions a b x
         pick None f =
             let none : decisions.source b x ≡ None = λ i. source_in (read_at (f i)) (choices_at (slice_get whole_table b)) x in
             let bad : None ≡ Some a = sym none ∙ from in
             let no_one : ⊥ = cc in
             absurd no_one
-        pick (Some l) f = by_own l f (own l) refl
+        pick (Some l) f = by_defining l f (defining l) refl
 
-    dead_at : (p : ℕ) (x : List ℕ) → decisions.dead p ≡ true → assigns_at (slice_get s p) x ≡ true → Unread s x p
+    dead_at : (p : ℕ) (x : List ℕ) → decisions.dead p ≡ true → assigns_at (slice_get s p) x ≡ true → NotLive s x p
     dead_at p x e f = pick (slice_get s p) e f
       where
-        by_target : (t : Option (List ℕ)) → is_dead later p t ≡ true → is_name t x ≡ true → Unread s x p
+        by_target : (t : Option (List ℕ)) → is_dead later p t ≡ true → is_name t x ≡ true → NotLive s x p
         by_target None e f = let bad : ⊥ = cc in absurd bad
-        by_target (Some z) e f = subst (λ (y : List ℕ). Unread s y p) (sym ((bytes_eq-Decides x z).0 f))
-            (told.unread z p (not_true (later z p) e))
+        by_target (Some z) e f = subst (λ (y : List ℕ). NotLive s y p) (sym ((bytes_eq-Decides x z).0 f))
+            (reported.not_live z p (not_true (later z p) e))
 
-        pick : (o : Option Statement) → is_dead later p (target_at o) ≡ true → assigns_at o x ≡ true → Unread s x p
+        pick : (o : Option Statement) → is_dead later p (target_at o) ≡ true → assigns_at o x ≡ true → NotLive s x p
         pick None e f = let bad : ⊥ = cc in absurd bad
         pick (Some l) e f = by_target (target_of l) e f
 
     paired_at : (p : ℕ) (x : List ℕ) → decisions.paired p ≡ true → assigns_at (slice_get s p) x ≡ true → (b : ℕ) ×
         (decisions.source b x ≡ Some p)
     paired_at p x e f =
-        let w = first_told p whole_table e in
-        let c = some_told p w.1.1 w.3 in
+        let w = first_reported p whole_table e in
+        let c = some_reported p w.1.1 w.3 in
         by_line w.0 w.1 w.2 c.0 c.1 c.2 (slice_get s w.0) refl
       where
-        by_own : (b : ℕ) (en : Option Expr × List Choice) → slice_get whole_table b ≡ Some en → (i : ℕ) (r : Expr) →
-            slice_get en.1 i ≡ Some (replaced p r) → (l : Statement) → slice_get s b ≡ Some l → (o : Option Expr) → own l ≡ o → (b : ℕ) ×
+        by_defining : (b : ℕ) (en : Option Expr × List Choice) → slice_get whole_table b ≡ Some en → (i : ℕ) (r : Expr) →
+            slice_get en.1 i ≡ Some (replaced p r) → (l : Statement) → slice_get s b ≡ Some l → (o : Option Expr) → defining l ≡ o → (b : ℕ)
+            ×
             (decisions.source b x ≡ Some p)
-        by_own b en entry i r choice l here None g =
+        by_defining b en entry i r choice l here None g =
             let same : Some en ≡ Some (None, []) =
             sym entry ∙ (entry_at b l here).entry_is
-            ∙ ap (λ (o : Option Expr). Some (operands_chosen s later (entry_at b l here).front b l o)) g in
+            ∙ ap (λ (o : Option Expr). Some (operands_chosen s later (entry_at b l here).prefix b l o)) g in
             let none : en.1 ≡ [] = ap (λ (o : Option (Option Expr × List Choice)). choices_at o) same in
             let gone : slice_get {X = Choice} [] i ≡ Some (replaced p r) = ap (λ (cs : List Choice). slice_get cs i) (sym none) ∙ choice in
             let bad : ⊥ = cc in
             absurd bad
-        by_own b en entry i r choice l here (Some first) g =
+        by_defining b en entry i r choice l here (Some first) g =
             let same : Some en ≡ Some (expr_with l (map (λ c. expr_of c) (chosen_here b l here)), chosen_here b l here) =
             sym entry ∙ entry_chosen b l here first g in
             let cs_is : en.1 ≡ chosen_here b l here = ap (λ (o : Option (Option Expr × List Choice)). choices_at o) same in
             let chosen : slice_get (chosen_here b l here) i ≡ Some (replaced p r) =
             ap (λ (cs : List Choice). slice_get cs i) (sym cs_is) ∙ choice in
-            let y = operand_of (at b l here).front b l (read_by l) (chosen_here b l here) i (replaced p r) (picked_here b l here) chosen in
-            let q : Picked (at b l here).front b l y.0 (replaced p r) =
-            picked_at (at b l here).front b l (read_by l) (chosen_here b l here) i y.0 p r (picked_here b l here) y.1 chosen in
-            let last : IsLast s y.0 b p = last_told s y.0 b p q.0 in
+            let y = operand_of (at b l here).prefix b l (read_by l) (chosen_here b l here) i (replaced p r) (picked_here b l here) chosen in
+            let q : Picked (at b l here).prefix b l y.0 (replaced p r) =
+            picked_at (at b l here).prefix b l (read_by l) (chosen_here b l here) i y.0 p r (picked_here b l here) y.1 chosen in
+            let last : IsLast s y.0 b p = last_reported s y.0 b p q.0 in
             let name_is : x ≡ y.0 = one_target (slice_get s p) x y.0 f last.sets in
             (b, by_source y.0 name_is (source_in (read_by l) (chosen_here b l here) y.0) refl q.0 y.1 chosen)
           where
@@ -563,14 +566,14 @@ module _ (s : List Statement) (later : List ℕ → ℕ → Bool) where
                 (has_source (read_by l) (chosen_here b l here) y i p r operand chosen source)
             by_source y same (Some a) source set operand chosen =
                 let t : Found (read_by l) (chosen_here b l here) y a = found (read_by l) (chosen_here b l here) y a source in
-                let other : Picked (at b l here).front b l y (replaced a t.expression) =
-                picked_at (at b l here).front b l (read_by l) (chosen_here b l here) t.place y a t.expression (picked_here b l here)
+                let other : Picked (at b l here).prefix b l y (replaced a t.expression) =
+                picked_at (at b l here).prefix b l (read_by l) (chosen_here b l here) t.place y a t.expression (picked_here b l here)
                 t.operand t.choice in
                 ap (λ (w : List ℕ). decisions.source b w) same ∙ source_is b l here first g y ∙ source ∙ sym other.0 ∙ set
 
         by_line : (b : ℕ) (en : Option Expr × List Choice) → slice_get whole_table b ≡ Some en → (i : ℕ) (r : Expr) →
             slice_get en.1 i ≡ Some (replaced p r) → (o : Option Statement) → slice_get s b ≡ o → (b : ℕ) × (decisions.source b x ≡ Some p)
-        by_line b en entry i r choice (Some l) here = by_own b en entry i r choice l here (own l) refl
+        by_line b en entry i r choice (Some l) here = by_defining b en entry i r choice l here (defining l) refl
         by_line b en entry i r choice None here =
             let none : length {A = Option Expr × List Choice} [] ≡ 0 = refl in
             let long : length whole_table ≡ length {A = Option Expr × List Choice} [] + length s = grown_length [] 0 s in
@@ -583,8 +586,8 @@ module _ (s : List Statement) (later : List ℕ → ℕ → Bool) where
     pub meets : HasKinds s → MeetsConditions s decisions
     meets kinds = record {
       kinds = kinds;
-      own = λ p l here simple. (let o = own_simple l simple in own_here p l here o.0 o.1 simple);
-      forced = forced_at;
+      defining = λ p l here simple. (let o = defining_simple l simple in defining_here p l here o.0 o.1 simple);
+      inlined = inlined_at;
       dead = dead_at;
       paired = paired_at;
     }

@@ -38,10 +38,10 @@ get_last : {A : Type 0} (xs : List A) (last : A) → slice_get (xs ++ last ∷ [
 get_last [] last = refl
 get_last (z ∷ xs) last = get_last xs last
 
--- one item more, told by its place
-pub told_more : {A : Type 0} (f : ℕ → A) (old new : List A) (made : A) (n : ℕ) → new ≡ old ++ made ∷ [] → length old ≡ n → made ≡ f n →
+-- one item more, reported by its place
+pub reported_more : {A : Type 0} (f : ℕ → A) (old new : List A) (made : A) (n : ℕ) → new ≡ old ++ made ∷ [] → length old ≡ n → made ≡ f n →
     ((k : ℕ) → k < n → slice_get old k ≡ Some (f k)) → (k : ℕ) → k < n + 1 → slice_get new k ≡ Some (f k)
-told_more {A} f old new made n items size is before k lt = ap (λ (xs : List A). slice_get xs k) items
+reported_more {A} f old new made n items size is before k lt = ap (λ (xs : List A). slice_get xs k) items
     ∙ by_place (eq-or-lt_of_le (omega arith))
   where
     by_place : (k ≡ n) ⊎ (k < n) → slice_get (old ++ made ∷ []) k ≡ Some (f k)

@@ -127,7 +127,7 @@ read_kinds g b s read p q x assigned = no_true (reads_at (slice_get s q) x)
     clash (Some l) e f (Some m) here r =
         let one : IsSaid l last = line_said g read.lines 1 start s p l read.say e in
         let two : IsSaid m last = line_said g read.lines 1 start s q m read.say here in
-        apart (on (names_after (terms_of l) one.scope.names) one.behind_stays.kept (other_assigned one.scope x l one.allowed f))
+        apart (on (names_after (terms_of l) one.scope.names) one.after_stays.kept (other_assigned one.scope x l one.allowed f))
         (two.stays.kept x kinds.Cord (read_known two.scope x m two.allowed r))
       where
         on : (names : List Known) → ((y : List ℕ) (k : Kind) → kind_of names y ≡ Some k → kind_of last y ≡ Some k) → IsOther names x →

@@ -16,7 +16,7 @@ use Rattle.cord_script.specs.Script.{Scope, kind_of, with_name, names_after, aft
 use Rattle.cord_script.specs.Script.{start}
 use Rattle.cord_plan.specs.Exprs.{Expr, number_names}
 use Rattle.cord_plan.specs.Operands.{has, read_by}
-use Rattle.cord_plan.specs.Forced.{own}
+use Rattle.cord_plan.specs.Inlined.{defining}
 use Rattle.cord_plan.specs.Pairs.{numbers_named, numbers_named_at, IsNoNumber}
 use Rattle.cord_plan.proofs.Flows.{or_true}
 use Rattle.cord_plan.proofs.Named.{has_append, no_true, same_bytes}
@@ -25,9 +25,9 @@ use Rattle.cord_plan.proofs.Named.{has_append, no_true, same_bytes}
 pub record Stays (old new : List Known) : Type 0 where
   pub kept : (y : List ℕ) (k : Kind) → kind_of old y ≡ Some k → kind_of new y ≡ Some k
 
-kind_behind : (names more : List Known) (y : List ℕ) (k : Kind) → kind_of names y ≡ Some k → kind_of (names ++ more) y ≡ Some k
-kind_behind [] more y k e = let bad : ⊥ = cc in absurd bad
-kind_behind (n ∷ names) more y k e = pick (bytes_eq n.name y) e (λ h. kind_behind names more y k h)
+kind_after : (names more : List Known) (y : List ℕ) (k : Kind) → kind_of names y ≡ Some k → kind_of (names ++ more) y ≡ Some k
+kind_after [] more y k e = let bad : ⊥ = cc in absurd bad
+kind_after (n ∷ names) more y k e = pick (bytes_eq n.name y) e (λ h. kind_after names more y k h)
   where
     pick : (v : Bool) → (if v then Some n.kind else kind_of names y) ≡ Some k →
         (kind_of names y ≡ Some k → kind_of (names ++ more) y ≡ Some k) → (if v then Some n.kind else kind_of (names ++ more) y) ≡ Some k
@@ -40,7 +40,7 @@ name_stays names x j = record { kept = λ y k e. pick (is_some (kind_of names x)
     pick : (v : Bool) (y : List ℕ) (k : Kind) → kind_of names y ≡ Some k →
         kind_of (if v then names else names ++ record { name = x; kind = j } ∷ []) y ≡ Some k
     pick true y k e = e
-    pick false y k e = kind_behind names (record { name = x; kind = j } ∷ []) y k e
+    pick false y k e = kind_after names (record { name = x; kind = j } ∷ []) y k e
 
 terms_stay : (ts : List Term) (names : List Known) → Stays names (names_after ts names)
 terms_stay [] names = record { kept = λ y k e. e }
@@ -66,7 +66,7 @@ pub record IsSaid (l : Statement) (last : List Known) : Type 0 where
   pub scope : Scope
   pub allowed : AreAllowed scope (terms_of l)
   pub stays : Stays scope.names last
-  pub behind_stays : Stays (names_after (terms_of l) scope.names) last
+  pub after_stays : Stays (names_after (terms_of l) scope.names) last
 
 module _ (g : Grammar) where
   pub line_said : (lines : List (List ℕ)) (n : ℕ) (scope : Scope) (ss : List Statement) (p : ℕ) (l : Statement) →
@@ -90,7 +90,7 @@ module _ (g : Grammar) where
             scope = scope;
             allowed = says.allowed;
             stays = lines_stay (s ∷ rest) scope;
-            behind_stays = lines_stay rest (after s scope);
+            after_stays = lines_stay rest (after s scope);
           })
       at (suc k) h later = later k h
 
@@ -129,11 +129,11 @@ operands_known scope (x ∷ xs) zero y h e =
     subst (λ (z : List ℕ). kind_of scope.names z ≡ Some kinds.Cord) same h.0
 operands_known scope (x ∷ xs) (suc k) y h e = operands_known scope xs k y h.1 e
 
-abbrev pub HasOwn : Option Expr → Type 0
-HasOwn None = ⊥
-HasOwn (Some e) = Unit {0}
+abbrev pub HasDefining : Option Expr → Type 0
+HasDefining None = ⊥
+HasDefining (Some e) = Unit {0}
 
-reads_known : (l : Statement) (scope : Scope) (k : ℕ) (y : List ℕ) → HasOwn (own l) → AreAllowed scope (terms_of l) →
+reads_known : (l : Statement) (scope : Scope) (k : ℕ) (y : List ℕ) → HasDefining (defining l) → AreAllowed scope (terms_of l) →
     slice_get (read_by l) k ≡ Some y → kind_of scope.names y ≡ Some kinds.Cord
 reads_known (Cat line target left right) scope k y o h e = operands_known scope (left ∷ right ∷ []) k y (h.1.0, (h.1.1.0, tt)) e
 reads_known (Catn line target many) scope k y o h e = operands_known scope many k y h.1 e
@@ -146,7 +146,7 @@ reads_known l scope k y o h e = absurd o
 
 -- a cord that a line with an expression reads is no number
 pub no_number : (g : Grammar) (b : List ℕ) (s : List Statement) (p k : ℕ) (l : Statement) (e : Expr) (t : List ℕ) → ReadsBy g b s →
-    slice_get s p ≡ Some l → own l ≡ Some e → slice_get (read_by l) k ≡ Some t → IsNoNumber s t
+    slice_get s p ≡ Some l → defining l ≡ Some e → slice_get (read_by l) k ≡ Some t → IsNoNumber s t
 no_number g b s p k l e t read at is operand = λ q. at_line (slice_get s q) q refl
   where
     last : List Known
@@ -155,7 +155,7 @@ no_number g b s p k l e t read at is operand = λ q. at_line (slice_get s q) q r
     cord : kind_of last t ≡ Some kinds.Cord
     cord =
         let said : IsSaid l last = line_said g read.lines 1 start s p l read.say at in
-        said.stays.kept t kinds.Cord (reads_known l said.scope k t (subst (λ (o : Option Expr). HasOwn o) (sym is) tt) said.allowed
+        said.stays.kept t kinds.Cord (reads_known l said.scope k t (subst (λ (o : Option Expr). HasDefining o) (sym is) tt) said.allowed
         operand)
 
     at_line : (o : Option Statement) (q : ℕ) → slice_get s q ≡ o → has (numbers_named_at o) t ≡ false

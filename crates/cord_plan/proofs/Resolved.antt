@@ -83,9 +83,9 @@ module _ (limit : ℕ) (s : State) where
           ∙ ap (λ (x : List ℕ). Ok (x ++ rest)) part
       pick false e_is = k ∙ ap (λ (x : List ℕ). Ok (x ++ rest)) (sym (none_of_it i n t e_is))
 
-  told_length : (e : Expr) (t : List ℕ) (len : ℕ) → length_in limit s e ≡ Ok len → text_in limit s e ≡ Ok t → length t ≡ len
-  told_length e t len h k =
-      let told : Ok (length t) ≡ length_in limit s e =
+  reported_length : (e : Expr) (t : List ℕ) (len : ℕ) → length_in limit s e ≡ Ok len → text_in limit s e ≡ Ok t → length t ≡ len
+  reported_length e t len h k =
+      let reported : Ok (length t) ≡ length_in limit s e =
       ap (λ (r : Result (List ℕ) FaultKind). length_of r) (sym k) ∙ sym (measure_is limit s.texts (λ n. number_value s n) e) in
       cc
 
@@ -103,7 +103,7 @@ module _ (limit : ℕ) (s : State) where
       let u : List ℕ = q.middle in
       let whole : t ++ u ≡ text = same_text (Ok (t ++ u)) (t ++ u) text refl q.next in
       let sum : length t + length u ≡ length text = sym (length-append t u) ∙ ap (λ (x : List ℕ). length x) whole in
-      let is : length t ≡ len = told_length e t len lengths.0 p.first in
+      let is : length t ≡ len = reported_length e t len lengths.0 p.first in
       let rest : List ℕ = take (n - (length t - i)) (drop (i - length t) u) in
       let others : joined_in limit s (resolved es lens (i - length t) (n - (length t - i))) ≡ Ok rest =
       resolved_joined es lens u (i - length t) (n - (length t - i)) lengths.1 q.first (omega arith) in

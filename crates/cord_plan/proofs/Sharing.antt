@@ -15,34 +15,35 @@ use Rattle.cord_plan.specs.declared.expressions.Rest.{Rest}
 use Rattle.cord_plan.specs.declared.expressions.Rest.TheVariants.{Nothing, One}
 use Rattle.cord_plan.specs.declared.expressions.Single.{Single}
 use Rattle.cord_plan.proofs.Appending.{append_nothing, append_thrice, views_both}
-use Rattle.cord_plan.proofs.ExprViews.{front_seen, members_made, members_there, view-Nothing, view-One}
+use Rattle.cord_plan.proofs.ExprViews.{prefix_seen, members_made, members_there, view-Nothing, view-One}
 
--- what is made, told by other words
+-- what is made, reported by other words
 pub made_as : (r : Result Members CordError) (es fs : Exprs) → es ≡ fs → IfOk r (λ ms. members_view ms ≡ es) →
     IfOk r (λ ms. members_view ms ≡ fs)
 made_as r es fs same made = subst (λ (gs : Exprs). IfOk r (λ ms. members_view ms ≡ gs)) same made
 
 -- members in front of none
-pub full_made : (front : Rc Members Global) → members_view (roll-Members (record { front = Some front; rest = Nothing }))
-    ≡ members_view front.value
-full_made front =
-    members_made (Some front) Nothing
-    ∙ (ap (λ (es : List Expr). append (members_view front.value) (members_of es)) view-Nothing ∙ append_nothing (members_view front.value))
+pub full_made : (prefix : Rc Members Global) → members_view (roll-Members (record { prefix = Some prefix; rest = Nothing }))
+    ≡ members_view prefix.value
+full_made prefix =
+    members_made (Some prefix) Nothing
+    ∙ (ap (λ (es : List Expr). append (members_view prefix.value) (members_of es)) view-Nothing ∙ append_nothing
+    (members_view prefix.value))
 
 -- members whose front stays
 rest_more : (ms : Members) (rest : Rest) (more : Exprs) →
     members_of (rest_view rest) ≡ append (members_of (rest_view (out-Members ms).rest)) more →
-    members_view (roll-Members (record { front = (out-Members ms).front; rest = rest })) ≡ append (members_view ms) more
+    members_view (roll-Members (record { prefix = (out-Members ms).prefix; rest = rest })) ≡ append (members_view ms) more
 rest_more ms rest more e =
-    let front = front_seen (out-Members ms).front in
+    let prefix = prefix_seen (out-Members ms).prefix in
     let old = members_of (rest_view (out-Members ms).rest) in
-    members_made (out-Members ms).front rest
-    ∙ (ap (λ (es : Exprs). append front es) e
-    ∙ (sym (append_thrice front old more) ∙ ap (λ (es : Exprs). append es more) (sym (members_there ms))))
+    members_made (out-Members ms).prefix rest
+    ∙ (ap (λ (es : Exprs). append prefix es) e
+    ∙ (sym (append_thrice prefix old more) ∙ ap (λ (es : Exprs). append es more) (sym (members_there ms))))
 
 -- one more after none, and after one
 pub first_more : (ms : Members) (rest : Rest) (last : Shared) → (out-Members ms).rest ≡ Nothing → rest_view rest ≡ shared_view last ∷ [] →
-    members_view (roll-Members (record { front = (out-Members ms).front; rest = rest }))
+    members_view (roll-Members (record { prefix = (out-Members ms).prefix; rest = rest }))
     ≡ append (members_view ms) (member (shared_view last) nothing)
 first_more ms rest last none made = rest_more ms rest (member (shared_view last) nothing) (
     ap members_of made
@@ -50,7 +51,7 @@ first_more ms rest last none made = rest_more ms rest (member (shared_view last)
 
 pub second_more : (ms : Members) (one : Single) (rest : Rest) (first last : Shared) → (out-Members ms).rest ≡ One one →
     map shared_view one.members ≡ shared_view first ∷ [] → rest_view rest ≡ shared_view first ∷ shared_view last ∷ [] →
-    members_view (roll-Members (record { front = (out-Members ms).front; rest = rest }))
+    members_view (roll-Members (record { prefix = (out-Members ms).prefix; rest = rest }))
     ≡ append (members_view ms) (member (shared_view last) nothing)
 second_more ms one rest first last is there made = rest_more ms rest (member (shared_view last) nothing) (
     ap members_of made

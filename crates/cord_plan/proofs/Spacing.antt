@@ -1,7 +1,7 @@
 -- Words between blanks, with what stands after them.
 use Rattle.std.proofs.Common.{◌≡◌, ◌<◌, ℕ, zero, suc, ◌+◌, List, [], ◌∷◌, ◌++◌, length, take, drop, get_or, map, refl, sym, ap, ◌∙◌}
 use Rattle.std.proofs.Common.{append-nil, append_assoc, arith}
-use Rattle.cord_plan.specs.Shown.{spaced}
+use Rattle.cord_plan.specs.PlanText.{spaced}
 use Rattle.cord_plan.proofs.Writing.{AreJoined, joined_next, joined_all}
 
 pub two_words : (x y t : List ℕ) → (x ++ 32 ∷ y) ++ t ≡ x ++ 32 ∷ (y ++ t)
@@ -22,18 +22,18 @@ blank_later i = let e : i + 1 ≡ suc i = omega arith in sym (ap blank_at e)
 pub record AreSpaced {A : Type 0} (text more : List A → List ℕ) (one : A → List ℕ) : Type 0 where
   pub nil : text [] ≡ []
   pub cons : (x : A) (xs : List A) → text (x ∷ xs) ≡ one x ++ more xs
-  pub behind : AreJoined more (λ x. 32 ∷ one x)
+  pub suffix : AreJoined more (λ x. 32 ∷ one x)
 
 module _ {A : Type 0} (text more : List A → List ℕ) (one : A → List ℕ) (j : AreSpaced text more one) where
   pub spaced_next : (xs : List A) (i : ℕ) (d : A) → i < length xs →
       text (take (i + 1) xs) ≡ text (take i xs) ++ (blank_at i ++ one (get_or xs i d))
   spaced_next [] i d h = absurd (omega (arith, h))
-  spaced_next (x ∷ xs) zero d h = j.cons x [] ∙ ap (λ (t : List ℕ). one x ++ t) j.behind.nil ∙ append-nil (one x)
+  spaced_next (x ∷ xs) zero d h = j.cons x [] ∙ ap (λ (t : List ℕ). one x ++ t) j.suffix.nil ∙ append-nil (one x)
       ∙ ap (λ (t : List ℕ). t ++ one x) (sym j.nil)
   spaced_next (x ∷ xs) (suc i) d h =
       let e : suc i + 1 ≡ suc (i + 1) = omega arith in
       ap (λ k. text (take k (x ∷ xs))) e ∙ j.cons x (take (i + 1) xs)
-      ∙ ap (λ t. one x ++ t) (joined_next more (λ y. 32 ∷ one y) xs i d j.behind (omega (arith, h)))
+      ∙ ap (λ t. one x ++ t) (joined_next more (λ y. 32 ∷ one y) xs i d j.suffix (omega (arith, h)))
       ∙ sym (append_assoc (one x) (more (take i xs)) (32 ∷ one (get_or xs i d))) ∙ ap (λ (t : List ℕ). t ++ 32 ∷ one (get_or xs i d))
       (sym (j.cons x (take i xs)))
 
@@ -48,21 +48,21 @@ module _ {A : Type 0} (text more : List A → List ℕ) (one : A → List ℕ) (
   spaced_all [] zero = sym (append-nil (text []))
   spaced_all [] (suc i) = sym (append-nil (text []))
   spaced_all (x ∷ xs) zero = ap (λ (t : List ℕ). t ++ text (x ∷ xs)) (sym j.nil)
-  spaced_all (x ∷ xs) (suc i) = j.cons x xs ∙ ap (λ t. one x ++ t) (joined_all more (λ y. 32 ∷ one y) xs i j.behind)
+  spaced_all (x ∷ xs) (suc i) = j.cons x xs ∙ ap (λ t. one x ++ t) (joined_all more (λ y. 32 ∷ one y) xs i j.suffix)
       ∙ sym (append_assoc (one x) (more (take i xs)) (more (drop i xs)))
       ∙ ap (λ (t : List ℕ). t ++ more (drop i xs)) (sym (j.cons x (take i xs)))
 
 -- words
-abbrev pub behind_words : {A : Type 0} → (A → List ℕ) → List A → List ℕ
-behind_words one [] = []
-behind_words one (x ∷ xs) = 32 ∷ one x ++ behind_words one xs
+abbrev pub after_words : {A : Type 0} → (A → List ℕ) → List A → List ℕ
+after_words one [] = []
+after_words one (x ∷ xs) = 32 ∷ one x ++ after_words one xs
 
-words_cons : {A : Type 0} (one : A → List ℕ) (x : A) (xs : List A) → spaced (map one (x ∷ xs)) ≡ one x ++ behind_words one xs
+words_cons : {A : Type 0} (one : A → List ℕ) (x : A) (xs : List A) → spaced (map one (x ∷ xs)) ≡ one x ++ after_words one xs
 words_cons one x [] = sym (append-nil (one x))
 words_cons one x (y ∷ ys) = ap (λ (t : List ℕ). one x ++ 32 ∷ t) (words_cons one y ys)
 
-pub words_spaced : {A : Type 0} (one : A → List ℕ) → AreSpaced (λ xs. spaced (map one xs)) (behind_words one) one
-words_spaced one = record { nil = refl; cons = words_cons one; behind = record { nil = refl; cons = λ x xs. refl } }
+pub words_spaced : {A : Type 0} (one : A → List ℕ) → AreSpaced (λ xs. spaced (map one xs)) (after_words one) one
+words_spaced one = record { nil = refl; cons = words_cons one; suffix = record { nil = refl; cons = λ x xs. refl } }
 
 -- what is made of a line's head and what is after it
 pub given_line : (line verb target made : List ℕ) → (line ++ 32 ∷ (verb ++ 32 ∷ (target ++ 32 ∷ []))) ++ made

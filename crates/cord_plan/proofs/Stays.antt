@@ -7,7 +7,7 @@ use Rattle.std.proofs.lemmas.Option.{slice_get-map}
 use Rattle.cord_meaning.specs.declared.ends.End.{End}
 use Rattle.cord_meaning.specs.declared.ends.FaultKind.{FaultKind}
 use Rattle.cord_meaning.specs.declared.ends.FaultKind.TheVariants.{TooManyTurns}
-use Rattle.cord_meaning.specs.Blocks.{Shape, Simple, Loop, Branch, Otherwise, Close, IsNested}
+use Rattle.cord_meaning.specs.Blocks.{Shape, Straight, Loop, Branch, Otherwise, Close, IsNested}
 use Rattle.cord_meaning.specs.Paths.{Next}
 use Rattle.cord_meaning.specs.Machine.{Rules, Block, Turns, Chosen, Config, notes, faults, acted, turned, begins, repeats, chooses, closes}
 use Rattle.cord_meaning.specs.Machine.{if_running, jump_from, runs_shape, runs, step, after}
@@ -32,10 +32,10 @@ module _ {T : Type 0} (most : ℕ) (c : Config T) where
   closes_state (Turns place line zero ∷ bs) = refl
   closes_state (Turns place line (suc n) ∷ bs) = begins_state place line n bs
 
-repeats_state : {T : Type 0} (most : ℕ) (c : Config T) (line behind : ℕ) (z : ℤ) → (repeats most c line behind z).state ≡ c.state
-repeats_state most c line behind (negsuc n) = refl
-repeats_state most c line behind (pos zero) = refl
-repeats_state most c line behind (pos (suc n)) = begins_state most (notes c line []) c.place line n c.blocks
+repeats_state : {T : Type 0} (most : ℕ) (c : Config T) (line suffix : ℕ) (z : ℤ) → (repeats most c line suffix z).state ≡ c.state
+repeats_state most c line suffix (negsuc n) = refl
+repeats_state most c line suffix (pos zero) = refl
+repeats_state most c line suffix (pos (suc n)) = begins_state most (notes c line []) c.place line n c.blocks
 
 ended_not : (e : End) → Some e ≡ None → ⊥
 ended_not e h = cc
@@ -46,7 +46,7 @@ nothing_there x e = cc
 module _ {M T : Type 0} (rules : Rules M T) (most : ℕ) (ops : List M) where
   -- `repeat`, `if`, `else` and `end` leave the state as it is
   control_state : (c : Config T) (m : M) (x : Shape) → IsControl x → (runs_shape rules most ops c m x).state ≡ c.state
-  control_state c m Simple k = absurd k
+  control_state c m Straight k = absurd k
   control_state c m Loop k = repeats_state most c (rules.line m) (jump_from rules most ops c.place) (rules.count m c.state)
   control_state c m Branch k = chooses_state most c (rules.line m) (jump_from rules most ops c.place) (rules.holds m c.state)
   control_state c m Otherwise k = refl
@@ -56,9 +56,9 @@ module _ {M T : Type 0} (rules : Rules M T) (most : ℕ) (ops : List M) where
   shapes = map rules.shape ops
 
   -- J holds of place and state at each step, and so P of the state
-  module _ (nested : IsNested [] shapes) (J : ℕ → T → Type 0) (P : T → Type 0) (tells : (p : ℕ) (t : T) → J p t → P t)
+  module _ (nested : IsNested [] shapes) (J : ℕ → T → Type 0) (P : T → Type 0) (reports : (p : ℕ) (t : T) → J p t → P t)
       (moves : (p q : ℕ) (x : Shape) → slice_get shapes p ≡ Some x → IsControl x → Next shapes p q → (t : T) → J p t → J q t)
-      (acts : (p : ℕ) (m : M) → slice_get ops p ≡ Some m → rules.shape m ≡ Simple → (t : T) → J p t → (r : T × List ℕ) → rules.act p m t
+      (acts : (p : ℕ) (m : M) → slice_get ops p ≡ Some m → rules.shape m ≡ Straight → (t : T) → J p t → (r : T × List ℕ) → rules.act p m t
       ≡ Ok r → J (p + 1) r.0) where
     -- what a step from p makes
     record Made (p : ℕ) (c : Config T) : Type 0 where
@@ -68,28 +68,28 @@ module _ {M T : Type 0} (rules : Rules M T) (most : ℕ) (ops : List M) where
     module _ (c : Config T) (here : J c.place c.state) where
       simple_made : (line : ℕ) (r : Result (T × List ℕ) FaultKind) → ((u : T × List ℕ) → r ≡ Ok u → J (c.place + 1) u.0) →
           Made c.place (acted c line r)
-      simple_made line (Ok u) g = record { state = tells (c.place + 1) u.0 (g u refl); on = λ running next. g u refl }
-      simple_made line (Err kind) g = record { state = tells c.place c.state here; on = λ running next. absurd (ended_not _ running) }
+      simple_made line (Ok u) g = record { state = reports (c.place + 1) u.0 (g u refl); on = λ running next. g u refl }
+      simple_made line (Err kind) g = record { state = reports c.place c.state here; on = λ running next. absurd (ended_not _ running) }
 
       control_made : (m : M) (x : Shape) → slice_get shapes c.place ≡ Some x → IsControl x → Made c.place (runs_shape rules most ops c m x)
       control_made m x at k =
           let d : Config T = runs_shape rules most ops c m x in
           let same : c.state ≡ d.state = sym (control_state c m x k) in
           record {
-            state = subst (λ (t : T). P t) same (tells c.place c.state here);
+            state = subst (λ (t : T). P t) same (reports c.place c.state here);
             on = λ running next. subst (λ (t : T). J d.place t) same (moves c.place d.place x at k next c.state here);
           }
 
       shape_made : (m : M) → slice_get ops c.place ≡ Some m → (x : Shape) → rules.shape m ≡ x → slice_get shapes c.place ≡ Some x →
           Made c.place (runs_shape rules most ops c m x)
-      shape_made m e Simple is at = simple_made (rules.line m) (rules.act c.place m c.state) (λ u f. acts c.place m e is c.state here u f)
+      shape_made m e Straight is at = simple_made (rules.line m) (rules.act c.place m c.state) (λ u f. acts c.place m e is c.state here u f)
       shape_made m e Loop is at = control_made m Loop at tt
       shape_made m e Branch is at = control_made m Branch at tt
       shape_made m e Otherwise is at = control_made m Otherwise at tt
       shape_made m e Close is at = control_made m Close at tt
 
       runs_made : (o : Option M) → slice_get ops c.place ≡ o → Made c.place (runs rules most ops c o)
-      runs_made None e = record { state = tells c.place c.state here; on = λ running next. absurd (ended_not _ running) }
+      runs_made None e = record { state = reports c.place c.state here; on = λ running next. absurd (ended_not _ running) }
       runs_made (Some m) e = shape_made m e (rules.shape m) refl
           (slice_get-map rules.shape ops c.place ∙ ap (λ (o : Option M). option_map rules.shape o) e)
 
@@ -114,16 +114,16 @@ module _ {M T : Type 0} (rules : Rules M T) (most : ℕ) (ops : List M) where
           subst (λ (d : Config T). Stays d) stays h
 
       along : (k : ℕ) → Stays (after rules most ops k a)
-      along zero = record { state = tells 0 a first; on = λ running. first }
+      along zero = record { state = reports 0 a first; on = λ running. first }
       along (suc k) = one_step k (after rules most ops k a).ended refl (along k)
 
       pub each_state : (k : ℕ) → P (after rules most ops k a).state
       each_state k = (along k).state
 
--- of each state of a run that is simulated, what is told by a state that it is related to
+-- of each state of a run that is simulated, what is reported by a state that it is related to
 module _ {L M S T : Type 0} (rules : Rules L S) (others : Rules M T) (most : ℕ) (statements : List L) (operations : List M)
     (Related : ℕ → S → T → Type 0) (sim : Simulates rules others statements operations Related) (P : T → Type 0)
-    (tells : (p : ℕ) (s : S) (t : T) → Related p s t → P t) where
+    (reports : (p : ℕ) (s : S) (t : T) → Related p s t → P t) where
   abbrev Beside : ℕ → T → Type 0
   Beside p t = (s : S) × Related p s t
 
@@ -145,7 +145,7 @@ module _ {L M S T : Type 0} (rules : Rules L S) (others : Rules M T) (most : ℕ
       pick None e h = absurd (nothing_there _ h)
       pick (Some l) e h = let shape : rules.shape l ≡ others.shape m = cc in (l, e, shape)
 
-  acts_beside : (p : ℕ) (m : M) → slice_get operations p ≡ Some m → others.shape m ≡ Simple → (t : T) → Beside p t → (r : T × List ℕ) →
+  acts_beside : (p : ℕ) (m : M) → slice_get operations p ≡ Some m → others.shape m ≡ Straight → (t : T) → Beside p t → (r : T × List ℕ) →
       others.act p m t ≡ Ok r → Beside (p + 1) r.0
   acts_beside p m f simple t b r e =
       let w = statement_at p m f (slice_get statements p) refl in
@@ -165,4 +165,4 @@ module _ {L M S T : Type 0} (rules : Rules L S) (others : Rules M T) (most : ℕ
       P (after others most operations k b).state
   each_related nested a b first k =
       each_state others most operations (subst (λ (xs : List Shape). IsNested [] xs) sim.shapes nested) Beside P
-      (λ p t w. tells p w.0 t w.1) moves_beside acts_beside b (a, first) k
+      (λ p t w. reports p w.0 t w.1) moves_beside acts_beside b (a, first) k

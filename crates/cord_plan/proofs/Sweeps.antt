@@ -10,9 +10,9 @@ use Rattle.cord_syntax.specs.declared.statements.Statement.{Statement}
 use Rattle.cord_meaning.specs.Paths.{Next}
 use Rattle.cord_meaning.specs.Statements.{shape_of}
 use Rattle.cord_plan.specs.Operands.{reads, reads_at, assigns, assigns_at}
-use Rattle.cord_plan.specs.Unread.{ReadBy, successors, some_of}
+use Rattle.cord_plan.specs.Liveness.{ReadBy, successors, some_of}
 use Rattle.cord_plan.specs.inner.Liveness.{at, finds, IsPartly, IsLive}
-use Rattle.cord_plan.specs.inner.Ahead.{flow}
+use Rattle.cord_plan.specs.inner.StraightLine.{flow}
 use Rattle.cord_plan.proofs.Flows.{Found, shape_found, shape_held}
 
 -- the parts of a find

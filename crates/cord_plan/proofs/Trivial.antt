@@ -3,7 +3,7 @@ use Rattle.std.proofs.Common.{◌≡◌, ℕ, zero, suc, ◌+◌, pos, Bool, tru
 use Rattle.std.proofs.Common.{subst}
 use Rattle.std.specs.Prelude.{slice_get, if◌then◌else◌}
 use Rattle.std.specs.Str.{bytes_eq}
-use Rattle.cord_io.specs.Device.{Folder}
+use Rattle.cord_io.specs.Device.{FileSystem}
 use Rattle.cord_operands.specs.declared.operands.Number.TheVariants.{Numeral}
 use Rattle.cord_syntax.specs.declared.statements.Statement.{Statement}
 use Rattle.cord_syntax.specs.declared.statements.Statement.TheVariants.{Let, File, Eager, Lazy, Chars, Nul, FromFn, Cat, Catn, Catc, Substr}
@@ -15,7 +15,7 @@ use Rattle.cord_meaning.specs.State.{State, with_value}
 use Rattle.cord_meaning.specs.Statements.{act, rules, shape_of, line_of, file_text}
 use Rattle.cord_meaning.specs.inner.Simulation.{Agree, Simulates}
 use Rattle.cord_plan.specs.Exprs.{name, run, cat, sub, members}
-use Rattle.cord_plan.specs.Forced.{own}
+use Rattle.cord_plan.specs.Inlined.{defining}
 use Rattle.cord_plan.specs.Operands.{read_by}
 use Rattle.cord_plan.specs.Planned.{Made, Joined, Literal, OfFile, OfEager, OfLazy, OfFunction, Balanced, OfExtensible, Printed, Operation}
 use Rattle.cord_plan.specs.Planned.{Build, Keep, operation, or_nothing, trivial}
@@ -25,8 +25,8 @@ use Rattle.cord_plan.specs.Meaning.{Text, Holding, plain, gets, all_texts, texts
 use Rattle.cord_plan.specs.Meaning.{plan_rules}
 use Rattle.cord_plan.proofs.Keeps.{IsVerbatimButLen, Agrees}
 use Rattle.cord_plan.proofs.Evaluation.{gives_after, function_gives}
-use Rattle.cord_plan.proofs.Owns.{own_means, sets_within}
-use Rattle.cord_plan.proofs.Does.{built_agrees, put_agrees, len_agrees, kept_agrees}
+use Rattle.cord_plan.proofs.DefiningExpressions.{defining_means, sets_within}
+use Rattle.cord_plan.proofs.OperationEffects.{built_agrees, put_agrees, len_agrees, kept_agrees}
 use Rattle.cord_plan.proofs.Controls.{all_alike}
 
 -- what a plan holds where each name of a cord holds the script's text
@@ -57,7 +57,7 @@ full_gets s z t = λ i. record { held = λ y. pick y (bytes_eq y z) i; numbers =
 full_others : (s u : State) → u.texts ≡ s.texts → record (full s) { numbers = u.numbers; extensibles = u.extensibles } ≡ full u
 full_others s u e = λ i. record { held = λ x. Text (sym e i x); numbers = u.numbers; extensibles = u.extensibles }
 
-module _ (limit : ℕ) (files : Folder) (p : ℕ) (s : State) where
+module _ (limit : ℕ) (files : FileSystem) (p : ℕ) (s : State) where
   -- an operation that builds what its statement makes
   makes : (l : Statement) (line : ℕ) (z : List ℕ) (made : Made) → act limit files l s ≡ gives_text s z (made_text limit files made s) →
       Agree (Same p) (act limit files l s) (does limit files (Build line z made) (full s))
@@ -71,7 +71,7 @@ module _ (limit : ℕ) (files : Folder) (p : ℕ) (s : State) where
       (full_same s (read_by l))
 
   trivial_agrees : (l : Statement) → Agree (Same p) (act limit files l s)
-      (does limit files (operation l (or_nothing (own l)) false false) (full s))
+      (does limit files (operation l (or_nothing (defining l)) false false) (full s))
   trivial_agrees (Let line target text) = makes (Let line target text) line target (Literal text) (sets_within limit s target text)
   trivial_agrees (File line target path) = makes (File line target path) line target (OfFile path)
       (gives_after limit s target (file_text files path))
@@ -80,19 +80,20 @@ module _ (limit : ℕ) (files : Folder) (p : ℕ) (s : State) where
   trivial_agrees (Lazy line target path) = makes (Lazy line target path) line target (OfLazy path)
       (gives_after limit s target (file_text files path))
   trivial_agrees (Chars line target byte count) = makes (Chars line target byte count) line target (Joined (run byte count))
-      (own_means limit s files (Chars line target byte count))
+      (defining_means limit s files (Chars line target byte count))
   trivial_agrees (Nul line target count) = makes (Nul line target count) line target (Joined (run (Numeral (pos 0)) count))
-      (own_means limit s files (Nul line target count))
+      (defining_means limit s files (Nul line target count))
   trivial_agrees (FromFn line target function count) = makes (FromFn line target function count) line target (OfFunction function count)
       (function_gives limit s target files line function count)
   trivial_agrees (Cat line target left right) = makes (Cat line target left right) line target
-      (Joined (cat (members (name left ∷ name right ∷ [])))) (own_means limit s files (Cat line target left right))
+      (Joined (cat (members (name left ∷ name right ∷ [])))) (defining_means limit s files (Cat line target left right))
   trivial_agrees (Catn line target parts) = makes (Catn line target parts) line target (Joined (cat (members (map (λ x. name x) parts))))
-      (own_means limit s files (Catn line target parts))
+      (defining_means limit s files (Catn line target parts))
   trivial_agrees (Catc line target operand byte) = makes (Catc line target operand byte) line target
-      (Joined (cat (members (name operand ∷ run byte (Numeral (pos 1)) ∷ [])))) (own_means limit s files (Catc line target operand byte))
+      (Joined (cat (members (name operand ∷ run byte (Numeral (pos 1)) ∷ []))))
+      (defining_means limit s files (Catc line target operand byte))
   trivial_agrees (Substr line target operand start count) = makes (Substr line target operand start count) line target
-      (Joined (sub (name operand) start count)) (own_means limit s files (Substr line target operand start count))
+      (Joined (sub (name operand) start count)) (defining_means limit s files (Substr line target operand start count))
   trivial_agrees (Balance line target operand) = makes (Balance line target operand) line target (Balanced operand)
       (sets_within limit s target (s.texts operand))
   trivial_agrees (EcToCord line target extensible) = makes (EcToCord line target extensible) line target (OfExtensible extensible)
@@ -123,32 +124,34 @@ module _ (limit : ℕ) (files : Folder) (p : ℕ) (s : State) where
 
 -- the operation of the trivial plan at a place
 trivial_at : (s : List Statement) (p : ℕ) (l : Statement) (o : Operation) → slice_get s p ≡ Some l → slice_get (trivial s) p ≡ Some o →
-    operation l (or_nothing (own l)) false false ≡ o
+    operation l (or_nothing (defining l)) false false ≡ o
 trivial_at [] p l o e f = let bad : ⊥ = cc in absurd bad
 trivial_at (k ∷ s) zero l o e f = let same : k ≡ l = cc in
-    subst (λ (w : Statement). operation w (or_nothing (own w)) false false ≡ o) same cc
+    subst (λ (w : Statement). operation w (or_nothing (defining w)) false false ≡ o) same cc
 trivial_at (k ∷ s) (suc p) l o e f = trivial_at s p l o e f
 
 trivial_shapes : (s : List Statement) → map shape_of s ≡ map operation_shape (trivial s)
 trivial_shapes [] = refl
-trivial_shapes (l ∷ s) = λ i. sym (all_alike l (or_nothing (own l)) false false).shape i ∷ trivial_shapes s i
+trivial_shapes (l ∷ s) = λ i. sym (all_alike l (or_nothing (defining l)) false false).shape i ∷ trivial_shapes s i
 
 trivial_lines : (s : List Statement) → map line_of s ≡ map operation_line (trivial s)
 trivial_lines [] = refl
-trivial_lines (l ∷ s) = λ i. sym (all_alike l (or_nothing (own l)) false false).line i ∷ trivial_lines s i
+trivial_lines (l ∷ s) = λ i. sym (all_alike l (or_nothing (defining l)) false false).line i ∷ trivial_lines s i
 
-module _ (limit : ℕ) (files : Folder) (statements : List Statement) where
+module _ (limit : ℕ) (files : FileSystem) (statements : List Statement) where
   counts : (p : ℕ) (l : Statement) (o : Operation) → slice_get statements p ≡ Some l → slice_get (trivial statements) p ≡ Some o →
       (s : State) (t : Option Holding) → Same p s t → (rules limit files).count l s ≡ (plan_rules limit files).count o t
   counts p l o e f s None same = absurd same
   counts p l o e f s (Some h) same = subst (λ (w : Operation). (rules limit files).count l s ≡ (plan_rules limit files).count w (Some h))
-      (trivial_at statements p l o e f) ((all_alike l (or_nothing (own l)) false false).count h s (ap (λ (k : Holding). k.numbers) same))
+      (trivial_at statements p l o e f) ((all_alike l (or_nothing (defining l)) false false).count h s
+      (ap (λ (k : Holding). k.numbers) same))
 
   compare : (p : ℕ) (l : Statement) (o : Operation) → slice_get statements p ≡ Some l → slice_get (trivial statements) p ≡ Some o →
       (s : State) (t : Option Holding) → Same p s t → (rules limit files).holds l s ≡ (plan_rules limit files).holds o t
   compare p l o e f s None same = absurd same
   compare p l o e f s (Some h) same = subst (λ (w : Operation). (rules limit files).holds l s ≡ (plan_rules limit files).holds w (Some h))
-      (trivial_at statements p l o e f) ((all_alike l (or_nothing (own l)) false false).holds h s (ap (λ (k : Holding). k.numbers) same))
+      (trivial_at statements p l o e f) ((all_alike l (or_nothing (defining l)) false false).holds h s
+      (ap (λ (k : Holding). k.numbers) same))
 
   acts : (p : ℕ) (l : Statement) (o : Operation) → slice_get statements p ≡ Some l → slice_get (trivial statements) p ≡ Some o →
       (s : State) (t : Option Holding) → Same p s t → Agree (Same (p + 1)) ((rules limit files).act p l s)
@@ -157,7 +160,7 @@ module _ (limit : ℕ) (files : Folder) (statements : List Statement) where
   acts p l o e f s (Some h) same =
       subst (λ (w : Operation). Agree (Same (p + 1)) (act limit files l s) (does limit files w h)) (trivial_at statements p l o e f)
       (subst (λ (k : Holding). Agree (Same (p + 1)) (act limit files l s)
-      (does limit files (operation l (or_nothing (own l)) false false) k)) (sym same) (trivial_agrees limit files (p + 1) s l))
+      (does limit files (operation l (or_nothing (defining l)) false false) k)) (sym same) (trivial_agrees limit files (p + 1) s l))
 
   pub trivial_simulates : Simulates (rules limit files) (plan_rules limit files) statements (trivial statements) Same
   trivial_simulates = record {

@@ -3,17 +3,17 @@ use Rattle.std.proofs.Common.{◌≡◌, ℕ, suc, ◌+◌, false, List, [], ◌
 use Rattle.std.specs.Prelude.{slice_get}
 use Rattle.cord_syntax.specs.declared.statements.Statement.{Statement}
 use Rattle.cord_plan.specs.Exprs.{Expr}
-use Rattle.cord_plan.specs.Forced.{own}
+use Rattle.cord_plan.specs.Inlined.{defining}
 use Rattle.cord_plan.specs.Planned.{operation, or_nothing, trivial}
 use Rattle.cord_plan.specs.Conditions.{Decisions, HasKinds, MeetsConditions, decided, decided_from}
-use Rattle.cord_plan.proofs.Planning.{own_simple}
+use Rattle.cord_plan.proofs.Planning.{defining_simple}
 
-abbrev own_at : Option Statement → Expr
-own_at None = or_nothing None
-own_at (Some l) = or_nothing (own l)
+abbrev defining_at : Option Statement → Expr
+defining_at None = or_nothing None
+defining_at (Some l) = or_nothing (defining l)
 
 abbrev pub plain_decisions : List Statement → Decisions
-plain_decisions s = record { exprs = λ p. own_at (slice_get s p); dead = λ p. false; paired = λ p. false; source = λ b x. None }
+plain_decisions s = record { exprs = λ p. defining_at (slice_get s p); dead = λ p. false; paired = λ p. false; source = λ b x. None }
 
 from_place : (s : List Statement) (p : ℕ) (rest : List Statement) → ((k : ℕ) → slice_get s (p + k) ≡ slice_get rest k) →
     trivial rest ≡ decided_from (plain_decisions s) p rest
@@ -21,7 +21,7 @@ from_place s p [] here = refl
 from_place s p (l ∷ rest) here =
     let place : p ≡ p + 0 = omega arith in
     let line : slice_get s p ≡ Some l = ap (λ (n : ℕ). slice_get s n) place ∙ here 0 in
-    λ i. operation l (own_at (sym line i)) false false
+    λ i. operation l (defining_at (sym line i)) false false
     ∷ from_place s (p + 1) rest (λ k. (let more : p + 1 + k ≡ p + suc k = omega arith in ap (λ (n : ℕ). slice_get s n) more ∙ here (suc k)))
     i
 
@@ -31,8 +31,9 @@ trivial_decided s = from_place s 0 s (λ k. (let same : 0 + k ≡ k = omega arit
 pub trivial_meets : (s : List Statement) → HasKinds s → MeetsConditions s (plain_decisions s)
 trivial_meets s kinds = record {
   kinds = kinds;
-  own = λ p l here simple. (let o = own_simple l simple in o.1 ∙ ap (λ (e : Expr). Some e) (sym (ap own_at here ∙ ap or_nothing o.1)));
-  forced = λ a b x from. (let bad : ⊥ = cc in absurd bad);
+  defining = λ p l here simple. (let o = defining_simple l simple in o.1 ∙ ap (λ (e : Expr). Some e)
+      (sym (ap defining_at here ∙ ap or_nothing o.1)));
+  inlined = λ a b x from. (let bad : ⊥ = cc in absurd bad);
   dead = λ p x e assigned. (let bad : ⊥ = cc in absurd bad);
   paired = λ p x e assigned. (let bad : ⊥ = cc in absurd bad);
 }

@@ -11,10 +11,10 @@ use Rattle.std.specs.Option.{option_to_list}
 use Rattle.std.proofs.Math.Bool.{or-false}
 use Rattle.std.proofs.lemmas.List.{map-append, take_more, length-append}
 use Rattle.cord_syntax.specs.declared.statements.Statement.{Statement}
-use Rattle.cord_plan.specs.Unread.{some_of}
-use Rattle.cord_plan.specs.inner.Marks.{bit, column, room}
+use Rattle.cord_plan.specs.Liveness.{some_of}
+use Rattle.cord_plan.specs.inner.NameSets.{bit, column, room}
 use Rattle.cord_plan.specs.inner.Liveness.{at}
-use Rattle.cord_plan.specs.inner.Ahead.{flow}
+use Rattle.cord_plan.specs.inner.StraightLine.{flow}
 
 -- a digit of two
 of_max : (a b : ℕ) → a < 2 → b < 2 → (max a b == 1) ≡ ((a == 1) || (b == 1))
@@ -62,18 +62,18 @@ bit_one_other k i within other =
     rw there refl
 
 -- what the flow makes of a word
-pub flow_bits : (word behind assigned i : ℕ) → assigned < 2 ^ 128 → i < 128 → bit (bit_or word (bit_and behind (bit_not w128 assigned))) i
-    ≡ flow (bit word i) (bit behind i) (bit assigned i)
-flow_bits word behind assigned i lt within = rw (
-  bit_or_is word (bit_and behind (bit_not w128 assigned)) i,
-  bit_and_is behind (bit_not w128 assigned) i,
+pub flow_bits : (word suffix assigned i : ℕ) → assigned < 2 ^ 128 → i < 128 → bit (bit_or word (bit_and suffix (bit_not w128 assigned))) i
+    ≡ flow (bit word i) (bit suffix i) (bit assigned i)
+flow_bits word suffix assigned i lt within = rw (
+  bit_or_is word (bit_and suffix (bit_not w128 assigned)) i,
+  bit_and_is suffix (bit_not w128 assigned) i,
   bit_not_is assigned i lt within,
 ) refl
 
 -- the bits of two places after
-pub behind_bits : (words : List ℕ) (i first second : ℕ) (o : Option ℕ) (v w : ℕ) → o ≡ Some second → bit v i ≡ at (column words i) first →
+pub after_bits : (words : List ℕ) (i first second : ℕ) (o : Option ℕ) (v w : ℕ) → o ≡ Some second → bit v i ≡ at (column words i) first →
     bit w i ≡ at (column words i) second → bit (bit_or v w) i ≡ some_of (λ q. at (column words i) q) (first ∷ option_to_list o)
-behind_bits words i first second o v w is one two = rw (is, bit_or_is v w i, one, two)
+after_bits words i first second o v w is one two = rw (is, bit_or_is v w i, one, two)
     (ap (λ (b : Bool). at (column words i) first || b) (sym (or-false (at (column words i) second))))
 
 pub flow_same : (a b c d e f : Bool) → a ≡ d → b ≡ e → c ≡ f → flow a b c ≡ flow d e f
@@ -89,12 +89,12 @@ room_less words p new lt less within = less_room (room (set words p new)) (room 
     less_room a b old e more = omega arith
 
 -- columns of lists with one more
-pub told_more : (f : Statement → Bool) (s : List Statement) (k : ℕ) (l : Statement) (words : List ℕ) (w i : ℕ) → k < length s →
+pub reported_more : (f : Statement → Bool) (s : List Statement) (k : ℕ) (l : Statement) (words : List ℕ) (w i : ℕ) → k < length s →
     l ≡ get_or s k l → column words i ≡ map f (take k s) → bit w i ≡ f l → column (words ++ w ∷ []) i ≡ map f (take (k + 1) s)
-told_more f s k l words w i lt is before here =
-    let front : take (k + 1) s ≡ take k s ++ l ∷ [] = take_more s k l lt ∙ ap (λ (z : Statement). take k s ++ z ∷ []) (sym is) in
+reported_more f s k l words w i lt is before here =
+    let prefix : take (k + 1) s ≡ take k s ++ l ∷ [] = take_more s k l lt ∙ ap (λ (z : Statement). take k s ++ z ∷ []) (sym is) in
     map-append (λ v. bit v i) words (w ∷ [])
-    ∙ rw (before, here) (sym (ap (λ (ls : List Statement). map f ls) front ∙ map-append f (take k s) (l ∷ [])))
+    ∙ rw (before, here) (sym (ap (λ (ls : List Statement). map f ls) prefix ∙ map-append f (take k s) (l ∷ [])))
 
 pub size_more : (words : List ℕ) (w k : ℕ) → length words ≡ k → length (words ++ w ∷ []) ≡ k + 1
 size_more words w k is = length-append words (w ∷ []) ∙ ap (λ (n : ℕ). n + 1) is

@@ -6,7 +6,7 @@ use Rattle.std.specs.Prelude.{IsErr}
 use Rattle.std.specs.declared.result.Result.{Result}
 use Rattle.cord_io.specs.Device.{raised}
 use Rattle.cord_io.specs.declared.writing.Sink as sinks
-use Rattle.cord_iter.proofs.Takes.{appends_both, front_join, front_more, writes_err}
+use Rattle.cord_iter.proofs.Takes.{appends_both, prefix_join, prefix_more, writes_err}
 use Rattle.cord_iter.specs.Output.{Writes}
 
 module _ {S E : Type 0} {sink : sinks.Ghosts S} where
@@ -27,7 +27,7 @@ module _ {S E : Type 0} {sink : sinks.Ghosts S} where
     err = (
       record {
         out = x ++ g.err.0.out;
-        such = front_join (x ++ y) x y g.err.0.out refl g.err.0.such;
+        such = prefix_join (x ++ y) x y g.err.0.out refl g.err.0.such;
         taken = appends_both (sink.taken a) (sink.taken b) (sink.taken c) x g.err.0.out h.ok.0 g.err.0.taken;
       },
       g.err.1 ∙ ap raised h.ok.1,
@@ -39,7 +39,7 @@ module _ {S E : Type 0} {sink : sinks.Ghosts S} where
   pub writes_stopped : {x : List ℕ} {a b : S} {e : E} (y : List ℕ) → Writes sink x a b (Err e) → Writes sink (x ++ y) a b (Err e)
   writes_stopped {x} {a} {b} {e} y h = record {
     ok = tt;
-    err = (record { out = h.err.0.out; such = front_more (x ++ y) x y h.err.0.out refl h.err.0.such; taken = h.err.0.taken }, h.err.1);
+    err = (record { out = h.err.0.out; such = prefix_more (x ++ y) x y h.err.0.out refl h.err.0.such; taken = h.err.0.taken }, h.err.1);
     finished = h.finished;
   }
 

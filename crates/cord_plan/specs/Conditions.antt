@@ -6,12 +6,12 @@ use Rattle.cord_syntax.specs.declared.statements.Statement.TheVariants.{Let, Fil
 use Rattle.cord_syntax.specs.declared.statements.Statement.TheVariants.{Balance, EcToCord, Sprintf, Put}
 use Rattle.cord_plan.specs.Exprs.{Expr, name, names}
 use Rattle.cord_plan.specs.Operands.{read_by, assigns, assigns_at, reads_at}
-use Rattle.cord_plan.specs.Unread.{Unread}
-use Rattle.cord_plan.specs.Forced.{expr_with, is_block_at, preserves}
+use Rattle.cord_plan.specs.Liveness.{NotLive}
+use Rattle.cord_plan.specs.Inlined.{expr_with, is_block_at, preserves}
 use Rattle.cord_plan.specs.Planned.{Operation, operation}
 
 -- what a plan decides of each line: its expression, whether it only measures because its target is dead, or because it is the first of a
--- forced pair, and the line whose expression stands for an operand
+-- inlined pair, and the line whose expression stands for an operand
 pub record Decisions : Type 0 where
   pub exprs : ℕ → Expr
   pub dead : ℕ → Bool
@@ -26,7 +26,7 @@ decided_from d p (l ∷ rest) = operation l (d.exprs p) (d.dead p) (d.paired p) 
 abbrev pub decided : Decisions → List Statement → List Operation
 decided d s = decided_from d 0 s
 
--- whether a line is simple: it has an own expression
+-- whether a line is simple: it has a defining expression
 abbrev pub is_simple : Statement → Bool
 is_simple (Chars line target byte count) = true
 is_simple (Nul line target count) = true
@@ -76,8 +76,8 @@ stands_by exprs (Some a) x = exprs a
 abbrev pub stands : Decisions → ℕ → List ℕ → Expr
 stands d p x = stands_by d.exprs (d.source p x) x
 
--- the lines at a and b may be a forced pair for x
-pub record IsForced (s : List Statement) (d : Decisions) (a b : ℕ) (x : List ℕ) : Type 0 where
+-- the lines at a and b may be an inlined pair for x
+pub record IsInlined (s : List Statement) (d : Decisions) (a b : ℕ) (x : List ℕ) : Type 0 where
   pub before : a < b
   pub first : is_simple_at (slice_get s a) ≡ true
   pub second : is_simple_at (slice_get s b) ≡ true
@@ -86,9 +86,9 @@ pub record IsForced (s : List Statement) (d : Decisions) (a b : ℕ) (x : List �
   pub unassigned : (m : ℕ) → a < m → m < b → assigns_at (slice_get s m) x ≡ false
   -- the lines between are no blocks and don't read x
   pub straight : (m : ℕ) → a < m → m < b → is_block_at (slice_get s m) ≡ false
-  pub unread : (m : ℕ) → a < m → m < b → reads_at (slice_get s m) x ≡ false
+  pub not_live : (m : ℕ) → a < m → m < b → reads_at (slice_get s m) x ≡ false
   -- x is assigned by b or not read after it
-  pub later : (assigns_at (slice_get s b) x ≡ true) ⊎ Unread s x b
+  pub later : (assigns_at (slice_get s b) x ≡ true) ⊎ NotLive s x b
   -- no line from a up to b assigns a name of the expression
   pub fixed : (m : ℕ) → a ≤ m → m < b → preserves (slice_get s m) (names (d.exprs a)) ≡ true
 
@@ -96,10 +96,10 @@ pub record IsForced (s : List Statement) (d : Decisions) (a b : ℕ) (x : List �
 pub record MeetsConditions (s : List Statement) (d : Decisions) : Type 0 where
   pub kinds : HasKinds s
   -- the expression of a simple line is its own, with what stands for its operands
-  pub own : (p : ℕ) (l : Statement) → slice_get s p ≡ Some l → is_simple l ≡ true → expr_with l (map (λ x. stands d p x) (read_by l))
+  pub defining : (p : ℕ) (l : Statement) → slice_get s p ≡ Some l → is_simple l ≡ true → expr_with l (map (λ x. stands d p x) (read_by l))
       ≡ Some (d.exprs p)
-  -- each source is that of a forced pair
-  pub forced : (a b : ℕ) (x : List ℕ) → d.source b x ≡ Some a → IsForced s d a b x
-  -- what is measured is dead, or is the first of a forced pair
-  pub dead : (p : ℕ) (x : List ℕ) → d.dead p ≡ true → assigns_at (slice_get s p) x ≡ true → Unread s x p
+  -- each source is that of an inlined pair
+  pub inlined : (a b : ℕ) (x : List ℕ) → d.source b x ≡ Some a → IsInlined s d a b x
+  -- what is measured is dead, or is the first of an inlined pair
+  pub dead : (p : ℕ) (x : List ℕ) → d.dead p ≡ true → assigns_at (slice_get s p) x ≡ true → NotLive s x p
   pub paired : (p : ℕ) (x : List ℕ) → d.paired p ≡ true → assigns_at (slice_get s p) x ≡ true → (b : ℕ) × (d.source b x ≡ Some p)

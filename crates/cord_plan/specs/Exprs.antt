@@ -55,13 +55,13 @@ append nothing others = others
 append (member e es) others = member e (append es others)
 
 -- putting a `cat` as a member of a `cat` puts that one's members there instead
-abbrev pub in_front : Expr → Exprs → Exprs
-in_front (name x) others = member (name x) others
-in_front (run c n) others = member (run c n) others
-in_front (cat es) others = append es others
-in_front (sub e i n) others = member (sub e i n) others
+abbrev pub preceding : Expr → Exprs → Exprs
+preceding (name x) others = member (name x) others
+preceding (run c n) others = member (run c n) others
+preceding (cat es) others = append es others
+preceding (sub e i n) others = member (sub e i n) others
 
 -- the members that these expressions give to a `cat`
 abbrev pub members : List Expr → Exprs
 members [] = nothing
-members (e ∷ es) = in_front e (members es)
+members (e ∷ es) = preceding e (members es)

@@ -1,8 +1,8 @@
 pub mod Exprs
 pub mod Values
 pub mod Operands
-pub mod Unread
-pub mod Forced
+pub mod Liveness
+pub mod Inlined
 pub mod Planned
 pub mod Extending
 pub mod Verbatim
@@ -11,8 +11,8 @@ pub mod Flat
 pub mod Flattening
 pub mod Resolved
 pub mod Pairs
-pub mod Shown
+pub mod PlanText
 pub mod Meaning
 pub mod Conditions
-pub mod Rows
+pub mod Examples
 pub mod inner

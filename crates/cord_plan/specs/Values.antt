@@ -54,7 +54,7 @@ abbrev mutual
   measured_members limit lengths numbers (member e es) = and_then (measured limit lengths numbers e)
       (λ len. and_then (measured_members limit lengths numbers es) (λ others. Ok (len + others)))
 
--- the text of an expression in a state, and the length that is told where no more than the lengths of its texts is known
+-- the text of an expression in a state, and the length that is reported where no more than the lengths of its texts is known
 abbrev pub text_in : ℕ → State → Expr → Result (List ℕ) FaultKind
 text_in limit s e = value limit s.texts (λ n. number_value s n) e
 

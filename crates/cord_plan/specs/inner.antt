@@ -1,13 +1,13 @@
-pub mod Ahead
+pub mod StraightLine
 pub mod Choices
 pub mod Exprs
 pub mod Extensions
-pub mod Known
+pub mod ExpressionFacts
 pub mod Liveness
-pub mod Marks
+pub mod NameSets
 pub mod Numbering
 pub mod Places
 pub mod Recent
-pub mod Showing
+pub mod Fragments
 pub mod Steps
 pub mod Views

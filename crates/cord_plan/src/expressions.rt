@@ -2,7 +2,7 @@
 ghost use Rattle.std.specs.Prelude.{◌≡◌, ◌<◌, ◌∷◌, [], IfOk, IfSome, IsOkUnless, length, map};
 ghost use Rattle.cord_plan.specs.Exprs.{append, member, nothing};
 ghost use Rattle.cord_plan.specs.inner.Exprs.{is_nothing};
-ghost use Rattle.cord_plan.specs.Views.{front_view, members_of, members_view, shared_view};
+ghost use Rattle.cord_plan.specs.Views.{prefix_view, members_of, members_view, shared_view};
 ghost use Rattle.cord_plan.specs.inner.Views.{rest_view};
 
 use cord_io::CordError;
@@ -36,7 +36,7 @@ pub enum Expr {
 #[derive(Drop)]
 #[cycle(expressions)]
 pub struct Members {
-    front: Option<Rc<Members>>,
+    prefix: Option<Rc<Members>>,
     rest: Rest,
 }
 
@@ -127,7 +127,7 @@ impl Members {
         ensures { members_view result ≡ nothing }
     {
         Members {
-            front: None,
+            prefix: None,
             rest: Rest::Nothing,
         }
     }
@@ -137,15 +137,15 @@ impl Members {
     #[cycle(halves)]
     pub fn halves(&self) -> (Option<&Members>, &[Rc<Expr>])
         ensures members { members_view self.now
-            ≡ append (front_view result.0) (members_of (map shared_view result.1.now)) }
+            ≡ append (prefix_view result.0) (members_of (map shared_view result.1.now)) }
         ensures after { IfSome result.0 (λ _. 0 < length result.1.now) }
     {
-        match &self.front {
+        match &self.prefix {
             None => (None, self.rest.as_slice()),
-            Some(front) => match &self.rest {
-                Rest::Nothing => front.as_ref().further_halves(),
-                Rest::One(one) => (Some(front.as_ref()), &one.members),
-                Rest::Two(two) => (Some(front.as_ref()), &two.members),
+            Some(prefix) => match &self.rest {
+                Rest::Nothing => prefix.as_ref().further_halves(),
+                Rest::One(one) => (Some(prefix.as_ref()), &one.members),
+                Rest::Two(two) => (Some(prefix.as_ref()), &two.members),
             },
         }
     }
@@ -155,7 +155,7 @@ impl Members {
     #[cycle(halves)]
     fn further_halves(&self) -> (Option<&Members>, &[Rc<Expr>])
         ensures members { members_view self.now
-            ≡ append (front_view result.0) (members_of (map shared_view result.1.now)) }
+            ≡ append (prefix_view result.0) (members_of (map shared_view result.1.now)) }
         ensures after { IfSome result.0 (λ _. 0 < length result.1.now) }
     {
         self.halves()
@@ -169,7 +169,7 @@ impl Members {
     {
         match &self.rest {
             Rest::Two(_) => Ok(Members {
-                front: Some(Rc::new(alloc, self)?),
+                prefix: Some(Rc::new(alloc, self)?),
                 rest: Rest::Nothing,
             }),
             _ => Ok(self),
@@ -190,24 +190,24 @@ impl Members {
             ≡ append (members_view self) (member (shared_view last) nothing)) }
         ensures refused { IsOkUnless result CordError.NoMemory }
     {
-        let Members { front, rest } = self;
+        let Members { prefix, rest } = self;
         match rest {
             Rest::Nothing => Ok(Members {
-                front,
+                prefix,
                 rest: Rest::one(last),
             }),
             Rest::One(one) => {
                 let first = one.into_member();
                 Ok(Members {
-                    front,
+                    prefix,
                     rest: Rest::two(first, last),
                 })
             }
             Rest::Two(two) => {
                 let rest = Rest::Two(two);
-                let full = Rc::new(alloc, Members { front, rest })?;
+                let full = Rc::new(alloc, Members { prefix, rest })?;
                 Ok(Members {
-                    front: Some(full),
+                    prefix: Some(full),
                     rest: Rest::one(last),
                 })
             }
@@ -221,10 +221,10 @@ impl Members {
         ensures refused { IsOkUnless result CordError.NoMemory }
     {
         let rest = self.rest.shared()?;
-        match &self.front {
-            None => Ok(Members { front: None, rest }),
-            Some(front) => Ok(Members {
-                front: Some(front.clone()?),
+        match &self.prefix {
+            None => Ok(Members { prefix: None, rest }),
+            Some(prefix) => Ok(Members {
+                prefix: Some(prefix.clone()?),
                 rest,
             }),
         }
@@ -248,10 +248,10 @@ impl Members {
         ensures made { IfOk result (λ ms. members_view ms ≡ append (members_view self) (members_view others.now)) }
         ensures refused { IsOkUnless result CordError.NoMemory }
     {
-        let (front, rest) = others.halves();
-        match front {
+        let (prefix, rest) = others.halves();
+        match prefix {
             None => self.with_each(alloc, rest),
-            Some(front) => self.with_all(alloc, front)?.with_each(alloc, rest),
+            Some(prefix) => self.with_all(alloc, prefix)?.with_each(alloc, rest),
         }
     }
 

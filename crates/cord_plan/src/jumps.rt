@@ -1,7 +1,7 @@
 // Where the operations of a plan lead that pass others over.
 ghost use Rattle.std.specs.Prelude.{◌≡◌, ◌+◌, ◌<◌, ℕ, false, Some, IfOk, length, map, slice_get};
 ghost use Rattle.cord_meaning.specs.Blocks.{jump};
-ghost use Rattle.cord_plan.specs.Forced.{is_block};
+ghost use Rattle.cord_plan.specs.Inlined.{is_block};
 ghost use Rattle.cord_plan.specs.inner.Liveness.{shape_view};
 ghost use Rattle.cord_plan.specs.Meaning.{operation_shape};
 ghost use Rattle.cord_plan.specs.Views.{operation_view};
@@ -16,7 +16,7 @@ fn operation_shape(operation: &Operation) -> Shape
 {
     match operation {
         Operation::Keep(statement) => shape_of(statement),
-        _ => Shape::Simple,
+        _ => Shape::Straight,
     }
 }
 
@@ -55,7 +55,7 @@ fn shapes_of(alloc: Global, operations: &[Operation]) -> Result<Vec<Shape>, Allo
 /// The place that each operation leads to where it passes others over.
 pub(crate) fn jumps(alloc: Global, operations: &[Operation]) -> Result<Vec<usize>, AllocError>
     ensures size { IfOk result (λ v. length v.items ≡ length operations.now) }
-    ensures told { IfOk result (λ v. (p : ℕ) → p < length operations.now →
+    ensures reported { IfOk result (λ v. (p : ℕ) → p < length operations.now →
         slice_get v.items p ≡ Some (jump (map operation_shape (map operation_view operations.now)) p)) }
 {
     let shapes = shapes_of(alloc, operations)?;

@@ -1,15 +1,15 @@
 // Laws of plans: each is a function that does nothing, whose contract is the law.
 ghost use Rattle.std.specs.Prelude.{◌≡◌, ℕ, List, Bool, true, false, Some, slice_get};
 ghost use Rattle.cord_syntax.specs.declared.statements.Statement.{Statement};
-ghost use Rattle.cord_plan.specs.Unread.{ReadBy, ReadLater, IsLater, IsFixed, live, later_within};
+ghost use Rattle.cord_plan.specs.Liveness.{ReadBy, ReadLater, IsLater, IsFixed, live, later_within};
 ghost use Rattle.cord_plan.specs.Planned.{Made, Operation, Build, planned};
 ghost use Rattle.cord_plan.specs.Flat.{IsFlatOperation};
 
 /// What a backwards fixed point over the lines tells: a name that it doesn't have at a place is read by no path from
 /// there before it is assigned, a name that so many steps found is read by a path, and where those steps leave a fixed
 /// point they tell exactly what is read later.
-pub fn fixed_points_tell_what_is_read()
-    ensures unread { (s : List Statement) (table : List ℕ → ℕ → Bool) (x : List ℕ) (p : ℕ) → IsFixed s table →
+pub fn fixed_points_report_what_is_read()
+    ensures not_live { (s : List Statement) (table : List ℕ → ℕ → Bool) (x : List ℕ) (p : ℕ) → IsFixed s table →
         table x p ≡ false → (path : List ℕ) → ReadBy s x p path → ⊥ }
     ensures read { (s : List Statement) (k : ℕ) (x : List ℕ) (p : ℕ) → live s k x p ≡ true → (path : List ℕ) ×
         ReadBy s x p path }

@@ -1,10 +1,11 @@
 //! Plans: what a run of a script makes, what it only measures, and in which order.
 //!
 //! `plans`, `operations` and `expressions` are what a plan consists of. `flow` finds which names each line reads and
-//! which are read later; `planner` chooses by it what stands for each operand, and makes the operations. `shown` writes
-//! a plan as text. `laws`, `meaning` and their like state what holds of all plans.
+//! which are read later; `planner` chooses by it what stands for each operand, and makes the operations. `printed`
+//! writes a plan as text. `laws`, `meaning` and their like state what holds of all plans.
 #![tactic(auto)]
 
+mod examples;
 mod expression_laws;
 mod expressions;
 mod flow;
@@ -14,18 +15,18 @@ mod limits;
 mod meaning;
 mod operations;
 mod pair_laws;
+mod plan_text;
 mod planner;
 mod plans;
-mod rows;
-mod shown;
 
+pub use examples::{plans_are_computed, runs_of_plans_are_computed};
 pub use expression_laws::{
-    flattened_cats_mean_the_nested, measures_are_lengths, own_expressions_mean_their_lines,
+    defining_expressions_mean_their_lines, flattened_cats_mean_the_nested, measures_are_lengths,
     subs_over_cats_are_resolved_by_lengths,
 };
 pub use expressions::{Expr, Members};
 pub use laws::{
-    dead_targets_are_not_built, fixed_points_tell_what_is_read, no_cat_stands_in_a_cat,
+    dead_targets_are_not_built, fixed_points_report_what_is_read, no_cat_stands_in_a_cat,
     plans_are_one, what_is_read_later_is_one,
 };
 pub use limits::limits_are;
@@ -39,7 +40,6 @@ pub use pair_laws::{
 };
 pub use planner::plan;
 pub use plans::Plan;
-pub use rows::{plans_are_computed, runs_of_plans_are_computed};
 
 /// The greatest number of parts of an expression that an operand was replaced in.
 pub const MAX_EXPR_PARTS: u32 = 64;

@@ -1,29 +1,29 @@
 // The planner: what stands for each operand, the expression of each line, and its operation.
-mod choosing;
 mod constructors;
+mod expression_facts;
 mod expressions;
 mod interning;
 mod joining;
-mod known;
 mod lines;
 mod measuring;
+mod operand_choices;
 mod parts;
-mod staying;
+mod unchanged;
 
 ghost use Rattle.std.specs.Prelude.{◌≡◌, ℕ, Bool, List, IfOk, IsOkUnless, map};
 ghost use Rattle.cord_plan.specs.inner.Extensions.{AreExtending};
-ghost use Rattle.cord_plan.specs.inner.Liveness.{tells, AllTold, IsTold};
+ghost use Rattle.cord_plan.specs.inner.Liveness.{reports, AllReported, IsReported};
 ghost use Rattle.cord_plan.specs.inner.Numbering.{IsNumbering, number_in};
 ghost use Rattle.cord_plan.specs.Meaning.{IsPlanOf};
 ghost use Rattle.cord_plan.specs.Operands.{target_of};
 ghost use Rattle.cord_plan.specs.Planned as plan;
-ghost use Rattle.cord_plan.specs.Unread.{IsLater};
+ghost use Rattle.cord_plan.specs.Liveness.{IsLater};
 ghost use Rattle.cord_plan.specs.Views.{operation_view};
 
+use self::expression_facts::Known;
 use self::expressions::{NextExpression, next_expression};
 pub(crate) use self::interning::Interner;
-pub(crate) use self::joining::own_expression;
-use self::known::Known;
+pub(crate) use self::joining::defining_expression;
 pub(crate) use self::lines::operation_of;
 use crate::flow::{Later, Recent};
 use crate::{Operation, Plan};
@@ -34,8 +34,8 @@ use std::alloc::Global;
 // Whether a line has a target, whose number this is, that isn't read later.
 fn is_dead(statement: &Statement, number: Option<usize>, place: usize, later: &Later) -> bool
     requires number { number ≡ number_in later.now.numbering (target_of statement.now) }
-    requires told { IsTold later.now statement.now place }
-    ensures { result ≡ plan.is_dead (tells later.now) place (target_of statement.now) }
+    requires reported { IsReported later.now statement.now place }
+    ensures { result ≡ plan.is_dead (reports later.now) place (target_of statement.now) }
 {
     match statement.target() {
         None => false,
@@ -50,9 +50,9 @@ fn operations_of(
     statements: &[Statement],
     later: &Later,
 ) -> Result<(Vec<Operation>, Vec<bool>), CordError>
-    requires told { AllTold statements.now later.now }
+    requires reported { AllReported statements.now later.now }
     requires numbered { IsNumbering statements.now later.now.numbering }
-    ensures made { IfOk result (λ p. map operation_view p.0.items ≡ plan.planned statements.now (tells later.now)) }
+    ensures made { IfOk result (λ p. map operation_view p.0.items ≡ plan.planned statements.now (reports later.now)) }
     ensures extending { IfOk result (λ p. AreExtending p.1.items (map operation_view p.0.items)) }
     ensures refused { IsOkUnless result CordError.NoMemory }
 {

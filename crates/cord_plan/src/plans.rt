@@ -10,14 +10,14 @@ ghost use Rattle.cord_plan.specs.inner.Extensions.{AreExtending};
 ghost use Rattle.cord_plan.specs.Verbatim.{KeepsNoOther};
 ghost use Rattle.cord_plan.specs.Meaning.{IsPlanOf, operation_shape};
 ghost use Rattle.cord_plan.specs.Planned as plan;
-ghost use Rattle.cord_plan.specs.Shown.{shown};
+ghost use Rattle.cord_plan.specs.PlanText.{text_of_plan};
 ghost use Rattle.cord_plan.specs.Views.{operation_view};
 
 use crate::Operation;
 use crate::flow::Numbering;
 use crate::jumps::{have_control, jumps};
-use crate::planner::{Interner, operation_of, own_expression};
-use crate::shown::show_operations;
+use crate::plan_text::show_operations;
+use crate::planner::{Interner, defining_expression, operation_of};
 use cord_io::{CordError, Sink};
 use cord_script::{Name, Script, Statement};
 use std::alloc::Global;
@@ -59,7 +59,7 @@ fn trivial_operations(alloc: Global, statements: &[Statement]) -> Result<Vec<Ope
     let mut operations = Vec::with_capacity(alloc, statements.len())?;
     let mut interner = Interner::of(alloc);
     'lines: for statement in statements {
-        let expression = own_expression(alloc, &mut interner, statement)?;
+        let expression = defining_expression(alloc, &mut interner, statement)?;
         operations.push_reserved(operation_of(statement, expression, false)?);
     }
     Ok(operations)
@@ -67,18 +67,18 @@ fn trivial_operations(alloc: Global, statements: &[Statement]) -> Result<Vec<Ope
 
 // Whether it is told of a place; of a place past the end it isn't.
 #[inline(always)]
-fn is_told(told: &[bool], place: usize) -> bool
-    ensures { result ≡ get_or told.now place false }
+fn is_reported(reported: &[bool], place: usize) -> bool
+    ensures { result ≡ get_or reported.now place false }
 {
-    match told.get(place) {
+    match reported.get(place) {
         None => false,
-        Some(told) => *told,
+        Some(reported) => *reported,
     }
 }
 
 impl Plan {
-    // The plan of these operations, of which some are told to extend the one before, over these names, without taking
-    // memory.
+    // The plan of these operations, of which some are reported to extend the one before, over these names, without
+    // taking memory.
     pub(crate) fn of(operations: Vec<Operation>, extending: Vec<bool>, names: Vec<Name>) -> Plan
         requires kept { All KeepsNoOther (map operation_view operations.items) }
         requires extending { AreExtending extending.items (map operation_view operations.items) }
@@ -92,7 +92,7 @@ impl Plan {
         }
     }
 
-    /// The plan that makes every line's own expression. Refused only with `NoMemory`.
+    /// The plan that makes every line's defining expression. Refused only with `NoMemory`.
     pub fn trivial(alloc: Global, script: &Script) -> Result<Plan, CordError>
         ensures made { IfOk result (λ p. map operation_view p ≡ plan.trivial script.now) }
         ensures means { IfOk result (λ p. IsPlanOf script.now (map operation_view p)) }
@@ -125,7 +125,7 @@ impl Plan {
     pub fn extends(&self, place: usize) -> bool
         ensures { result ≡ true → Extends (map operation_view self.now) place }
     {
-        is_told(&self.extending, place)
+        is_reported(&self.extending, place)
     }
 
     /// Whether an operation is control: a `repeat`, an `if`, an `else` or an `end`. Where none is, each operation leads
@@ -142,7 +142,7 @@ impl Plan {
     /// Refused only with `NoMemory`.
     pub fn jumps(&self, alloc: Global) -> Result<Vec<usize>, CordError>
         ensures size { IfOk result (λ v. length v.items ≡ length self.now) }
-        ensures told { IfOk result (λ v. (p : ℕ) → p < length self.now →
+        ensures reported { IfOk result (λ v. (p : ℕ) → p < length self.now →
             slice_get v.items p ≡ Some (jump (map operation_shape (map operation_view self.now)) p)) }
         ensures refused { IsOkUnless result CordError.NoMemory }
     {
@@ -152,7 +152,7 @@ impl Plan {
     /// Hands a sink the text of the plan: one line an operation, ended by byte 10. Refused with `WriteFailed` where the
     /// sink failed: then it took a prefix of the text.
     pub fn show<W: Sink>(&self, sink: &mut W) -> Result<(), CordError>
-        ensures writes { Writes ⟦<W as Sink>⟧ (shown (map operation_view self.now)) sink.old sink.new result }
+        ensures writes { Writes ⟦<W as Sink>⟧ (text_of_plan (map operation_view self.now)) sink.old sink.new result }
         ensures refused { IfErr result (λ e. e ≡ CordError.WriteFailed) }
     {
         show_operations(&self.operations, sink)

@@ -13,7 +13,7 @@ use Rattle.cord_node.proofs.TreeLemmas.{length-cells}
 use Rattle.cord_node.proofs.TableLemmas.{bytes-cells}
 use Rattle.cord_pos.specs.inner.Path.{part_at}
 use Rattle.cord_pos.specs.inner.Parts.{HasByte}
-use Rattle.cord_pos.specs.Stretches.{is_part}
+use Rattle.cord_pos.specs.Spans.{is_part}
 use Rattle.cord_pos.proofs.Sides.{part_at-left, part_at-right}
 
 -- the part that holds an index is sound and fits where the node does

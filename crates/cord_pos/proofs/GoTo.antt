@@ -12,7 +12,7 @@ use Rattle.cord_pos.proofs.Moves.{IsUnder, under_root, IsMove, moved}
 
 -- the old way, with the node at which the climb stopped
 found_split : (old new : List Place) (n : Node) (t at : ℕ) (c : IsClimb old new at) (e : EndsIn new n t at) →
-    old ≡ e.front ++ (Some n, t) ∷ c.left_out
+    old ≡ e.prefix ++ (Some n, t) ∷ c.left_out
 found_split old new n t at c e = c.split ∙ (rw (e.split, append_assoc) refl)
 
 -- the node at which a climb stopped is sound, lies inside the limits and leaves room for the way down
@@ -24,9 +24,9 @@ pub record IsFound (new : List Place) (n : Node) (t : ℕ) : Type 0 where
 -- so is the node at which a climb from a way stopped
 pub found : (old new : List Place) (n : Node) (t at : ℕ) → IsOnWay old at → IsClimb old new at → EndsIn new n t at → IsFound new n t
 found old new n t at w c e =
-    let u : IsUnder w.root 0 (length e.front) n t =
-    under_root w.root 0 w.from e.front c.left_out n t w.sound (sym w.way ∙ found_split old new n t at c e) in
-    let k : length new ≡ length e.front + 1 = ap length e.split ∙ length-append e.front ((Some n, t) ∷ []) in
+    let u : IsUnder w.root 0 (length e.prefix) n t =
+    under_root w.root 0 w.from e.prefix c.left_out n t w.sound (sym w.way ∙ found_split old new n t at c e) in
+    let k : length new ≡ length e.prefix + 1 = ap length e.split ∙ length-append e.prefix ((Some n, t) ∷ []) in
     record {
       sound = u.sound;
       fits = omega (arith, u.to, len_limit w.root w.sound);
@@ -38,8 +38,8 @@ pub taken : (old new new' : List Place) (n part : Node) (t start at visits visit
     new' ≡ new ++ below n t (at - t) → visits' ≡ min (visits + level n (at - t)) (2 ^ 64 - 1) → (part, start) ≡ part_at n t (at - t) →
     IsTakenTo old at new' part start visits visits'
 taken old new new' n part t start at visits visits' c e down counted p = λ root from sound inside old-way.
-    let m : IsMove root 0 from at e.front n t at =
-    moved root 0 from at at e.front c.left_out n t (omega arith) inside sound (sym old-way ∙ found_split old new n t at c e) e.holds
+    let m : IsMove root 0 from at e.prefix n t at =
+    moved root 0 from at at e.prefix c.left_out n t (omega arith) inside sound (sym old-way ∙ found_split old new n t at c e) e.holds
     c.none_holds in
     let k : level root at - shared_level root from at ≡ level n (at - t) = omega (arith, m.level, m.shared) in
     record {

@@ -37,23 +37,23 @@ under_self : (root n : Node) (s t : ℕ) → IsSound root → root ≡ n → s �
 under_self root n s t h e f = rw (← e, ← f) (record { sound = h; from = omega arith; to = omega arith; depth = omega arith })
 
 -- each place on a way is that of a sound node, whose text lies inside that of the root
-pub under_root : (root : Node) (s i : ℕ) (front rest : List Place) (n : Node) (t : ℕ) → IsSound root →
-    way root s i ≡ front ++ (Some n, t) ∷ rest → IsUnder root s (length front) n t
+pub under_root : (root : Node) (s i : ℕ) (prefix rest : List Place) (n : Node) (t : ℕ) → IsSound root →
+    way root s i ≡ prefix ++ (Some n, t) ∷ rest → IsUnder root s (length prefix) n t
 under_root root s i [] rest n t h e = let f : SamePlace root s n t = same_place root s n t (cc) in under_self root n s t h f.node f.start
-under_root (Leaf len bytes from mark) s i (x ∷ front) rest n t h e = absurd (not_empty front rest (Some n, t) (cc))
-under_root (Run byte len) s i (x ∷ front) rest n t h e = absurd (not_empty front rest (Some n, t) (cc))
-under_root (Func id len from) s i (x ∷ front) rest n t h e = absurd (not_empty front rest (Some n, t) (cc))
-under_root (Cat' mark depth len p left q right count) s i (x ∷ front) rest n t h e =
+under_root (Leaf len bytes from mark) s i (x ∷ prefix) rest n t h e = absurd (not_empty prefix rest (Some n, t) (cc))
+under_root (Run byte len) s i (x ∷ prefix) rest n t h e = absurd (not_empty prefix rest (Some n, t) (cc))
+under_root (Func id len from) s i (x ∷ prefix) rest n t h e = absurd (not_empty prefix rest (Some n, t) (cc))
+under_root (Cat' mark depth len p left q right count) s i (x ∷ prefix) rest n t h e =
     ⊎_elim
     (λ (k : i < len_of left).
     let b : below (Cat' mark depth len p left q right count) s i ≡ way left s i = below-left p q left right len depth count mark s i k in
-    let u : IsUnder left s (length front) n t = under_root left s i front rest n t h.0 (cc) in
+    let u : IsUnder left s (length prefix) n t = under_root left s i prefix rest n t h.0 (cc) in
     record { sound = u.sound; from = u.from; to = omega (arith, h.2); depth = omega (arith, h.3) })
     (λ (k : len_of left ≤ i).
     let b : below (Cat' mark depth len p left q right count) s i ≡ way right (s + len_of left) (i - len_of left) =
     below-right p q left right len depth count mark s i k in
-    let u : IsUnder right (s + len_of left) (length front) n t =
-    under_root right (s + len_of left) (i - len_of left) front rest n t h.1 (cc) in
+    let u : IsUnder right (s + len_of left) (length prefix) n t =
+    under_root right (s + len_of left) (i - len_of left) prefix rest n t h.1 (cc) in
     record { sound = u.sound; from = omega arith; to = omega (arith, h.2); depth = omega (arith, h.3) })
     (cases_lt i (len_of left))
 
@@ -93,10 +93,10 @@ parted (Cat' mark depth len p left q right count) s i j at z b h out =
     (cases_lt i (len_of left))
 
 -- the way to a second index: it parts from the way to the first below the node n
-pub record IsMove (root : Node) (s i j : ℕ) (front : List Place) (n : Node) (t at : ℕ) : Type 0 where
-  pub way : front ++ way n t (at - t) ≡ way root s j
-  pub shared : length front ≡ shared_level root i j
-  pub level : level root j ≡ length front + level n (at - t)
+pub record IsMove (root : Node) (s i j : ℕ) (prefix : List Place) (n : Node) (t at : ℕ) : Type 0 where
+  pub way : prefix ++ way n t (at - t) ≡ way root s j
+  pub shared : length prefix ≡ shared_level root i j
+  pub level : level root j ≡ length prefix + level n (at - t)
   pub part : part_at n t (at - t) ≡ part_at root s j
 
 -- where the climb stopped at the root
@@ -106,26 +106,26 @@ moved_self root n s i j t at z k e f =
     rw (← e, ← f) (record { way = rw a refl; shared = sym k; level = rw a (omega arith); part = rw a refl })
 
 -- after a climb that stopped at the first node that holds the second index
-pub moved : (root : Node) (s i j at : ℕ) (front rest : List Place) (n : Node) (t : ℕ) → at ≡ s + j → j < len_of root → IsSound root →
-    way root s i ≡ front ++ (Some n, t) ∷ rest → holds at (Some n, t) ≡ true → NoneHolds at rest → IsMove root s i j front n t at
+pub moved : (root : Node) (s i j at : ℕ) (prefix rest : List Place) (n : Node) (t : ℕ) → at ≡ s + j → j < len_of root → IsSound root →
+    way root s i ≡ prefix ++ (Some n, t) ∷ rest → holds at (Some n, t) ≡ true → NoneHolds at rest → IsMove root s i j prefix n t at
 moved root s i j at [] rest n t z b h e g out =
     let f : SamePlace root s n t = same_place root s n t (cc) in
     let r : rest ≡ below root s i = cc in
     let out' : NoneHolds at (below root s i) = rw r at out in
     moved_self root n s i j t at z (parted root s i j at z b h out') f.node f.start
-moved (Leaf len bytes from mark) s i j at (x ∷ front) rest n t z b h e g out = absurd (not_empty front rest (Some n, t) (cc))
-moved (Run byte len) s i j at (x ∷ front) rest n t z b h e g out = absurd (not_empty front rest (Some n, t) (cc))
-moved (Func id len from) s i j at (x ∷ front) rest n t z b h e g out = absurd (not_empty front rest (Some n, t) (cc))
-moved (Cat' mark depth len p left q right count) s i j at (x ∷ front) rest n t z b h e g out =
+moved (Leaf len bytes from mark) s i j at (x ∷ prefix) rest n t z b h e g out = absurd (not_empty prefix rest (Some n, t) (cc))
+moved (Run byte len) s i j at (x ∷ prefix) rest n t z b h e g out = absurd (not_empty prefix rest (Some n, t) (cc))
+moved (Func id len from) s i j at (x ∷ prefix) rest n t z b h e g out = absurd (not_empty prefix rest (Some n, t) (cc))
+moved (Cat' mark depth len p left q right count) s i j at (x ∷ prefix) rest n t z b h e g out =
     let l : LiesIn n t at = lies_in n t at g in
     ⊎_elim
     (λ (k : i < len_of left).
     let f : below (Cat' mark depth len p left q right count) s i ≡ way left s i = below-left p q left right len depth count mark s i k in
-    let w : way left s i ≡ front ++ (Some n, t) ∷ rest = cc in
-    let u : IsUnder left s (length front) n t = under_root left s i front rest n t h.0 w in
+    let w : way left s i ≡ prefix ++ (Some n, t) ∷ rest = cc in
+    let u : IsUnder left s (length prefix) n t = under_root left s i prefix rest n t h.0 w in
     let a : j < len_of left = omega arith in
-    let m : IsMove left s i j front n t at = moved left s i j at front rest n t z a h.0 w g out in
-    let mw : front ++ way n t (at - t) ≡ way left s j = m.way in
+    let m : IsMove left s i j prefix n t at = moved left s i j at prefix rest n t z a h.0 w g out in
+    let mw : prefix ++ way n t (at - t) ≡ way left s j = m.way in
     let fj : below (Cat' mark depth len p left q right count) s j ≡ way left s j = below-left p q left right len depth count mark s j a in
     record {
       way = cc;
@@ -136,14 +136,14 @@ moved (Cat' mark depth len p left q right count) s i j at (x ∷ front) rest n t
     (λ (k : len_of left ≤ i).
     let f : below (Cat' mark depth len p left q right count) s i ≡ way right (s + len_of left) (i - len_of left) =
     below-right p q left right len depth count mark s i k in
-    let w : way right (s + len_of left) (i - len_of left) ≡ front ++ (Some n, t) ∷ rest = cc in
-    let u : IsUnder right (s + len_of left) (length front) n t =
-    under_root right (s + len_of left) (i - len_of left) front rest n t h.1 w in
+    let w : way right (s + len_of left) (i - len_of left) ≡ prefix ++ (Some n, t) ∷ rest = cc in
+    let u : IsUnder right (s + len_of left) (length prefix) n t =
+    under_root right (s + len_of left) (i - len_of left) prefix rest n t h.1 w in
     let a : len_of left ≤ j = omega arith in
-    let m : IsMove right (s + len_of left) (i - len_of left) (j - len_of left) front n t at =
-    moved right (s + len_of left) (i - len_of left) (j - len_of left) at front rest n t (omega arith)
+    let m : IsMove right (s + len_of left) (i - len_of left) (j - len_of left) prefix n t at =
+    moved right (s + len_of left) (i - len_of left) (j - len_of left) at prefix rest n t (omega arith)
     (omega (arith, h.2)) h.1 w g out in
-    let mw : front ++ way n t (at - t) ≡ way right (s + len_of left) (j - len_of left) = m.way in
+    let mw : prefix ++ way n t (at - t) ≡ way right (s + len_of left) (j - len_of left) = m.way in
     let fj : below (Cat' mark depth len p left q right count) s j ≡ way right (s + len_of left) (j - len_of left) =
     below-right p q left right len depth count mark s j a in
     record {

@@ -1,4 +1,4 @@
--- Where nodes below a node, and stretches of them, stand in its text.
+-- Where nodes below a node, and spans of them, stand in its text.
 use Rattle.std.proofs.Common.{◌≡◌, ℕ, ◌+◌, ◌-◌, ◌<◌, ◌≤◌, List, length, take, drop, refl, sym, ◌∙◌, ap, arith, length-drop}
 use Rattle.std.specs.Prelude.{replicate}
 use Rattle.std.specs.declared.rc.Rc.{Rc}
@@ -9,7 +9,7 @@ use Rattle.std.proofs.lemmas.List.{drop-replicate, take-replicate, length-take-l
 use Rattle.cord_io.specs.declared.SourceId.{SourceId}
 use Rattle.cord_io.specs.Table.{Table, Lengths, length_at}
 use Rattle.cord_io.specs.declared.TheConstants.{MAX_LEN}
-use Rattle.cord_node.specs.Kept.{Part}
+use Rattle.cord_node.specs.PartsFrom.{Part}
 use Rattle.cord_node.specs.declared.Node.{Node}
 use Rattle.cord_node.specs.declared.Node.TheVariants.{Leaf, Run, Func, Cat'}
 use Rattle.cord_node.specs.Tree.{len_of, IsSound}
@@ -17,9 +17,9 @@ use Rattle.cord_node.specs.Tables.{bytes_over, lengths_of}
 use Rattle.cord_node.proofs.Ranges.{range_of_range, range_left, range_right}
 use Rattle.cord_node.proofs.TreeLemmas.{len_positive}
 use Rattle.cord_pos.specs.inner.Path.{part_at}
-use Rattle.cord_pos.specs.Stretches.{stretch_len, stretch_bytes, StretchFitsIn, IsStretchAt}
-use Rattle.cord_pos.specs.inner.Stretches.{IsWithin}
-use Rattle.cord_pos.specs.declared.stretch.Stretch.{Stretch}
+use Rattle.cord_pos.specs.Spans.{span_len, span_bytes, SpanFitsIn, IsSpanAt}
+use Rattle.cord_pos.specs.inner.Spans.{IsWithin}
+use Rattle.cord_pos.specs.declared.span.Span.{Span}
 use Rattle.cord_pos.proofs.Bytes.{length_bytes}
 use Rattle.cord_pos.proofs.Sides.{part_at-left, part_at-right}
 
@@ -110,32 +110,32 @@ within_right n place m at next p l q r len depth count mark e seam w =
           ∙ ap (λ (j : ℕ). take k (drop j (bytes_over t r))) to;
     }
 
--- a stretch of what is within is one of the node
-within_stretch : (n : Node) (place : ℕ) (m : Node) (at i j : ℕ) (s : Stretch) (w : IsWithin n place m at) → j ≡ w.offset + i →
-    IsStretchAt m i s → IsStretchAt n j s
-within_stretch n place m at i j s w e h = record {
+-- a span of what is within is one of the node
+within_span : (n : Node) (place : ℕ) (m : Node) (at i j : ℕ) (s : Span) (w : IsWithin n place m at) → j ≡ w.offset + i →
+    IsSpanAt m i s → IsSpanAt n j s
+within_span n place m at i j s w e h = record {
   some = h.some;
   inside = omega (arith, e, h.inside, w.inside);
   fits = λ lengths f. h.fits lengths (w.fits lengths f);
-  text = λ t f. h.text t (w.fits (lengths_of t) f) ∙ sym (w.text t f i (stretch_len s) h.inside)
-      ∙ ap (λ (k : ℕ). take (stretch_len s) (drop k (bytes_over t n))) (sym e);
+  text = λ t f. h.text t (w.fits (lengths_of t) f) ∙ sym (w.text t f i (span_len s) h.inside)
+      ∙ ap (λ (k : ℕ). take (span_len s) (drop k (bytes_over t n))) (sym e);
 }
 
-pub stretch_on : (n : Node) (place : ℕ) (m : Node) (at : ℕ) (s : Stretch) → IsWithin n place m at → IsStretchAt m at s →
-    IsStretchAt n place s
-stretch_on n place m at s w h = within_stretch n place m at at place s w w.here h
+pub span_on : (n : Node) (place : ℕ) (m : Node) (at : ℕ) (s : Span) → IsWithin n place m at → IsSpanAt m at s →
+    IsSpanAt n place s
+span_on n place m at s w h = within_span n place m at at place s w w.here h
 
-pub stretch_back : (n : Node) (place : ℕ) (m : Node) (at i : ℕ) (s : Stretch) → at ≡ i + stretch_len s → IsWithin n place m at →
-    IsStretchAt m i s → IsStretchAt n (place - stretch_len s) s
-stretch_back n place m at i s e w h = within_stretch n place m at i (place - stretch_len s) s w (omega (arith, e, w.here)) h
+pub span_back : (n : Node) (place : ℕ) (m : Node) (at i : ℕ) (s : Span) → at ≡ i + span_len s → IsWithin n place m at →
+    IsSpanAt m i s → IsSpanAt n (place - span_len s) s
+span_back n place m at i s e w h = within_span n place m at i (place - span_len s) s w (omega (arith, e, w.here)) h
 
 -- a range of a leaf
-pub leaf_stretch : (m : Node) (s : Stretch) (items xs : List ℕ) (start len from at k : ℕ) →
+pub leaf_span : (m : Node) (s : Span) (items xs : List ℕ) (start len from at k : ℕ) →
     ((t : Table) → bytes_over t m ≡ take len (drop start items)) → len_of m ≡ len → start + len ≤ length items → from ≡ start + at →
-    at + k ≤ len → 0 < k → xs ≡ take k (drop from items) → stretch_len s ≡ length xs → ((t : Table) → stretch_bytes t s ≡ xs) →
-    ((lengths : Lengths) → StretchFitsIn lengths s) → IsStretchAt m at s
-leaf_stretch m s items xs start len from at k e long behind f h some is count bytes fits =
-    let whole : stretch_len s ≡ k =
+    at + k ≤ len → 0 < k → xs ≡ take k (drop from items) → span_len s ≡ length xs → ((t : Table) → span_bytes t s ≡ xs) →
+    ((lengths : Lengths) → SpanFitsIn lengths s) → IsSpanAt m at s
+leaf_span m s items xs start len from at k e long behind f h some is count bytes fits =
+    let whole : span_len s ≡ k =
     count ∙ ap (λ (ys : List ℕ). length ys) is
     ∙ length-take-le k (drop from items) (omega (arith, f, h, behind, length-drop from items)) in
     record {
@@ -147,9 +147,9 @@ leaf_stretch m s items xs start len from at k e long behind f h some is count by
     }
 
 -- a part of a run
-pub run_stretch : (m : Node) (s : Stretch) (byte len at k : ℕ) → m ≡ Run byte len → at + k ≤ len → 0 < k → stretch_len s ≡ k →
-    ((t : Table) → stretch_bytes t s ≡ replicate k byte) → ((lengths : Lengths) → StretchFitsIn lengths s) → IsStretchAt m at s
-run_stretch m s byte len at k e h some count bytes fits =
+pub run_span : (m : Node) (s : Span) (byte len at k : ℕ) → m ≡ Run byte len → at + k ≤ len → 0 < k → span_len s ≡ k →
+    ((t : Table) → span_bytes t s ≡ replicate k byte) → ((lengths : Lengths) → SpanFitsIn lengths s) → IsSpanAt m at s
+run_span m s byte len at k e h some count bytes fits =
     let inside : k ≤ len - at = omega arith in
     let long : len_of m ≡ len = ap len_of e in
     record {
@@ -162,10 +162,10 @@ run_stretch m s byte len at k e h some count bytes fits =
     }
 
 -- a range of an entry
-pub func_stretch : (m : Node) (s : Stretch) (id : SourceId) (start len from at k : ℕ) → m ≡ Func id len start → IsSound m →
-    from ≡ start + at → at + k ≤ len → 0 < k → stretch_len s ≡ k → ((t : Table) → stretch_bytes t s ≡ take k (drop from (t id.0))) →
-    ((lengths : Lengths) → (from + k ≤ length_at lengths id.0) × (from + k ≤ MAX_LEN) → StretchFitsIn lengths s) → IsStretchAt m at s
-func_stretch m s id start len from at k e sound f h some count bytes fits =
+pub func_span : (m : Node) (s : Span) (id : SourceId) (start len from at k : ℕ) → m ≡ Func id len start → IsSound m →
+    from ≡ start + at → at + k ≤ len → 0 < k → span_len s ≡ k → ((t : Table) → span_bytes t s ≡ take k (drop from (t id.0))) →
+    ((lengths : Lengths) → (from + k ≤ length_at lengths id.0) × (from + k ≤ MAX_LEN) → SpanFitsIn lengths s) → IsSpanAt m at s
+func_span m s id start len from at k e sound f h some count bytes fits =
     let limit : (0 < len) × (start + len ≤ MAX_LEN) = rw e at sound in
     let long : len_of m ≡ len = ap len_of e in
     record {

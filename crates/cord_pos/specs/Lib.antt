@@ -1,3 +1,3 @@
 pub mod Position
-pub mod Stretches
+pub mod Spans
 pub mod inner

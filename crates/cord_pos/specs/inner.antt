@@ -1,4 +1,4 @@
 pub mod Invariant
 pub mod Parts
 pub mod Path
-pub mod Stretches
+pub mod Spans

@@ -1,6 +1,6 @@
 // The byte at a position.
 ghost use Rattle.std.specs.Prelude.{◌≡◌, ◌<◌, is_err, IfOk, IfErr, IsOk, IsSome};
-ghost use Rattle.cord_io.specs.Device.{Folder, count_after};
+ghost use Rattle.cord_io.specs.Device.{FileSystem, count_after};
 ghost use Rattle.cord_io.specs.Frames.{LeavesSource};
 ghost use Rattle.cord_core.specs.Cord.{CordFitsIn};
 ghost use Rattle.cord_pos.specs.Position.{IsByteAt};
@@ -16,8 +16,8 @@ impl<'a> Position<'a> {
         requires valid { IsSome self.old.index }
         requires fits { CordFitsIn (S.lengths src.old) self.old.cord }
         ensures stays { self.new ≡ self.old }
-        ensures byte { (folder : Folder) → S.keeps src.new folder →
-            IfOk result (λ b. IsByteAt (S.table src.old folder) self.old.cord self.old.index b) }
+        ensures byte { (file_system : FileSystem) → S.consistent src.new file_system →
+            IfOk result (λ b. IsByteAt (S.table src.old file_system) self.old.cord self.old.index b) }
         ensures refused { IfErr result (λ e. e ≡ CordError.ReadFailed) }
         ensures count { S.failures src.new ≡ count_after (is_err result) (S.failures src.old) }
         ensures steady { S.failures src.old < u64.MAX → S.failures src.new ≡ S.failures src.old → IsOk result }

@@ -9,8 +9,8 @@ ghost use Rattle.cord_pos.specs.Position.{index_at, set_visits, move_visits};
 use cord_core::Cord;
 use cord_io::MAX_DEPTH;
 use path::{Part, Path};
+pub use span::Span;
 use std::marker::Model;
-pub use stretch::Stretch;
 use visited::Tree;
 
 mod fetch;
@@ -18,7 +18,7 @@ mod next;
 mod parts;
 mod path;
 mod prev;
-mod stretch;
+mod span;
 mod visited;
 mod walk;
 

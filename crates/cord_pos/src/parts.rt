@@ -1,37 +1,37 @@
 // The part that holds the index, and moves to another one.
 ghost use Rattle.std.specs.Prelude.{◌≡◌, ◌+◌, ◌≤◌, min};
 ghost use Rattle.cord_pos.specs.Position.{moved_index, moved_visits};
-ghost use Rattle.cord_pos.specs.Stretches.{IsAheadOf, IsBehindOf, IsRestAhead, IsRestBehind};
+ghost use Rattle.cord_pos.specs.Spans.{IsAheadOf, IsBehindOf, IsRestAhead, IsRestBehind};
 
-use crate::stretch::Stretch;
+use crate::span::Span;
 use crate::{Position, Spot};
 use cord_io::MAX_DEPTH;
 
 impl<'a> Position<'a> {
     /// What the part that holds the index has from there on: none where the position is invalid. No byte is copied or
     /// read.
-    pub fn ahead(&self) -> Option<Stretch<'a>>
-        ensures stretch { IsAheadOf self.now.cord self.now.index result }
+    pub fn ahead(&self) -> Option<Span<'a>>
+        ensures span { IsAheadOf self.now.cord self.now.index result }
         ensures rest { IsRestAhead self.now.cord self.now.index result }
     {
         let Some(spot) = self.spot else {
             return None;
         };
         let from = spot.index - spot.part.start;
-        spot.part.node.stretch(from, spot.part.node.len())
+        spot.part.node.span(from, spot.part.node.len())
     }
 
     /// What the part that holds the index has up to there, with the byte at the index: none where the position is
     /// invalid. No byte is copied or read.
-    pub fn behind(&self) -> Option<Stretch<'a>>
-        ensures stretch { IsBehindOf self.now.cord self.now.index result }
+    pub fn behind(&self) -> Option<Span<'a>>
+        ensures span { IsBehindOf self.now.cord self.now.index result }
         ensures rest { IsRestBehind self.now.cord self.now.index result }
     {
         let Some(spot) = self.spot else {
             return None;
         };
         let to = spot.index - spot.part.start + 1;
-        spot.part.node.stretch(0, to)
+        spot.part.node.span(0, to)
     }
 
     /// To an index of the cord: past the end to none, and with none it stays. The way leads up to the last node that

@@ -1,20 +1,20 @@
 // Nodes that were visited. Elsewhere in the crate a node is a `Visited`, and a cord that is gone into a `Tree`;
-// `stretch.rt` alone is given a node, a part whose bytes it lends, and gives none out. The fields of the two are
+// `span.rt` alone is given a node, a part whose bytes it lends, and gives none out. The fields of the two are
 // private to this file, and so is what makes a `Visited`, which counts it. So the one way to a root, or from a node to
 // its child, is a step that is counted.
 ghost use Rattle.std.specs.Prelude.{◌≡◌, ◌+◌, ◌-◌, ◌<◌, ◌≤◌, min, true, is_err, is_some, IfOk, IfSome, Some, None};
 ghost use Rattle.std.specs.Prelude.{MatchOption};
-ghost use Rattle.cord_io.specs.Device.{Folder, count_after};
+ghost use Rattle.cord_io.specs.Device.{FileSystem, count_after};
 ghost use Rattle.cord_io.specs.Frames.{LeavesSource};
 ghost use Rattle.cord_node.specs.Tree.{len_of, IsSound};
 ghost use Rattle.cord_node.specs.Tables.{FitsIn};
 ghost use Rattle.cord_core.specs.Cord.{text_len, IsCord};
 ghost use Rattle.cord_pos.specs.inner.Path.{node_of, side_at};
 ghost use Rattle.cord_pos.specs.inner.Parts.{HasByte};
-ghost use Rattle.cord_pos.specs.Stretches.{is_part};
-ghost use Rattle.cord_pos.specs.Stretches.{stretch_len, IsStretchAt};
+ghost use Rattle.cord_pos.specs.Spans.{is_part};
+ghost use Rattle.cord_pos.specs.Spans.{span_len, IsSpanAt};
 
-use crate::stretch::Stretch;
+use crate::span::Span;
 use cord_core::Cord;
 use cord_io::{ReadFault, Source};
 use cord_node::Node;
@@ -136,16 +136,16 @@ impl<'a> Visited<'a> {
     }
 
     /// What a part has from one place on, up to another: the caller gets no node.
-    pub(crate) fn stretch(self, from: u64, to: u64) -> Option<Stretch<'a>>
+    pub(crate) fn span(self, from: u64, to: u64) -> Option<Span<'a>>
         requires part { is_part (node_of self) ≡ true }
         requires sound { IsSound (node_of self) }
         requires some { from < to }
         requires inside { to ≤ len_of (node_of self) }
         ensures is { is_some result ≡ true }
-        ensures stretch { IfSome result (IsStretchAt (node_of self.entry) from) }
-        ensures len { IfSome result (λ s. stretch_len s ≡ to - from) }
+        ensures span { IfSome result (IsSpanAt (node_of self.entry) from) }
+        ensures len { IfSome result (λ s. span_len s ≡ to - from) }
     {
-        Stretch::of_part(self.node, from, to)
+        Span::of_part(self.node, from, to)
     }
 
     /// The byte of a part's text at a place, of a function part by one read of one byte.
@@ -154,8 +154,8 @@ impl<'a> Visited<'a> {
         requires sound { IsSound (node_of self) }
         requires inside { place < len_of (node_of self) }
         requires fits { FitsIn (S.lengths src.old) (node_of self) }
-        ensures byte { (folder : Folder) → S.keeps src.new folder →
-            IfOk result (λ b. HasByte (S.table src.old folder) (node_of self.entry) place b) }
+        ensures byte { (file_system : FileSystem) → S.consistent src.new file_system →
+            IfOk result (λ b. HasByte (S.table src.old file_system) (node_of self.entry) place b) }
         ensures count { S.failures src.new ≡ count_after (is_err result) (S.failures src.old) }
         ensures source { LeavesSource ⟦<S as Source>⟧ src.old src.new }
     {

@@ -46,32 +46,32 @@ plain_or_not c = elim (cases_eq c 37) [
 
 -- the longest span of a kind at the front
 record Longest (P : ℕ → Type 0) (b : List ℕ) : Type 0 where
-  pub front : List ℕ
+  pub prefix : List ℕ
   pub rest : List ℕ
-  pub whole : b ≡ front ++ rest
-  pub all : All P front
+  pub whole : b ≡ prefix ++ rest
+  pub all : All P prefix
   pub ends : StartsNo P rest
 
 longest : (P : ℕ → Type 0) → ((c : ℕ) → P c ⊎ (¬ P c)) → (b : List ℕ) → Longest P b
-longest P test [] = record { front = []; rest = []; whole = refl; all = All-nil P; ends = tt }
+longest P test [] = record { prefix = []; rest = []; whole = refl; all = All-nil P; ends = tt }
 longest P test (c ∷ b) = longer (longest P test b) (test c)
   where
     longer : Longest P b → P c ⊎ (¬ P c) → Longest P (c ∷ b)
     longer l (inl h) = record {
-      front = c ∷ l.front;
+      prefix = c ∷ l.prefix;
       rest = l.rest;
       whole = ap (λ x. c ∷ x) l.whole;
-      all = All-cons P c l.front h l.all;
+      all = All-cons P c l.prefix h l.all;
       ends = l.ends;
     }
-    longer l (inr n) = record { front = []; rest = c ∷ b; whole = refl; all = All-nil P; ends = n }
+    longer l (inr n) = record { prefix = []; rest = c ∷ b; whole = refl; all = All-nil P; ends = n }
 
 -- what may be a point stands at the front
 dotted_of : (b : List ℕ) → (point rest : List ℕ) × IsDotted b point rest
 dotted_of [] = ([], [], (refl, inl (refl, tt)))
 dotted_of (c ∷ b) = elim (cases_eq c 46) [
   | inl e ↦ let l = longest IsDigit digit_or_not b in
-      (46 ∷ l.front, l.rest, (ap (λ x. x ∷ b) e ∙ ap (λ x. 46 ∷ x) l.whole, inr (l.front, refl, l.all, l.ends)))
+      (46 ∷ l.prefix, l.rest, (ap (λ x. x ∷ b) e ∙ ap (λ x. 46 ∷ x) l.whole, inr (l.prefix, refl, l.all, l.ends)))
   | inr n ↦ ([], c ∷ b, (refl, inl (refl, n)))
 ]
 
@@ -91,10 +91,10 @@ parts_of b =
     let point = dotted_of digits.rest in
     let modifier = longest (λ c. c ≡ 108) (λ c. cases_eq c 108) point.1 in
     record {
-      marks = marks.front;
-      digits = digits.front;
+      marks = marks.prefix;
+      digits = digits.prefix;
       point = point.0;
-      modifier = modifier.front;
+      modifier = modifier.prefix;
       rest = modifier.rest;
       are = record {
         after_marks = marks.rest;
@@ -165,42 +165,42 @@ lettered_or_not letter width flags precision = elim (cases_eq letter 100) [
 ]
 
 -- what holds or doesn't
-abbrev Tells : Type 0 → Type 0
-Tells A = A ⊎ (¬ A)
+abbrev Decided : Type 0 → Type 0
+Decided A = A ⊎ (¬ A)
 
-is_off : (x : Bool) → Tells (x ≡ false)
+is_off : (x : Bool) → Decided (x ≡ false)
 is_off true = inr (λ e. cc)
 is_off false = inl refl
 
-is_none : (xs : List ℕ) → Tells (xs ≡ [])
+is_none : (xs : List ℕ) → Decided (xs ≡ [])
 is_none [] = inl refl
 is_none (x ∷ xs) = inr (λ e. cc)
 
-is_short : (xs : List ℕ) → Tells (length xs ≤ 2)
+is_short : (xs : List ℕ) → Decided (length xs ≤ 2)
 is_short xs = elim (cases_lt 2 (length xs)) [
   | inl long ↦ inr (λ few. omega (arith, long, few))
   | inr few ↦ inl few
 ]
 
-both_hold : {A B : Type 0} → Tells A → Tells B → Tells (A × B)
+both_hold : {A B : Type 0} → Decided A → Decided B → Decided (A × B)
 both_hold (inl a) (inl b) = inl (a, b)
 both_hold (inr n) b = inr (λ h. n h.0)
 both_hold (inl a) (inr n) = inr (λ h. n h.1)
 
-three_hold : {A B C : Type 0} → Tells A → Tells B → Tells C → Tells (A × B × C)
+three_hold : {A B C : Type 0} → Decided A → Decided B → Decided C → Decided (A × B × C)
 three_hold (inl a) (inl b) (inl c) = inl (a, b, c)
 three_hold (inr n) b c = inr (λ h. n h.0)
 three_hold (inl a) (inr n) c = inr (λ h. n h.1)
 three_hold (inl a) (inl b) (inr n) = inr (λ h. n h.2)
 
-four_hold : {A B C D : Type 0} → Tells A → Tells B → Tells C → Tells D → Tells (A × B × C × D)
+four_hold : {A B C D : Type 0} → Decided A → Decided B → Decided C → Decided D → Decided (A × B × C × D)
 four_hold (inl a) (inl b) (inl c) (inl d) = inl (a, b, c, d)
 four_hold (inr n) b c d = inr (λ h. n h.0)
 four_hold (inl a) (inr n) c d = inr (λ h. n h.1)
 four_hold (inl a) (inl b) (inr n) d = inr (λ h. n h.2)
 four_hold (inl a) (inl b) (inl c) (inr n) = inr (λ h. n h.3)
 
-allowed_or_not : (q : Piece) (m d p l : List ℕ) → Tells (IsAllowed q m d p l)
+allowed_or_not : (q : Piece) (m d p l : List ℕ) → Decided (IsAllowed q m d p l)
 allowed_or_not (Text t) m d p l = inr (λ h. h)
 allowed_or_not (Signed flags width precision) m d p l = is_short l
 allowed_or_not (Unsigned radix flags width precision) m d p l = both_hold (is_off flags.plus) (is_short l)
@@ -210,7 +210,7 @@ allowed_or_not Percent m d p l = four_hold (is_none m) (is_none d) (is_none p) (
 
 -- with a letter, a width and a precision that fit
 fitting : (b m d p l r rest : List ℕ) (letter : ℕ) (precision : Option ℕ) → AreParts b m d p l r → r ≡ letter ∷ rest →
-    number_of d ≤ MAX_WIDTH → IsPoint p precision → Tells (BeginsConversion (37 ∷ b))
+    number_of d ≤ MAX_WIDTH → IsPoint p precision → Decided (BeginsConversion (37 ∷ b))
 fitting b m d p l r rest letter precision parts e small point = elim (lettered_or_not letter (number_of d) (flags_of m) precision) [
   | inr none ↦ inr (no_piece b m d p l r rest letter parts e none)
   | inl piece ↦ elim (allowed_or_not piece.0 m d p l) [
@@ -225,7 +225,7 @@ fitting b m d p l r rest letter precision parts e small point = elim (lettered_o
   ]
 ]
 
-begins_by : (b m d p l r : List ℕ) → AreParts b m d p l r → Tells (BeginsConversion (37 ∷ b))
+begins_by : (b m d p l r : List ℕ) → AreParts b m d p l r → Decided (BeginsConversion (37 ∷ b))
 begins_by b m d p l [] parts = inr (no_letter b m d p l [] parts refl)
 begins_by b m d p l (letter ∷ rest) parts = elim (cases_lt MAX_WIDTH (number_of d)) [
   | inl big ↦ inr (no_width b m d p l (letter ∷ rest) parts big)
@@ -236,7 +236,7 @@ begins_by b m d p l (letter ∷ rest) parts = elim (cases_lt MAX_WIDTH (number_o
 ]
 
 -- a conversion begins after a `%`, or none does
-begins_or_not : (b : List ℕ) → Tells (BeginsConversion (37 ∷ b))
+begins_or_not : (b : List ℕ) → Decided (BeginsConversion (37 ∷ b))
 begins_or_not b = let parts = parts_of b in begins_by b parts.marks parts.digits parts.point parts.modifier parts.rest parts.are
 
 -- a piece at the front, and what follows it
@@ -258,13 +258,13 @@ converted b h =
 plain_text : (c : ℕ) (b : List ℕ) → c ≢ 37 → FirstPiece (c ∷ b)
 plain_text c b n =
     let l = longest (λ d. d ≢ 37) plain_or_not b in
-    let lengths = ap length l.whole ∙ length-append l.front l.rest in
+    let lengths = ap length l.whole ∙ length-append l.prefix l.rest in
     record {
-      piece = Text (c ∷ l.front);
-      written = c ∷ l.front;
+      piece = Text (c ∷ l.prefix);
+      written = c ∷ l.prefix;
       rest = l.rest;
       whole = ap (λ x. c ∷ x) l.whole;
-      is = (refl, (λ e. cc), All-cons (λ d. d ≢ 37) c l.front n l.all, l.ends);
+      is = (refl, (λ e. cc), All-cons (λ d. d ≢ 37) c l.prefix n l.all, l.ends);
       shorter = omega (arith, lengths);
     }
 
@@ -272,15 +272,15 @@ abbrev Either : List ℕ → Type 0
 Either b = ((ps : List Piece) × IsFormat b ps) ⊎ ((offset : ℕ) × IsBadAt b offset)
 
 -- one more piece in front
-behind_piece : (b : List ℕ) (p : FirstPiece b) → Either p.rest → Either b
-behind_piece b p (inl h) = inl (p.piece ∷ h.0, (p.written, p.rest, p.whole, p.is, h.1))
-behind_piece b p (inr (offset, bad)) = inr (
-  length (p.written ++ bad.front),
+after_piece : (b : List ℕ) (p : FirstPiece b) → Either p.rest → Either b
+after_piece b p (inl h) = inl (p.piece ∷ h.0, (p.written, p.rest, p.whole, p.is, h.1))
+after_piece b p (inr (offset, bad)) = inr (
+  length (p.written ++ bad.prefix),
   record {
     pieces = p.piece ∷ bad.pieces;
-    front = p.written ++ bad.front;
+    prefix = p.written ++ bad.prefix;
     rest = bad.rest;
-    whole = p.whole ∙ ap (λ x. p.written ++ x) bad.whole ∙ sym (append_assoc p.written bad.front (37 ∷ bad.rest));
+    whole = p.whole ∙ ap (λ x. p.written ++ x) bad.whole ∙ sym (append_assoc p.written bad.prefix (37 ∷ bad.rest));
     read = (p.written, p.rest, p.whole, p.is, bad.read);
     offset_is = refl;
     bad = bad.bad;
@@ -288,11 +288,11 @@ behind_piece b p (inr (offset, bad)) = inr (
 )
 
 bad_here : (b : List ℕ) → ¬ BeginsConversion (37 ∷ b) → Either (37 ∷ b)
-bad_here b n = inr (0, record { pieces = []; front = []; rest = b; whole = refl; read = refl; offset_is = refl; bad = n })
+bad_here b n = inr (0, record { pieces = []; prefix = []; rest = b; whole = refl; read = refl; offset_is = refl; bad = n })
 
 -- what stands at the front is a piece, or bad
-front_or_bad : (c : ℕ) (b : List ℕ) → FirstPiece (c ∷ b) ⊎ Either (c ∷ b)
-front_or_bad c b = elim (cases_eq c 37) [
+prefix_or_bad : (c : ℕ) (b : List ℕ) → FirstPiece (c ∷ b) ⊎ Either (c ∷ b)
+prefix_or_bad c b = elim (cases_eq c 37) [
   | inr n ↦ inl (plain_text c b n)
   | inl e ↦ subst (λ k. FirstPiece (k ∷ b) ⊎ Either (k ∷ b)) (sym e) (elim (begins_or_not b) [
     | inl h ↦ inl (converted b h)
@@ -303,8 +303,8 @@ front_or_bad c b = elim (cases_eq c 37) [
 up_to : (n : ℕ) (b : List ℕ) → length b ≤ n → Either b
 up_to n [] few = inl ([], refl)
 up_to zero (c ∷ b) few = absurd (omega arith)
-up_to (suc n) (c ∷ b) few = elim (front_or_bad c b) [
-  | inl p ↦ behind_piece (c ∷ b) p (up_to n p.rest (omega (arith, few, p.shorter)))
+up_to (suc n) (c ∷ b) few = elim (prefix_or_bad c b) [
+  | inl p ↦ after_piece (c ∷ b) p (up_to n p.rest (omega (arith, few, p.shorter)))
   | inr found ↦ found
 ]
 

@@ -4,10 +4,10 @@ use Rattle.std.proofs.Common.{◌∷◌, ◌++◌, length, map, replicate, refl,
 use Rattle.std.proofs.lemmas.List.{replicate-append-replicate, length-replicate, map-append}
 use Rattle.std.specs.Prelude.{unwrap_or, is_none, option_to_list}
 use Rattle.cord_printf.specs.declared.pieces.Flags.{Flags}
-use Rattle.cord_printf.specs.declared.shown.Layout.{Layout}
+use Rattle.cord_printf.specs.declared.piece_text.Layout.{Layout}
 use Rattle.cord_printf.specs.PieceText.{number_text, padded}
-use Rattle.cord_printf.specs.inner.Shown.{front_of}
-use Rattle.cord_printf.specs.inner.Shown.{IsNumberLayout}
+use Rattle.cord_printf.specs.inner.PieceLayouts.{prefix_of}
+use Rattle.cord_printf.specs.inner.PieceLayouts.{IsNumberLayout}
 use Rattle.cord_node.specs.Tree.{Cell, known}
 
 zero_text : (flags : Flags) (width : ℕ) (precision : Option ℕ) (sign digits : List ℕ) →
@@ -71,21 +71,21 @@ blank_layout flags width precision sign count pad len before after test p l b a 
 -- a number in its layout, as cells
 pub number_shown : (flags : Flags) (width : ℕ) (precision sign : Option ℕ) (count : ℕ) (l : Layout) (digits : List ℕ) →
     IsNumberLayout flags width precision sign count l → count ≡ length digits
-    → map known (front_of l) ++ map known digits ++ map known (replicate l.after 32)
+    → map known (prefix_of l) ++ map known digits ++ map known (replicate l.after 32)
     ≡ map known (number_text flags width precision (option_to_list sign)
     (replicate (unwrap_or precision 1 - length digits) 48 ++ digits))
 number_shown flags width precision sign count l digits h e =
-    sym (map-append known (front_of l ++ digits) (replicate l.after 32) ∙ ap (λ x. x ++ map known (replicate l.after 32))
-    (map-append known (front_of l) digits)) ∙ ap (map known) (h digits (sym e))
+    sym (map-append known (prefix_of l ++ digits) (replicate l.after 32) ∙ ap (λ x. x ++ map known (replicate l.after 32))
+    (map-append known (prefix_of l) digits)) ∙ ap (map known) (h digits (sym e))
 
 -- a run under a function
 pub map-run : {A B : Type 0} (f : A → B) (n : ℕ) (a : A) → map f (replicate n a) ≡ replicate n (f a)
 map-run f zero a = refl
 map-run f (suc n) a = ap (λ x. f a ∷ x) (map-run f n a)
 
-no_front : (x : List Cell) (n : ℕ) → map known (replicate 0 32 ++ [] ++ replicate 0 48) ++ x ++ map known (replicate n 32) ≡ x
+no_prefix : (x : List Cell) (n : ℕ) → map known (replicate 0 32 ++ [] ++ replicate 0 48) ++ x ++ map known (replicate n 32) ≡ x
     ++ replicate n (known 32)
-no_front x n = ap (λ y. x ++ y) (map-run known n 32)
+no_prefix x n = ap (λ y. x ++ y) (map-run known n 32)
 
 no_back : (x : List Cell) (n : ℕ) → map known (replicate n 32 ++ [] ++ replicate 0 48) ++ x ++ map known (replicate 0 32)
     ≡ replicate n (known 32) ++ x
@@ -94,8 +94,8 @@ no_back x n = simp append-nil (ap (λ y. y ++ x) (map-run known n 32))
 -- blanks round a body, as cells
 pub padding_shown : (left : Bool) (width len : ℕ) (l : Layout) (x : List Cell) → len ≡ length x
     → l.before ≡ (if left then 0 else width - len) → l.after ≡ (if left then width - len else 0) → (l.sign ≡ None) × (l.zeros ≡ 0)
-    → map known (front_of l) ++ x ++ map known (replicate l.after 32) ≡ padded (known 32) left width x
-padding_shown true width len l x e b a n = rw (b, a, n.0, n.1, e) (no_front x (width - length x))
+    → map known (prefix_of l) ++ x ++ map known (replicate l.after 32) ≡ padded (known 32) left width x
+padding_shown true width len l x e b a n = rw (b, a, n.0, n.1, e) (no_prefix x (width - length x))
 padding_shown false width len l x e b a n = rw (b, a, n.0, n.1, e) (no_back x (width - length x))
 
 -- the start of a run
@@ -105,11 +105,11 @@ take-run (suc n) zero b h = absurd (omega arith)
 take-run (suc n) (suc m) b h = ap (λ x. known b ∷ x) (take-run n m b (omega arith))
 
 -- blanks, a sign and zeros, one after another
-pub front_added : (l : Layout) (x one two three : List Cell) → one ≡ x ++ replicate l.before (known 32) →
-    two ≡ one ++ map known (option_to_list l.sign) → three ≡ two ++ replicate l.zeros (known 48) → three ≡ x ++ map known (front_of l)
-front_added l x one two three a b d = rw (d, b, a) (simp (append_assoc, map-append, map-run))
+pub prefix_added : (l : Layout) (x one two three : List Cell) → one ≡ x ++ replicate l.before (known 32) →
+    two ≡ one ++ map known (option_to_list l.sign) → three ≡ two ++ replicate l.zeros (known 48) → three ≡ x ++ map known (prefix_of l)
+prefix_added l x one two three a b d = rw (d, b, a) (simp (append_assoc, map-append, map-run))
 
 -- what stands in front, a body and blanks, one after another
-pub shown_added : (l : Layout) (body x one two three : List Cell) → one ≡ x ++ map known (front_of l) → two ≡ one ++ body →
-    three ≡ two ++ replicate l.after (known 32) → three ≡ x ++ (map known (front_of l) ++ body ++ map known (replicate l.after 32))
+pub shown_added : (l : Layout) (body x one two three : List Cell) → one ≡ x ++ map known (prefix_of l) → two ≡ one ++ body →
+    three ≡ two ++ replicate l.after (known 32) → three ≡ x ++ (map known (prefix_of l) ++ body ++ map known (replicate l.after 32))
 shown_added l body x one two three a b d = rw (d, b, a, map-run) (simp append_assoc)

@@ -6,7 +6,7 @@ use Rattle.std.specs.Prelude.{◌↔◌, Result, Ok, Err, IfOk, IsOk, OnOk, OnEr
 use Rattle.cord_node.specs.declared.Node.{Node}
 use Rattle.cord_node.specs.declared.Node.TheVariants.{Leaf, Run, Func, Cat'}
 use Rattle.cord_node.specs.Tree.{Cell, known}
-use Rattle.cord_node.specs.Kept.{Part, leaf_part, run_part, func_part, IsSmall, IsRangeOf, Kept}
+use Rattle.cord_node.specs.PartsFrom.{Part, leaf_part, run_part, func_part, IsSmall, IsRangeOf, PartsFrom}
 use Rattle.cord_core.specs.Cord.{parts_of}
 use Rattle.cord_core.specs.Forms.{IsRunOf}
 use Rattle.cord_ec.specs.Gathered.{leaf_bytes, leaf_parts, IsGathered, AreFromOr, MadeOf, Gathered}
@@ -14,15 +14,15 @@ use Rattle.cord_ec.proofs.MadeLemmas.{IsOwn, are_both, are_left, are_right, are_
 use Rattle.cord_ec.proofs.MadeLemmas.{made_through, made_more, made_beside, made_without, made_wider}
 use Rattle.cord_ec.proofs.Leaves.{gathered_own, tail_grown}
 use Rattle.cord_printf.specs.declared.errors.PrintError.{PrintError}
-use Rattle.cord_printf.specs.declared.shown.Layout.{Layout}
-use Rattle.cord_printf.specs.declared.shown.Body.{Body}
-use Rattle.cord_printf.specs.declared.shown.Body.TheVariants.{Bytes, Byte, Digits, Start}
-use Rattle.cord_printf.specs.declared.shown.Shown.{Shown}
+use Rattle.cord_printf.specs.declared.piece_text.Layout.{Layout}
+use Rattle.cord_printf.specs.declared.piece_text.Body.{Body}
+use Rattle.cord_printf.specs.declared.piece_text.Body.TheVariants.{Bytes, Byte, Digits, Start}
+use Rattle.cord_printf.specs.declared.piece_text.Shown.{Shown}
 use Rattle.cord_printf.specs.declared.pieces.Piece.{Piece}
 use Rattle.cord_printf.specs.Pieces.{wants}
 use Rattle.cord_printf.specs.PieceText.{PieceArgument, argument_if, others_if, piece_text}
 use Rattle.cord_printf.specs.Own.{IsPrinted, IsPrintedFrom, own_bytes, all_own, taken_text}
-use Rattle.cord_printf.specs.inner.Shown.{body_own, body_parts, body_taken, body_text, front_of, shown_own, shown_text}
+use Rattle.cord_printf.specs.inner.PieceLayouts.{body_own, body_parts, body_taken, body_text, prefix_of, shown_own, shown_text}
 use Rattle.cord_printf.proofs.Prints.{piece_at}
 
 printed_range : (p q : Part) → IsRangeOf p q → IsPrinted q → IsPrinted p
@@ -53,7 +53,7 @@ pub gathered_from : (k : ℕ) (old new : List Part) → Gathered k old new → I
 gathered_from k old new h = made_wider IsGathered IsPrinted gathered_printed k old new h
 
 -- what is kept is printed
-pub kept_from : (old new : List Part) → Kept old new → IsPrintedFrom 0 old new
+pub kept_from : (old new : List Part) → PartsFrom old new → IsPrintedFrom 0 old new
 kept_from old new h = made_kept IsPrinted printed_own old new h
 
 -- nothing was added
@@ -73,7 +73,7 @@ pub beside_from : (m n : ℕ) (a b c ps : List Part) → IsPrintedFrom m a b →
 beside_from m n a b c ps h k = made_through IsPrinted printed_own m n (a ++ ps) (b ++ ps) c (made_beside IsPrinted printed_own m a b ps h) k
 
 -- parts that are kept of a cord
-pub start_from : (old ps qs new : List Part) → Kept ps qs → IsPrintedFrom 0 (old ++ qs) new → IsPrintedFrom 0 (old ++ ps) new
+pub start_from : (old ps qs new : List Part) → PartsFrom ps qs → IsPrintedFrom 0 (old ++ qs) new → IsPrintedFrom 0 (old ++ ps) new
 start_from old ps qs new k h = record {
   no_more = omega (arith, k.no_more, h.no_more, length-append old ps, length-append old qs);
   from_there = are_through IsPrinted printed_own new (old ++ qs) (old ++ ps) h.from_there
@@ -146,7 +146,7 @@ grown_from old middle new b h g k fits = subst (λ (ps : List Part). IsPrintedFr
     (made_through IsPrinted printed_own 0 k old middle new h (gathered_from k middle new (g k fits))))
 
 -- a cord after those that went into a cord
-pub cord_from : (old middle new x : List Part) (b : List ℕ) → b ≡ [] → IsPrintedFrom 0 old middle → Kept (middle ++ x) new →
+pub cord_from : (old middle new x : List Part) (b : List ℕ) → b ≡ [] → IsPrintedFrom 0 old middle → PartsFrom (middle ++ x) new →
     IsPrintedFrom 0 (old ++ x) (new ++ leaf_parts b)
 cord_from old middle new x b none made k =
     subst (λ (y : List ℕ). IsPrintedFrom 0 (old ++ x) (new ++ leaf_parts y)) (sym none)
@@ -176,22 +176,22 @@ own_shown s p a text taken = own_length s ∙ ap (λ x. length x - length (body_
 
     own_length : (s : Shown) → shown_own s ≡ length (shown_text s) - length (body_taken s.body)
     own_length s =
-        let front : length (map known (front_of s.layout)) ≡ length (front_of s.layout) = length-map (front_of s.layout) known in
+        let prefix : length (map known (prefix_of s.layout)) ≡ length (prefix_of s.layout) = length-map (prefix_of s.layout) known in
         let after : length (map known (replicate s.layout.after 32)) ≡ s.layout.after =
         length-map (replicate s.layout.after 32) known ∙ length-replicate s.layout.after 32 in
         let body : length (body_text s.body ++ map known (replicate s.layout.after 32))
         ≡ length (body_text s.body) + length (map known (replicate s.layout.after 32)) =
         length-append (body_text s.body) (map known (replicate s.layout.after 32)) in
-        let split : shown_text s ≡ map known (front_of s.layout) ++ (body_text s.body ++ map known (replicate s.layout.after 32)) =
-        shown_split (map known (front_of s.layout)) (body_text s.body) (map known (replicate s.layout.after 32)) in
-        let all : length (shown_text s) ≡ length (map known (front_of s.layout)) + length
+        let split : shown_text s ≡ map known (prefix_of s.layout) ++ (body_text s.body ++ map known (replicate s.layout.after 32)) =
+        shown_split (map known (prefix_of s.layout)) (body_text s.body) (map known (replicate s.layout.after 32)) in
+        let all : length (shown_text s) ≡ length (map known (prefix_of s.layout)) + length
         (body_text s.body ++ map known (replicate s.layout.after 32)) =
-        ap length split ∙ length-append (map known (front_of s.layout)) (body_text s.body ++ map known (replicate s.layout.after 32)) in
-        omega (arith, front, after, body, all, body_length s.body)
+        ap length split ∙ length-append (map known (prefix_of s.layout)) (body_text s.body ++ map known (replicate s.layout.after 32)) in
+        omega (arith, prefix, after, body, all, body_length s.body)
 
 -- blanks, a sign and zeros
-pub front_length : (l : Layout) → length (front_of l) ≡ l.before + (length (option_to_list l.sign) + l.zeros)
-front_length l = simp (length-append, length-replicate) (omega arith)
+pub prefix_length : (l : Layout) → length (prefix_of l) ≡ l.before + (length (option_to_list l.sign) + l.zeros)
+prefix_length l = simp (length-append, length-replicate) (omega arith)
 
 -- what a loop over the pieces keeps: what is made, with the parts that are still to come, has no more than all of these, and what is left
 pub record IsPrinting (all : List Part) (own : ℕ) (made rest : List Part) (left : ℕ) : Type 0 where
@@ -202,7 +202,7 @@ pub printing_start : (all : List Part) (own : ℕ) (made : List Part) → made �
 printing_start all own made none = rw none (record { no_more = omega arith; from_there = are_self IsPrinted printed_own all })
 
 pub printing_step : (all : List Part) (own : ℕ) (made next given others ps rest : List Part) (n left after : ℕ) →
-    IsPrinting all own made rest left → rest ≡ given ++ others → Kept given ps → left ≡ n + after
+    IsPrinting all own made rest left → rest ≡ given ++ others → PartsFrom given ps → left ≡ n + after
     → IsPrintedFrom n (made ++ ps) next → IsPrinting all own next others after
 printing_step all own made next given others ps rest n left after h split k count step =
     let own_laws = printed_own in
@@ -252,14 +252,14 @@ own_next pieces i p args others a n within is taken left own =
     ∙ ap (λ (os : List (PieceArgument Cell)). n + all_own after os) (sym left)
 
 -- the steps of a front, and of what is shown
-pub front_from : (l : Layout) (a b c d : List Part) → IsPrintedFrom l.before a b → IsPrintedFrom (length (option_to_list l.sign)) b c →
-    IsPrintedFrom l.zeros c d → IsPrintedFrom (length (front_of l)) a d
-front_from l a b c d one two three = subst (λ (n : ℕ). IsPrintedFrom n a d) (sym (front_length l))
+pub prefix_from : (l : Layout) (a b c d : List Part) → IsPrintedFrom l.before a b → IsPrintedFrom (length (option_to_list l.sign)) b c →
+    IsPrintedFrom l.zeros c d → IsPrintedFrom (length (prefix_of l)) a d
+prefix_from l a b c d one two three = subst (λ (n : ℕ). IsPrintedFrom n a d) (sym (prefix_length l))
     (twice_from l.before (length (option_to_list l.sign) + l.zeros) a b d one
     (twice_from (length (option_to_list l.sign)) l.zeros b c d two three))
 
-pub shown_from : (s : Shown) (a b c d : List Part) → IsPrintedFrom (length (front_of s.layout)) a b →
+pub shown_from : (s : Shown) (a b c d : List Part) → IsPrintedFrom (length (prefix_of s.layout)) a b →
     IsPrintedFrom (body_own s.body) (b ++ body_parts s.body) c → IsPrintedFrom s.layout.after c d →
     IsPrintedFrom (shown_own s) (a ++ body_parts s.body) d
-shown_from s a b c d one two three = twice_from (length (front_of s.layout) + body_own s.body) s.layout.after (a ++ body_parts s.body) c d
-    (beside_from (length (front_of s.layout)) (body_own s.body) a b c (body_parts s.body) one two) three
+shown_from s a b c d one two three = twice_from (length (prefix_of s.layout) + body_own s.body) s.layout.after (a ++ body_parts s.body) c d
+    (beside_from (length (prefix_of s.layout)) (body_own s.body) a b c (body_parts s.body) one two) three

@@ -1,4 +1,4 @@
--- The longest spans at the front of bytes: there is one reading only.
+-- The longest spans at the prefix of bytes: there is one reading only.
 use Rattle.std.proofs.Common.{◌≡◌, ℕ, List, [], ◌∷◌, ◌++◌, refl, sym, ap, ◌∙◌, subst, inl, inr}
 use Rattle.std.specs.Prelude.{All}
 use Rattle.std.proofs.lemmas.List.Elements.{All-head, All-tail}

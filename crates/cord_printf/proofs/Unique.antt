@@ -13,7 +13,7 @@ use Rattle.cord_printf.proofs.Spelled.{same_parts, spelling-append, spelled_part
 use Rattle.cord_printf.proofs.Lettered.{lettered_of, lettered-unique, point_of}
 use Rattle.cord_printf.proofs.Begins.{same_lettered}
 
--- a text at the front of the bytes
+-- a text at the prefix of the bytes
 record StartsText (b : List ℕ) (p : Piece) (rest : List ℕ) : Type 0 where
   pub text : List ℕ
   pub is : p ≡ Text text
@@ -84,11 +84,11 @@ piece-unique b rest more p q (inr h) (inl k) = let t = begins b rest p h in absu
 piece-unique b rest more p q (inr h) (inr k) = conversions-unique b rest more p q h k
 
 no_bytes : (b rest : List ℕ) (p : Piece) → StartsText b p rest ⊎ Converts b p rest → b ≢ []
-no_bytes b rest p (inl h) e = h.some (no_front h.text rest (sym h.whole ∙ e))
+no_bytes b rest p (inl h) e = h.some (no_prefix h.text rest (sym h.whole ∙ e))
   where
-    no_front : (xs ys : List ℕ) → xs ++ ys ≡ [] → xs ≡ []
-    no_front [] ys e = refl
-    no_front (x ∷ xs) ys e = absurd (cc e)
+    no_prefix : (xs ys : List ℕ) → xs ++ ys ≡ [] → xs ≡ []
+    no_prefix [] ys e = refl
+    no_prefix (x ∷ xs) ys e = absurd (cc e)
 no_bytes b rest p (inr h) e = let t = begins b rest p h in absurd (cc (t.1, e))
 
 pub format-unique : OneFormat
@@ -101,14 +101,14 @@ format-unique b (p ∷ ps) (q ∷ qs) h k =
     cc (one.0, rest)
 
 -- no piece begins with a `%` that begins no conversion
-bad_front : (b rest tail : List ℕ) (p : Piece) → b ≡ 37 ∷ tail → ¬ BeginsConversion (37 ∷ tail) → StartsText b p rest ⊎ Converts b p rest →
+bad_prefix : (b rest tail : List ℕ) (p : Piece) → b ≡ 37 ∷ tail → ¬ BeginsConversion (37 ∷ tail) → StartsText b p rest ⊎ Converts b p rest →
     ⊥
-bad_front b rest tail p e bad (inl h) = not_text b rest tail p h e
-bad_front b rest tail p e bad (inr h) = bad (p, rest, (h.0, h.1, sym e ∙ h.2))
+bad_prefix b rest tail p e bad (inl h) = not_text b rest tail p h e
+bad_prefix b rest tail p e bad (inr h) = bad (p, rest, (h.0, h.1, sym e ∙ h.2))
 
 bad_format : (b tail : List ℕ) (ps qs : List Piece) → HasPieces b ps (37 ∷ tail) → ¬ BeginsConversion (37 ∷ tail) → ¬ IsFormat b qs
 bad_format b tail [] [] h bad k = absurd (cc (h, k))
-bad_format b tail [] (q ∷ qs) h bad k = bad_front b k.1 tail q h bad (either_way b k.0 k.1 q k.2 k.3)
+bad_format b tail [] (q ∷ qs) h bad k = bad_prefix b k.1 tail q h bad (either_way b k.0 k.1 q k.2 k.3)
 bad_format b tail (p ∷ ps) [] h bad k = no_bytes b h.1 p (either_way b h.0 h.1 p h.2 h.3) k
 bad_format b tail (p ∷ ps) (q ∷ qs) h bad k =
     let one = piece-unique b h.1 k.1 p q (either_way b h.0 h.1 p h.2 h.3) (either_way b k.0 k.1 q k.2 k.3) in
@@ -120,16 +120,23 @@ bad_no_format b offset h ps = bad_format b h.rest h.pieces ps h.read h.bad
 bad_tail : (b tail other : List ℕ) (ps qs : List Piece) → HasPieces b ps (37 ∷ tail) → ¬ BeginsConversion (37 ∷ tail) →
     HasPieces b qs (37 ∷ other) → ¬ BeginsConversion (37 ∷ other) → tail ≡ other
 bad_tail b tail other [] [] h bad k worse = cc (h, k)
-bad_tail b tail other [] (q ∷ qs) h bad k worse = absurd (bad_front b k.1 tail q h bad (either_way b k.0 k.1 q k.2 k.3))
-bad_tail b tail other (p ∷ ps) [] h bad k worse = absurd (bad_front b h.1 other p k worse (either_way b h.0 h.1 p h.2 h.3))
+bad_tail b tail other [] (q ∷ qs) h bad k worse = absurd (bad_prefix b k.1 tail q h bad (either_way b k.0 k.1 q k.2 k.3))
+bad_tail b tail other (p ∷ ps) [] h bad k worse = absurd (bad_prefix b h.1 other p k worse (either_way b h.0 h.1 p h.2 h.3))
 bad_tail b tail other (p ∷ ps) (q ∷ qs) h bad k worse =
     let one = piece-unique b h.1 k.1 p q (either_way b h.0 h.1 p h.2 h.3) (either_way b k.0 k.1 q k.2 k.3) in
     bad_tail h.1 tail other ps qs h.4 bad (subst (λ x. HasPieces x qs (37 ∷ other)) (sym one.1) k.4) worse
 
-front_length : (b front rest : List ℕ) → b ≡ front ++ 37 ∷ rest → length b ≡ length front + (length rest + 1)
-front_length b front rest e = omega (arith, ap length e, length-append front (37 ∷ rest))
+prefix_length : (b prefix rest : List ℕ) → b ≡ prefix ++ 37 ∷ rest → length b ≡ length prefix + (length rest + 1)
+prefix_length b prefix rest e = omega (arith, ap length e, length-append prefix (37 ∷ rest))
 
 pub bad-offset-unique : OneBadOffset
 bad-offset-unique b m n h k =
     let tails : h.rest ≡ k.rest = bad_tail b h.rest k.rest h.pieces k.pieces h.read h.bad k.read k.bad in
-    omega (arith, front_length b h.front h.rest h.whole, front_length b k.front k.rest k.whole, ap length tails, h.offset_is, k.offset_is)
+    omega (
+      arith,
+      prefix_length b h.prefix h.rest h.whole,
+      prefix_length b k.prefix k.rest k.whole,
+      ap length tails,
+      h.offset_is,
+      k.offset_is,
+    )

@@ -5,7 +5,7 @@ use Rattle.cord_printf.specs.declared.errors.FormatError.TheVariants.{BadFormat,
 use Rattle.cord_printf.specs.declared.pieces.Piece.{Piece}
 use Rattle.cord_printf.specs.declared.pieces.Piece.TheVariants.{Text, Signed, Unsigned, Byte, Cord, Percent}
 use Rattle.cord_printf.specs.Pieces.{IsPiece, Conversion, spelling, Spells}
-use Rattle.cord_printf.specs.Format.{HasPieces, Converts, BeginsConversion, IsRefusal}
+use Rattle.cord_printf.specs.Format.{HasPieces, Converts, BeginsConversion, IsFormatRefusal}
 use Rattle.cord_printf.specs.inner.Format.{IsBadHere}
 
 -- a conversion is a piece
@@ -27,24 +27,24 @@ pub pieces_push : (b : List ℕ) (ps : List Piece) (p : Piece) (w middle after :
 pieces_push b [] p w middle after h e k = (w, after, h ∙ e, k, refl)
 pieces_push b (q ∷ ps) p w middle after h e k = (h.0, h.1, h.2, h.3, pieces_push h.1 ps p w middle after h.4 e k)
 
-pub more_read : (b rest : List ℕ) (ps new : List Piece) (p : Piece) (after : List ℕ) → (front : List ℕ) × (b ≡ front ++ rest) →
+pub more_read : (b rest : List ℕ) (ps new : List Piece) (p : Piece) (after : List ℕ) → (prefix : List ℕ) × (b ≡ prefix ++ rest) →
     HasPieces b ps rest → new ≡ ps ++ p ∷ []
     → (w : List ℕ) × (rest ≡ w ++ after) × IsPiece w p after
-    → record { split : (front : List ℕ) × (b ≡ front ++ after); read : HasPieces b new after }
+    → record { split : (prefix : List ℕ) × (b ≡ prefix ++ after); read : HasPieces b new after }
 more_read b rest ps new p after s h e k = record {
   split = (s.0 ++ k.0, s.1 ∙ ap (λ x. s.0 ++ x) k.1 ∙ sym (append_assoc s.0 k.0 after));
   read = subst (λ x. HasPieces b x after) (sym e) (pieces_push b ps p k.0 rest after h k.1 k.2);
 }
 
-pub bad_at : (b rest : List ℕ) (ps : List Piece) (offset : ℕ) (e : FormatError) → (front : List ℕ) × (b ≡ front ++ rest) →
-    HasPieces b ps rest → offset ≡ length b - length rest → IsBadHere rest offset e → IsRefusal b e
+pub bad_at : (b rest : List ℕ) (ps : List Piece) (offset : ℕ) (e : FormatError) → (prefix : List ℕ) × (b ≡ prefix ++ rest) →
+    HasPieces b ps rest → offset ≡ length b - length rest → IsBadHere rest offset e → IsFormatRefusal b e
 bad_at b rest ps offset NoMemory s h o k = tt
 bad_at b rest ps offset (BadFormat n) s h o k =
     let starts = k.1 in
     let lengths : length b ≡ length s.0 + length rest = ap length s.1 ∙ length-append s.0 rest in
     record {
       pieces = ps;
-      front = s.0;
+      prefix = s.0;
       rest = starts.0;
       whole = s.1 ∙ ap (λ x. s.0 ++ x) starts.1;
       read = subst (HasPieces b ps) starts.1 h;

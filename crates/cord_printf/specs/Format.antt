@@ -25,14 +25,14 @@ BeginsConversion b = (p : Piece) × (rest : List ℕ) × Converts b p rest
 -- at this offset, after whole pieces, stands a `%` that begins no conversion
 pub record IsBadAt (b : List ℕ) (offset : ℕ) : Type 0 where
   pub pieces : List Piece
-  pub front : List ℕ
+  pub prefix : List ℕ
   pub rest : List ℕ
-  pub whole : b ≡ front ++ 37 ∷ rest
+  pub whole : b ≡ prefix ++ 37 ∷ rest
   pub read : HasPieces b pieces (37 ∷ rest)
-  pub offset_is : length front ≡ offset
+  pub offset_is : length prefix ≡ offset
   pub bad : ¬ BeginsConversion (37 ∷ rest)
 
 -- what is known where bytes are refused as a format
-abbrev pub IsRefusal : List ℕ → FormatError → Type 0
-IsRefusal b (BadFormat offset) = IsBadAt b offset
-IsRefusal b NoMemory = Unit {0}
+abbrev pub IsFormatRefusal : List ℕ → FormatError → Type 0
+IsFormatRefusal b (BadFormat offset) = IsBadAt b offset
+IsFormatRefusal b NoMemory = Unit {0}

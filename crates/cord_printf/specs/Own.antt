@@ -1,7 +1,7 @@
 -- What a print makes of its own, beside the cords that it is given.
 use Rattle.std.specs.Prelude.{ℕ, ◌+◌, ◌-◌, Option, Some, List, [], ◌∷◌, ◌++◌, length, ⊤}
 use Rattle.cord_node.specs.Tree.{Cell, known}
-use Rattle.cord_node.specs.Kept.{Part, leaf_part, run_part, func_part}
+use Rattle.cord_node.specs.PartsFrom.{Part, leaf_part, run_part, func_part}
 use Rattle.cord_core.specs.Cord.{parts_of}
 use Rattle.cord_ec.specs.Gathered.{IsGathered, MadeOf}
 use Rattle.cord_printf.specs.declared.arguments.Arg.{Arg}

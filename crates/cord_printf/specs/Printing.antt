@@ -22,7 +22,7 @@ arguments_of args = map argument_of args
 abbrev pub AreWanted : List Piece → List (PieceArgument Cell) → Type 0
 AreWanted pieces args = map kind_of args ≡ wanted pieces
 
--- why a print is refused, want of memory aside: the arguments first, then from left to right what is given, then the length
+-- why a print is refused, out of memory aside: the arguments first, then from left to right what is given, then the length
 abbrev pub IsRefusedFor : ℕ → List Piece → List (PieceArgument Cell) → PrintError → Type 0
 IsRefusedFor limit pieces args WrongArgs = ¬ AreWanted pieces args
 IsRefusedFor limit pieces args (Negative k) = AreWanted pieces args × (first_refusal 0 pieces args ≡ Some (Negative k))

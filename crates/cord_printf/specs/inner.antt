@@ -2,4 +2,4 @@ pub mod Format
 pub mod Own
 pub mod PieceText
 pub mod Reading
-pub mod Shown
+pub mod PieceLayouts

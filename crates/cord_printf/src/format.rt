@@ -1,7 +1,7 @@
 // Formats.
 ghost use Rattle.std.specs.Prelude.{◌≡◌, ◌≢◌, ◌<◌, List, ℕ, [], ◌∷◌, ◌++◌, length, IfOk, IfErr, IfSome, IfNone};
 ghost use Rattle.cord_printf.specs.Pieces.{IsPiece};
-ghost use Rattle.cord_printf.specs.Format.{IsFormat, IsBadAt, IsRefusal, BeginsConversion};
+ghost use Rattle.cord_printf.specs.Format.{IsFormat, IsBadAt, IsFormatRefusal, BeginsConversion};
 ghost use Rattle.cord_printf.specs.inner.Format.{IsBadHere};
 ghost use Rattle.cord_printf.specs.declared.pieces.Piece.{Piece};
 
@@ -33,7 +33,7 @@ impl Format {
     /// first `%` that stands after whole pieces and begins no conversion; `NoMemory` says nothing of the format.
     pub fn parse(alloc: Global, bytes: &[u8]) -> Result<Format, FormatError>
         ensures pieces { IfOk result (IsFormat bytes.now) }
-        ensures refused { IfErr result (IsRefusal bytes.now) }
+        ensures refused { IfErr result (IsFormatRefusal bytes.now) }
     {
         let mut pieces = Vec::new(alloc);
         let mut rest = bytes;
@@ -48,7 +48,7 @@ impl Format {
     }
 
     /// The offset of the first `%` that stands after whole pieces and begins no conversion, or `None` where the bytes
-    /// are a format. So all bytes are a format or have a first bad offset, and `parse` refuses a format for want of
+    /// are a format. So all bytes are a format or have a first bad offset, and `parse` refuses a format when out of
     /// memory alone. It takes no memory, and time in proportion to the bytes.
     pub fn bad_offset(bytes: &[u8]) -> Option<usize>
         ensures bad { IfSome result (IsBadAt bytes.now) }
@@ -72,7 +72,7 @@ impl Format {
     }
 }
 
-// What follows the piece at the front of the bytes, or `None` where a `%` that begins no conversion stands there.
+// What follows the piece at the prefix of the bytes, or `None` where a `%` that begins no conversion stands there.
 fn past_piece(bytes: &[u8]) -> Option<&[u8]>
     requires { bytes.now ≢ [] }
     ensures piece { IfSome result (λ after. (p : Piece) × (w : List ℕ) × (bytes.now ≡ w ++ after.now) ×
@@ -88,7 +88,7 @@ fn past_piece(bytes: &[u8]) -> Option<&[u8]>
     Some(after)
 }
 
-// The piece at the front of the bytes at an offset, and what follows it.
+// The piece at the prefix of the bytes at an offset, and what follows it.
 fn next_piece(alloc: Global, offset: usize, bytes: &[u8]) -> Result<(Piece, &[u8]), FormatError>
     requires { bytes.now ≢ [] }
     ensures piece { IfOk result (λ r. (w : List ℕ) × (bytes.now ≡ w ++ r.1.now) × IsPiece w r.0 r.1.now) }

@@ -8,10 +8,10 @@ mod errors;
 mod format;
 mod laws;
 mod output;
+mod piece_text;
 mod pieces;
 mod print;
 mod reading;
-mod shown;
 
 pub use arguments::Arg;
 pub use errors::{FormatError, PrintError};

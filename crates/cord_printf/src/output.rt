@@ -1,17 +1,17 @@
-// What pieces show, added to a text that grows. Each addition fits, so it is refused for want of memory alone.
+// What pieces show, added to a text that grows. Each addition fits, so it is refused only when out of memory.
 ghost use Rattle.std.specs.Prelude.{◌≡◌, ℕ, ◌+◌, ◌<◌, ◌≤◌, [], ◌++◌, IfOk, IfSome, IsOkUnless, length, option_to_list};
 ghost use Rattle.std.specs.Prelude.{map, replicate, take};
 ghost use Rattle.cord_node.specs.Tree.{known};
-ghost use Rattle.cord_node.specs.Kept.{Kept};
+ghost use Rattle.cord_node.specs.PartsFrom.{PartsFrom};
 ghost use Rattle.cord_core.specs.Cord.{text as text_of, parts_of, IsCord};
 ghost use Rattle.cord_ec.specs.Gathered.{leaf_bytes, leaf_parts, Gathered};
 ghost use Rattle.cord_ec.specs.Grown.{IsCordOf};
 ghost use Rattle.cord_printf.specs.Own.{IsPrintedFrom};
-ghost use Rattle.cord_printf.specs.inner.Shown.{body_own, body_parts, body_text, cells_of, front_of, parts_in};
-ghost use Rattle.cord_printf.specs.inner.Shown.{shown_own, shown_text};
+ghost use Rattle.cord_printf.specs.inner.PieceLayouts.{body_own, body_parts, body_text, cells_of, prefix_of, parts_in};
+ghost use Rattle.cord_printf.specs.inner.PieceLayouts.{shown_own, shown_text};
 
 use crate::PrintError;
-use crate::shown::{Body, Layout, Shown};
+use crate::piece_text::{Body, Layout, Shown};
 use arrayvec::ArrayVec;
 use cord_core::Cord;
 use cord_ec::ExtCord;
@@ -41,7 +41,7 @@ impl Model for Output {
     ghost use Rattle.std.specs.Prelude.{◌++◌, map};
     ghost use Rattle.cord_node.specs.Tree.{known};
     ghost use Rattle.cord_ec.specs.Gathered.{Growth, coded_growth, leaf_parts};
-    ghost use Rattle.cord_printf.specs.inner.Shown.{cells_of, parts_in};
+    ghost use Rattle.cord_printf.specs.inner.PieceLayouts.{cells_of, parts_in};
 
     ghost Value = { Growth };
 
@@ -74,7 +74,7 @@ impl Output {
             (self.old.parts ++ body_parts shown.now.body) self.new.parts) }
         ensures refused { IsOkUnless result PrintError.NoMemory }
     {
-        self.add_front(alloc, shown.layout)?;
+        self.add_prefix(alloc, shown.layout)?;
         self.add_body(alloc, &shown.body)?;
         self.add_run(alloc, b' ', shown.layout.after)
     }
@@ -96,10 +96,10 @@ impl Output {
     }
 
     // The blanks, the sign and the zeros in front of a body.
-    fn add_front(&mut self, alloc: Global, layout: Layout) -> Result<(), PrintError>
-        requires within_limit { length self.old.text + length (front_of layout) ≤ MAX_LEN }
-        ensures text { IfOk result (λ _. self.new.text ≡ self.old.text ++ map known (front_of layout)) }
-        ensures made { IfOk result (λ _. IsPrintedFrom (length (front_of layout)) self.old.parts self.new.parts) }
+    fn add_prefix(&mut self, alloc: Global, layout: Layout) -> Result<(), PrintError>
+        requires within_limit { length self.old.text + length (prefix_of layout) ≤ MAX_LEN }
+        ensures text { IfOk result (λ _. self.new.text ≡ self.old.text ++ map known (prefix_of layout)) }
+        ensures made { IfOk result (λ _. IsPrintedFrom (length (prefix_of layout)) self.old.parts self.new.parts) }
         ensures refused { IsOkUnless result PrintError.NoMemory }
     {
         self.add_run(alloc, b' ', layout.before)?;
@@ -268,7 +268,7 @@ fn leaf_of(alloc: Global, bytes: &[u8]) -> Result<Cord, PrintError>
 fn cord_of(alloc: Global, grown: &mut Option<ExtCord>) -> Result<Cord, PrintError>
     ensures text { IfOk result (λ c. text_of c ≡ cells_of grown.old) }
     ensures over { IfOk result (IsCordOf (cells_of grown.old)) }
-    ensures kept { IfOk result (λ c. Kept (parts_in grown.old) (parts_of c)) }
+    ensures parts_from { IfOk result (λ c. PartsFrom (parts_in grown.old) (parts_of c)) }
     ensures sound { IfOk result IsCord }
     ensures refused { IsOkUnless result PrintError.NoMemory }
 {
@@ -322,7 +322,7 @@ fn grow(alloc: Global, grown: &mut Option<ExtCord>, bytes: &[u8]) -> Result<(), 
 fn grow_by_cord(alloc: Global, grown: &mut Option<ExtCord>, cord: &Cord) -> Result<(), PrintError>
     requires within_limit { length (cells_of grown.old) + length (text_of cord.now) ≤ MAX_LEN }
     ensures text { IfOk result (λ _. cells_of grown.new ≡ cells_of grown.old ++ text_of cord.now) }
-    ensures kept { IfOk result (λ _. Kept (parts_in grown.old ++ parts_of cord.now) (parts_in grown.new)) }
+    ensures parts_from { IfOk result (λ _. PartsFrom (parts_in grown.old ++ parts_of cord.now) (parts_in grown.new)) }
     ensures refused { IsOkUnless result PrintError.NoMemory }
 {
     match grown {
@@ -366,7 +366,7 @@ fn append(alloc: Global, grown: &mut ExtCord, bytes: &[u8]) -> Result<(), PrintE
 fn append_cord(alloc: Global, grown: &mut ExtCord, cord: &Cord) -> Result<(), PrintError>
     requires within_limit { length grown.old.text + length (text_of cord.now) ≤ MAX_LEN }
     ensures text { IfOk result (λ _. grown.new.text ≡ grown.old.text ++ text_of cord.now) }
-    ensures kept { IfOk result (λ _. Kept (grown.old.parts ++ parts_of cord.now) grown.new.parts) }
+    ensures parts_from { IfOk result (λ _. PartsFrom (grown.old.parts ++ parts_of cord.now) grown.new.parts) }
     ensures refused { IsOkUnless result PrintError.NoMemory }
 {
     match grown.append_cord(alloc, cord) {

@@ -9,7 +9,7 @@ ghost use Rattle.cord_printf.specs.Printing.{arguments_of, IsPrintable, IsRefuse
 
 use crate::arguments::{are_wanted, next_argument};
 use crate::output::Output;
-use crate::shown::show;
+use crate::piece_text::show;
 use crate::{Arg, Format, PrintError};
 use cord_core::Cord;
 use cord_io::MAX_LEN;
@@ -52,7 +52,7 @@ pub fn sprintf(alloc: Global, format: &Format, args: &[Arg]) -> Result<Cord, Pri
     ensures taken { IfOk result (λ _. IsPrintable format.now (arguments_of args.now)) }
     ensures text { IfOk result (λ c. text c ≡ printed known format.now (arguments_of args.now)) }
     ensures over { IfOk result (IsPrintOf format.now args.now) }
-    ensures kept { IfOk result (λ c. IsPrintedFrom (all_own format.now (arguments_of args.now))
+    ensures parts_from { IfOk result (λ c. IsPrintedFrom (all_own format.now (arguments_of args.now))
         (arguments_parts args.now) (parts_of c)) }
     ensures sound { IfOk result IsCord }
     ensures refused { IfErr result (λ e. e ≢ PrintError.NoMemory →

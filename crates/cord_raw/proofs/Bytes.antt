@@ -25,13 +25,13 @@ use Rattle.cord_raw.proofs.block.Block.TheLaws as block_laws
 use Rattle.cord_raw.proofs.Fields.{members}
 
 -- the first bytes once one is written after them
-set_behind : (xs : List ℕ) (n x : ℕ) → n < length xs → take (suc n) (set xs n x) ≡ take n xs ++ x ∷ []
-set_behind [] n x low = absurd (omega arith)
-set_behind (y ∷ xs) zero x low = refl
-set_behind (y ∷ xs) (suc n) x low = ap (λ t. y ∷ t) (set_behind xs n x (omega arith))
+set_after : (xs : List ℕ) (n x : ℕ) → n < length xs → take (suc n) (set xs n x) ≡ take n xs ++ x ∷ []
+set_after [] n x low = absurd (omega arith)
+set_after (y ∷ xs) zero x low = refl
+set_after (y ∷ xs) (suc n) x low = ap (λ t. y ∷ t) (set_after xs n x (omega arith))
 
 pub take_set : (xs : List ℕ) (n x : ℕ) → n < length xs → take (n + 1) (set xs n x) ≡ take n xs ++ x ∷ []
-take_set xs n x low = let onward : n + 1 ≡ suc n = omega arith in ap (λ k. take k (set xs n x)) onward ∙ set_behind xs n x low
+take_set xs n x low = let onward : n + 1 ≡ suc n = omega arith in ap (λ k. take k (set xs n x)) onward ∙ set_after xs n x low
 
 module _ {M : Type 1} {𝓤 : Ura M} (𝓛 : Logic 𝓤) where
   abbrev pub Back : ℕ → ℕ → SProp 𝓤

@@ -20,19 +20,19 @@ abbrev pub with_run : List ℕ → ℕ → ℕ → List ℕ → List ℕ
 with_run xs i n ys = take i xs ++ (ys ++ drop n (drop i xs))
 
 pub run_length : (xs : List ℕ) (i n : ℕ) → i + n ≤ length xs → length (run_of xs i n) ≡ n
-run_length xs i n inside = length-take-le n (drop i xs) (let behind = length-drop i xs in omega arith)
+run_length xs i n inside = length-take-le n (drop i xs) (let after = length-drop i xs in omega arith)
 
 -- a run of the first k bytes is one of them all
 pub run_of_first : (xs : List ℕ) (k i n : ℕ) → i + n ≤ length (take k xs) → run_of (take k xs) i n ≡ run_of xs i n
 run_of_first xs k i n inside =
-    let front = take k xs in let back = drop k xs in let rest : n ≤ length (drop i front) = let behind = length-drop i front in
+    let prefix = take k xs in let back = drop k xs in let rest : n ≤ length (drop i prefix) = let after = length-drop i prefix in
     omega (arith, inside) in
-    sym (ap (λ ys. run_of ys i n) (sym (take-append-drop k xs)) ∙ ap (take n) (drop-append-le i front back (omega (arith, inside)))
-    ∙ take-append-le n (drop i front) back rest)
+    sym (ap (λ ys. run_of ys i n) (sym (take-append-drop k xs)) ∙ ap (take n) (drop-append-le i prefix back (omega (arith, inside)))
+    ∙ take-append-le n (drop i prefix) back rest)
 
 pub with_run_length : (xs : List ℕ) (i n : ℕ) (ys : List ℕ) → i + n ≤ length xs → length ys ≡ n → length (with_run xs i n ys) ≡ length xs
 with_run_length xs i n ys inside long =
-    let front = length-take-le i xs (omega (arith, inside)) in let behind = length-drop n (drop i xs) in let rest = length-drop i xs in
+    let prefix = length-take-le i xs (omega (arith, inside)) in let after = length-drop n (drop i xs) in let rest = length-drop i xs in
     let all = length-append (take i xs) (ys ++ drop n (drop i xs)) in let both = length-append ys (drop n (drop i xs)) in
     omega arith
 
@@ -40,13 +40,13 @@ with_run_length xs i n ys inside long =
 pub take_with_run : (xs : List ℕ) (i n : ℕ) (ys : List ℕ) → i + n ≤ length xs → length ys ≡ n →
     take (i + n) (with_run xs i n ys) ≡ take i xs ++ ys
 take_with_run xs i n ys inside long =
-    let rest = drop n (drop i xs) in let front : length (take i xs) ≡ i = length-take-le i xs (omega (arith, inside)) in
-    ap (λ k. take (k + n) (with_run xs i n ys)) (sym front) ∙ take-append-add (take i xs) (ys ++ rest) n
+    let rest = drop n (drop i xs) in let prefix : length (take i xs) ≡ i = length-take-le i xs (omega (arith, inside)) in
+    ap (λ k. take (k + n) (with_run xs i n ys)) (sym prefix) ∙ take-append-add (take i xs) (ys ++ rest) n
     ∙ ap (λ k. take i xs ++ take k (ys ++ rest)) (sym long) ∙ ap (λ t. take i xs ++ t) (take-append_seam ys rest)
 
 module _ {M : Type 1} {𝓤 : Ura M} (𝓛 : Logic 𝓤) (q : Share) (xs : List ℕ) (i n b o : ℕ) (inside : i + n ≤ length xs) where
-  front_long : length (take i xs) ≡ i
-  front_long = length-take-le i xs (omega (arith, inside))
+  prefix_long : length (take i xs) ≡ i
+  prefix_long = length-take-le i xs (omega (arith, inside))
 
   -- the bytes before the run and after it
   abbrev pub around : Fml
@@ -54,12 +54,13 @@ module _ {M : Type 1} {𝓤 : Ura M} (𝓛 : Logic 𝓤) (q : Share) (xs : List 
 
   pub run_out : ent 𝓤 (sem 𝓛 (row u8 q xs b o)) (⋆ 𝓛 (‵ (row u8 q (run_of xs i n) b (i + o)) ∷ ‵ around ∷ []))
   run_out =
-      let front = take i xs in let run = run_of xs i n in let back = drop n (drop i xs) in
-      let cut : xs ≡ front ++ (run ++ back) = sym (ap (λ t. front ++ t) (take-append-drop n (drop i xs)) ∙ take-append-drop i xs) in
-      let start : o + length front ≡ i + o = let long = front_long in omega arith in let end : i + o + length run ≡ i + o + n =
+      let prefix = take i xs in let run = run_of xs i n in let back = drop n (drop i xs) in
+      let cut : xs ≡ prefix ++ (run ++ back) = sym (ap (λ t. prefix ++ t) (take-append-drop n (drop i xs)) ∙ take-append-drop i xs) in
+      let start : o + length prefix ≡ i + o = let long = prefix_long in omega arith in let end : i + o + length run ≡ i + o + n =
       ap (λ k. i + o + k) (run_length xs i n inside) in
       qed 𝓛 (‵ (row u8 q xs b o) ∷ []) ∵ rewrite ! 0 (λ (ys : List ℕ). ‵ (row u8 q ys b o)) cut refl $
-      use1 𝓛 (‵ (row u8 q front b o) ⊛ ‵ (row u8 q (run ++ back) b (o + length front))) (bytes_cut 𝓛 q front (run ++ back) b o) $ split ! $
+      use1 𝓛 (‵ (row u8 q prefix b o) ⊛ ‵ (row u8 q (run ++ back) b (o + length prefix))) (bytes_cut 𝓛 q prefix (run ++ back) b o) $ split !
+      $
       move ! (1 ∷ []) $
       rewrite ! 0 (λ (k : ℕ). ‵ (row u8 q (run ++ back) b k)) start refl $
       use1 𝓛 (‵ (row u8 q run b (i + o)) ⊛ ‵ (row u8 q back b (i + o + length run))) (bytes_cut 𝓛 q run back b (i + o)) $ split ! $ move !
@@ -69,11 +70,11 @@ module _ {M : Type 1} {𝓤 : Ura M} (𝓛 : Logic 𝓤) (q : Share) (xs : List 
   pub run_back : (ys : List ℕ) → length ys ≡ n → ent 𝓤 (⋆ 𝓛 (‵ (row u8 q ys b (i + o)) ∷ ‵ around ∷ []))
       (sem 𝓛 (row u8 q (with_run xs i n ys) b o))
   run_back ys long =
-      let front = take i xs in let back = drop n (drop i xs) in
-      let start : i + o ≡ o + length front = let front_is = front_long in omega arith in let end : i + o + n ≡ i + o + length ys =
+      let prefix = take i xs in let back = drop n (drop i xs) in
+      let start : i + o ≡ o + length prefix = let prefix_is = prefix_long in omega arith in let end : i + o + n ≡ i + o + length ys =
       ap (λ k. i + o + k) (sym long) in
       qed 𝓛 (‵ (row u8 q ys b (i + o)) ∷ ‵ around ∷ []) ∵ move ! (1 ∷ []) $ fsplit ! $ move ! (1 ∷ []) $ rewrite ! 0
       (λ (k : ℕ). ‵ (row u8 q back b k)) end refl $ move ! (2 ∷ 0 ∷ []) $
       use2 𝓛 (‵ (row u8 q (ys ++ back) b (i + o))) (bytes_glue 𝓛 q ys back b (i + o)) $ rewrite ! 0
       (λ (k : ℕ). ‵ (row u8 q (ys ++ back) b k)) start refl $ move ! (1 ∷ 0 ∷ []) $
-      by ! (bytes_glue 𝓛 q front (ys ++ back) b o)
+      by ! (bytes_glue 𝓛 q prefix (ys ++ back) b o)

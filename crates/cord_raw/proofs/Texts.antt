@@ -62,16 +62,16 @@ pub range_is : (xs : List ℕ) (start n : ℕ) → slice_range xs start (start +
 range_is xs start n = ap (λ k. take k (drop start xs)) (omega arith)
 
 -- a range that begins after the first text
-range_behind : (xs ys : List ℕ) (start i n : ℕ) → start ≡ length xs + i →
+range_after : (xs ys : List ℕ) (start i n : ℕ) → start ≡ length xs + i →
     slice_range ys i (i + n) ≡ slice_range (xs ++ ys) start (start + n)
-range_behind xs ys start i n at = range_is ys i n ∙ sym (range_is (xs ++ ys) start n ∙ ap (λ k. take n (drop k (xs ++ ys))) at
+range_after xs ys start i n at = range_is ys i n ∙ sym (range_is (xs ++ ys) start n ∙ ap (λ k. take n (drop k (xs ++ ys))) at
     ∙ ap (take n) (drop-append-add xs ys i))
 
 -- the first bytes of the second text
-rest_behind : (xs ys : List ℕ) (start below rest : ℕ) → start + below ≤ length xs → (0 < rest → start + below ≡ length xs) →
+rest_after : (xs ys : List ℕ) (start below rest : ℕ) → start + below ≤ length xs → (0 < rest → start + below ≡ length xs) →
     take rest (drop below (drop start xs ++ ys)) ≡ take rest ys
-rest_behind xs ys start below zero inside tight = refl
-rest_behind xs ys start below (suc r) inside tight =
+rest_after xs ys start below zero inside tight = refl
+rest_after xs ys start below (suc r) inside tight =
     let at_seam : length (drop start xs) ≡ below = length-drop start xs ∙ omega (arith, tight (omega arith)) in
     ap (take (suc r)) (drop_at (drop start xs) ys below at_seam)
 
@@ -82,9 +82,9 @@ range_over_seam xs ys start below rest inside tight =
     let from_start : drop start (xs ++ ys) ≡ drop start xs ++ ys = drop-append-le start xs ys (omega (arith, inside)) in
     let some_left : below ≤ length (drop start xs) = subst (λ n. below ≤ n) (sym (length-drop start xs)) (omega (arith, inside)) in
     sym (range_is (xs ++ ys) start (below + rest) ∙ ap (take (below + rest)) from_start ∙ take-add below rest (drop start xs ++ ys)
-    ∙ ap (λ front. front ++ take rest (drop below (drop start xs ++ ys))) (take-append-le below (drop start xs) ys some_left)
-    ∙ ap (λ back. take below (drop start xs) ++ back) (rest_behind xs ys start below rest inside tight)
-    ∙ ap (λ front. front ++ take rest ys) (sym (range_is xs start below)) ∙ ap (λ back. slice_range xs start (start + below) ++ back)
+    ∙ ap (λ prefix. prefix ++ take rest (drop below (drop start xs ++ ys))) (take-append-le below (drop start xs) ys some_left)
+    ∙ ap (λ back. take below (drop start xs) ++ back) (rest_after xs ys start below rest inside tight)
+    ∙ ap (λ prefix. prefix ++ take rest ys) (sym (range_is xs start below)) ∙ ap (λ back. slice_range xs start (start + below) ++ back)
     (sym (range_is ys 0 rest)))
 
 -- the text from the block at i on is that block's, and then the text from the next one on
@@ -95,32 +95,32 @@ from_next c i j within next =
     text_from (blocks_of c) i c.newest inside ∙ ap (λ k. text_of (block_at c i) ++ text (drop k (blocks_of c))) onward
 
 -- where more than a block's bytes stand from the block at i on, it is full, and others are after it
-goes_behind : (c : Chain) (i k : ℕ) → IsFilled c → i ≤ length c.older → ROOM < k → k ≤ length (text (drop i (blocks_of c))) →
+goes_after : (c : Chain) (i k : ℕ) → IsFilled c → i ≤ length c.older → ROOM < k → k ≤ length (text (drop i (blocks_of c))) →
     (i < length c.older) × (length (text_of (block_at c i)) ≡ ROOM)
-goes_behind c i k filled within much there =
+goes_after c i k filled within much there =
     let more = goes_on c.older c.newest i k (omega (arith, filled.1, filled.2)) within much there in
     (more, full_at c.older c.newest i c.newest filled.0 more)
 
 -- and all but a block's bytes stand in those
-pub left_behind : (c : Chain) (i j k : ℕ) → IsFilled c → i ≤ length c.older → j ≡ i + 1 → ROOM < k →
+pub left_after : (c : Chain) (i j k : ℕ) → IsFilled c → i ≤ length c.older → j ≡ i + 1 → ROOM < k →
     k ≤ length (text (drop i (blocks_of c))) → k ≤ ROOM + length (text (drop j (blocks_of c)))
-left_behind c i j k filled within next much there =
+left_after c i j k filled within next much there =
     omega (
       arith,
       ap length (from_next c i j within next),
       length-append (text_of (block_at c i)) (text (drop j (blocks_of c))),
-      (goes_behind c i k filled within much there).1,
+      (goes_after c i k filled within much there).1,
       there,
     )
 
 -- nothing of a range that begins after the block at i stands in it
-pub behind_block : (c : Chain) (i j start n : ℕ) → IsFilled c → i ≤ length c.older → j ≡ i + 1 → ROOM ≤ start → 0 < n →
+pub after_block : (c : Chain) (i j start n : ℕ) → IsFilled c → i ≤ length c.older → j ≡ i + 1 → ROOM ≤ start → 0 < n →
     start + n ≤ length (text (drop i (blocks_of c)))
     → slice_range (text (drop j (blocks_of c))) (start - ROOM) (start - ROOM + n) ≡ slice_range (text (drop i (blocks_of c))) start
     (start + n)
-behind_block c i j start n filled within next over some there =
-    let full = (goes_behind c i (start + n) filled within (omega arith) there).1 in
-    range_behind (text_of (block_at c i)) (text (drop j (blocks_of c))) start (start - ROOM) n (omega arith)
+after_block c i j start n filled within next over some there =
+    let full = (goes_after c i (start + n) filled within (omega arith) there).1 in
+    range_after (text_of (block_at c i)) (text (drop j (blocks_of c))) start (start - ROOM) n (omega arith)
     ∙ ap (λ xs. slice_range xs start (start + n)) (sym (from_next c i j within next))
 
 -- the block at i has the first bytes of a range that begins in it
@@ -136,7 +136,7 @@ pub from_block : (c : Chain) (i j start run rest : ℕ) → IsFilled c → i ≤
 from_block c i j start run rest filled within next fits tight there =
     let holds = holds_run c i (start + run) filled within fits (omega (arith, there)) in
     let full : 0 < rest → length (text_of (block_at c i)) ≡ ROOM =
-    λ some. (goes_behind c i (start + (run + rest)) filled within (omega (arith, tight some, some)) there).1 in
+    λ some. (goes_after c i (start + (run + rest)) filled within (omega (arith, tight some, some)) there).1 in
     range_over_seam (text_of (block_at c i)) (text (drop j (blocks_of c))) start run rest holds (λ some. tight some ∙ sym (full some))
     ∙ ap (λ xs. slice_range xs start (start + (run + rest))) (sym (from_next c i j within next))
 

@@ -73,7 +73,7 @@ impl Chain {
         let mut chain = Chain::make(alloc)?;
         let mut rest = bytes;
         while rest.len() > ROOM {
-            let (run, behind) = rest.split_at(ROOM);
+            let (run, after) = rest.split_at(ROOM);
             chain.copy_in(run);
             match Chain::make(alloc) {
                 Ok(fresh) => chain.append(fresh),
@@ -82,7 +82,7 @@ impl Chain {
                     return Err(refused);
                 }
             }
-            rest = behind;
+            rest = after;
         }
         chain.copy_in(rest);
         Ok(chain)
@@ -104,8 +104,8 @@ impl Chain {
             return;
         }
         let run = wanted.min(ROOM - start);
-        let (front, back) = out.split_at_mut(run);
-        self.get_run(place, start, front);
+        let (prefix, back) = out.split_at_mut(run);
+        self.get_run(place, start, prefix);
         if run < wanted {
             self.copy_out(self.next(place), 0, back);
         }

@@ -6,7 +6,7 @@ use Rattle.cord_io.specs.Table.{Table}
 use Rattle.cord_io.specs.declared.TheConstants.{MAX_LEN}
 use Rattle.cord_node.specs.declared.Node.{Node}
 use Rattle.cord_node.specs.Tables.{lengths_of}
-use Rattle.cord_node.specs.Kept.{Kept}
+use Rattle.cord_node.specs.PartsFrom.{PartsFrom}
 use Rattle.cord_core.specs.Cord.{all_bytes, all_parts, parts_of, AllFitIn, IsCord}
 use Rattle.cord_core.specs.Equations.{IsAllOf}
 use Rattle.cord_meaning.specs.declared.ends.FaultKind.{FaultKind}
@@ -20,7 +20,7 @@ use Rattle.cord_run.specs.inner.Holdings.{holding_of, plain_of}
 use Rattle.cord_run.specs.inner.Ranges.{AddsExpression}
 use Rattle.cord_run.specs.inner.Origins.{AddsInTurn, InTurn, origins}
 use Rattle.cord_run.specs.inner.Expressions.{AreWhole, IsBuilt}
-use Rattle.cord_run.proofs.Lengths.{text_told}
+use Rattle.cord_run.proofs.Lengths.{text_reported}
 
 -- a text that has a length
 record Known (r : Result (List ℕ) FaultKind) (len : ℕ) : Type 0 where
@@ -46,7 +46,7 @@ module _ (entries : List Entry) (e : Expr) where
   whole_nothing pieces none extent = subst (λ (ps : List (Option Node)). AreWhole entries e ps) (sym none) (record {
     fits = λ lengths over. tt;
     bytes = λ t over there.
-        let k = known (text_in MAX_LEN (plain_of t entries) e) 0 (sym extent ∙ text_told t entries over e there) in
+        let k = known (text_in MAX_LEN (plain_of t entries) e) 0 (sym extent ∙ text_reported t entries over e there) in
         k.is ∙ ap (λ (u : List ℕ). Ok u) (empty_text k.text k.long);
   })
 
@@ -56,7 +56,7 @@ module _ (entries : List Entry) (e : Expr) where
   whole_range len old pieces none extent part = record {
     fits = λ lengths over. part.fits lengths over (subst (λ (ps : List (Option Node)). AllFitIn lengths ps) (sym none) tt);
     bytes = λ t over there.
-        let k = known (text_in MAX_LEN (plain_of t entries) e) len (sym extent ∙ text_told t entries over e there) in
+        let k = known (text_in MAX_LEN (plain_of t entries) e) len (sym extent ∙ text_reported t entries over e there) in
         let all : all_bytes t pieces ≡ k.text =
         part.bytes t over there k.text k.is
         ∙ ap (λ (ps : List (Option Node)). all_bytes t ps ++ take len (drop 0 k.text)) none
@@ -73,7 +73,7 @@ module _ (entries : List Entry) (e : Expr) where
 
   -- one cord of them
   pub whole_built : (pieces : List (Option Node)) (cord : Option Node) → AreWhole entries e pieces → InTurn entries (origins e) pieces →
-      Kept (all_parts pieces) (parts_of cord) → IsAllOf pieces cord → IsCord cord → IsBuilt entries e cord
+      PartsFrom (all_parts pieces) (parts_of cord) → IsAllOf pieces cord → IsCord cord → IsBuilt entries e cord
   whole_built pieces cord whole turns agrees all sound = record {
     sound = sound;
     fits = λ lengths over. all.fits lengths (whole.fits lengths over);
@@ -87,4 +87,5 @@ module _ (entries : List Entry) (e : Expr) where
   -- its fault
   pub whole_faulty : (kind : FaultKind) → Err kind ≡ extent_in entries e → (t : Table) → IsOver (lengths_of t) entries →
       all_texts (holding_of t entries) (cords e) ≡ true → text_in MAX_LEN (plain_of t entries) e ≡ Err kind
-  whole_faulty kind extent t over there = faulty (text_in MAX_LEN (plain_of t entries) e) kind (extent ∙ text_told t entries over e there)
+  whole_faulty kind extent t over there = faulty (text_in MAX_LEN (plain_of t entries) e) kind
+      (extent ∙ text_reported t entries over e there)

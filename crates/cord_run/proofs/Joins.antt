@@ -9,13 +9,13 @@ use Rattle.cord_node.specs.declared.Node.{Node}
 use Rattle.cord_node.specs.declared.Node.TheVariants.{Leaf, Run, Func, Cat'}
 use Rattle.cord_node.specs.declared.TheConstants.{SMALL_LEN}
 use Rattle.cord_node.specs.Tree.{Cell, known}
-use Rattle.cord_node.specs.Kept.{Part, leaf_part, Kept}
-use Rattle.cord_node.proofs.KeptLemmas.{IsFrom-small, Kept-both, Kept-self, Kept-trans, Kept_same}
+use Rattle.cord_node.specs.PartsFrom.{Part, leaf_part, PartsFrom}
+use Rattle.cord_node.proofs.PartsFromLemmas.{IsFrom-small, PartsFrom-both, PartsFrom-self, PartsFrom-trans, PartsFrom_same}
 use Rattle.cord_core.specs.Cord.{text, text_len, parts_of, IsCord, all_text, all_len, all_parts}
 use Rattle.cord_core.specs.Forms.{IsLeafOf}
 use Rattle.cord_core.proofs.Catting.{IsCatting, catting_step}
 use Rattle.cord_core.proofs.Parts.{leaf_text, leaf_len}
-use Rattle.cord_run.specs.inner.Joins.{AreInFront, IsFrontOf}
+use Rattle.cord_run.specs.inner.Joins.{ArePreceding, IsJoinOfFirst}
 use Rattle.cord_run.proofs.Ranges.{all_len_more}
 
 -- the first so many, and those after them
@@ -47,7 +47,7 @@ parts_more (x ∷ cs) c = ap (λ (ps : List Part). parts_of x ++ ps) (parts_more
 
 -- one leaf of few bytes has its part from any parts that there are
 pub leaf_kept : (b : List ℕ) (c : Option Node) → IsLeafOf b c → length b ≤ SMALL_LEN → (ps : List Part) → 0 < length ps →
-    Kept ps (parts_of c)
+    PartsFrom ps (parts_of c)
 leaf_kept b None is few ps some = record { no_more = omega arith; from_there = tt }
 leaf_kept b (Some (Leaf len bytes start mark)) is few ps some = record {
   no_more = omega (arith, some);
@@ -59,14 +59,14 @@ leaf_kept b (Some (Cat' mark depth len p left q right count)) is few ps some = a
 
 module _ (cords : List (Option Node)) where
   -- none are in front
-  pub none_in_front : (bytes : List ℕ) → bytes ≡ [] → AreInFront cords 0 bytes
-  none_in_front bytes none = rw none (record { within = omega arith; text = refl; len = refl; parts = omega arith; few = omega arith })
+  pub none_preceding : (bytes : List ℕ) → bytes ≡ [] → ArePreceding cords 0 bytes
+  none_preceding bytes none = rw none (record { within = omega arith; text = refl; len = refl; parts = omega arith; few = omega arith })
 
   -- one more is
-  pub more_in_front : (n : ℕ) (c : Option Node) → n < length cords → c ≡ get_or cords n c → (bytes slice more : List ℕ) →
+  pub more_preceding : (n : ℕ) (c : Option Node) → n < length cords → c ≡ get_or cords n c → (bytes slice more : List ℕ) →
       text c ≡ map known slice → text_len c ≡ length slice → 0 < length (parts_of c) → more ≡ bytes ++ slice → length more ≤ SMALL_LEN →
-      AreInFront cords n bytes → AreInFront cords (n + 1) more
-  more_in_front n c here is bytes slice more t l p grown few front =
+      ArePreceding cords n bytes → ArePreceding cords (n + 1) more
+  more_preceding n c here is bytes slice more t l p grown few prefix =
       let next : take (n + 1) cords ≡ take n cords ++ c ∷ [] =
       take_more cords n c here ∙ ap (λ (d : Option Node). take n cords ++ d ∷ []) (sym is) in
       let size : length more ≡ length bytes + length slice = ap length grown ∙ length-append bytes slice in
@@ -77,54 +77,56 @@ module _ (cords : List (Option Node)) where
       let long : all_len (take (n + 1) cords) ≡ all_len (take n cords) + text_len c = ap all_len next ∙ all_len_more (take n cords) c in
       record {
         within = omega (arith, here);
-        text = ap all_text next ∙ texts_more (take n cords) c ∙ ap (λ (xs : List Cell). xs ++ text c) front.text
+        text = ap all_text next ∙ texts_more (take n cords) c ∙ ap (λ (xs : List Cell). xs ++ text c) prefix.text
             ∙ ap (λ (xs : List Cell). map known bytes ++ xs) t ∙ sym (map-append known bytes slice) ∙ ap (map known) (sym grown);
-        len = omega (arith, long, front.len, l, size);
-        parts = omega (arith, many, front.parts, p);
+        len = omega (arith, long, prefix.len, l, size);
+        parts = omega (arith, many, prefix.parts, p);
         few = few;
       }
 
   -- they are one leaf of their bytes
-  pub leaf_in_front : (n : ℕ) (bytes : List ℕ) (leaf : Option Node) → AreInFront cords n bytes → 0 < n → IsCord leaf → IsLeafOf bytes leaf →
-      IsFrontOf cords n leaf
-  leaf_in_front n bytes leaf front some sound is = record {
+  pub leaf_before : (n : ℕ) (bytes : List ℕ) (leaf : Option Node) → ArePreceding cords n bytes → 0 < n → IsCord leaf → IsLeafOf bytes leaf →
+      IsJoinOfFirst cords n leaf
+  leaf_before n bytes leaf prefix some sound is = record {
     some = some;
-    within = front.within;
+    within = prefix.within;
     sound = sound;
-    text = leaf_text bytes leaf is ∙ sym front.text;
-    len = leaf_len bytes leaf is ∙ sym front.len;
-    kept = leaf_kept bytes leaf is front.few (all_parts (take n cords)) (omega (arith, some, front.parts));
+    text = leaf_text bytes leaf is ∙ sym prefix.text;
+    len = leaf_len bytes leaf is ∙ sym prefix.len;
+    parts_from = leaf_kept bytes leaf is prefix.few (all_parts (take n cords)) (omega (arith, some, prefix.parts));
   }
 
 -- the first one alone
-pub one_in_front : (cords : List (Option Node)) (c : Option Node) → 0 < length cords → c ≡ get_or cords 0 c → IsCord c → IsFrontOf cords 1 c
-one_in_front [] c some is sound = absurd (omega (arith, some))
-one_in_front (x ∷ cords) c some is sound = record {
+pub one_preceding : (cords : List (Option Node)) (c : Option Node) → 0 < length cords → c ≡ get_or cords 0 c → IsCord c → IsJoinOfFirst
+    cords 1 c
+one_preceding [] c some is sound = absurd (omega (arith, some))
+one_preceding (x ∷ cords) c some is sound = record {
   some = omega arith;
   within = omega arith;
   sound = sound;
   text = ap text is ∙ sym (append-nil (text x));
   len = let same : text_len c ≡ text_len x = ap text_len is in omega (arith, same);
-  kept = Kept_same (parts_of x ++ []) (parts_of c) (ap parts_of is ∙ sym (append-nil (parts_of x)));
+  parts_from = PartsFrom_same (parts_of x ++ []) (parts_of c) (ap parts_of is ∙ sym (append-nil (parts_of x)));
 }
 
 -- the first so many of those that are left become one
-grouped : (cords rest : List (Option Node)) (n : ℕ) (z all : Option Node) → IsCatting cords rest all → IsFrontOf rest n z →
+grouped : (cords rest : List (Option Node)) (n : ℕ) (z all : Option Node) → IsCatting cords rest all → IsJoinOfFirst rest n z →
     IsCatting cords (z ∷ drop n rest) all
 grouped cords rest n z all i f =
-    let pair : Kept (all_parts rest) (parts_of z ++ all_parts (drop n rest)) =
-    subst (λ (ps : List Part). Kept ps (parts_of z ++ all_parts (drop n rest))) (parts_split n rest)
-    (Kept-both (all_parts (take n rest)) (all_parts (drop n rest)) (parts_of z) (all_parts (drop n rest)) f.kept
-    (Kept-self (all_parts (drop n rest)))) in
+    let pair : PartsFrom (all_parts rest) (parts_of z ++ all_parts (drop n rest)) =
+    subst (λ (ps : List Part). PartsFrom ps (parts_of z ++ all_parts (drop n rest))) (parts_split n rest)
+    (PartsFrom-both (all_parts (take n rest)) (all_parts (drop n rest)) (parts_of z) (all_parts (drop n rest)) f.parts_from
+    (PartsFrom-self (all_parts (drop n rest)))) in
     let long = lengths_split n rest in
     record {
       sound = i.sound;
-      told = ap (λ (xs : List Cell). text all ++ (xs ++ all_text (drop n rest))) f.text
-          ∙ ap (λ (xs : List Cell). text all ++ xs) (texts_split n rest) ∙ i.told;
+      reported = ap (λ (xs : List Cell). text all ++ (xs ++ all_text (drop n rest))) f.text
+          ∙ ap (λ (xs : List Cell). text all ++ xs) (texts_split n rest) ∙ i.reported;
       len = omega (arith, i.len, f.len, long);
-      kept = Kept-trans (all_parts cords) (parts_of all ++ all_parts rest) (parts_of all ++ (parts_of z ++ all_parts (drop n rest)))
-          i.kept (Kept-both (parts_of all) (all_parts rest) (parts_of all) (parts_of z ++ all_parts (drop n rest))
-          (Kept-self (parts_of all)) pair);
+      parts_from = PartsFrom-trans (all_parts cords) (parts_of all ++ all_parts rest)
+          (parts_of all ++ (parts_of z ++ all_parts (drop n rest)))
+          i.parts_from (PartsFrom-both (parts_of all) (all_parts rest) (parts_of all) (parts_of z ++ all_parts (drop n rest))
+          (PartsFrom-self (parts_of all)) pair);
     }
 
 -- a slice that goes to the end
@@ -132,20 +134,20 @@ to_end : (cords : List (Option Node)) (place : ℕ) → take (length cords - pla
 to_end cords place = let left = length-drop place cords in take_all (length cords - place) (drop place cords) (omega (arith, left))
 
 module _ (cords : List (Option Node)) (place n : ℕ) (z : Option Node)
-    (front : IsFrontOf (take (length cords - place) (drop place cords)) n z) where
-  at_place : IsFrontOf (drop place cords) n z
-  at_place = subst (λ (cs : List (Option Node)). IsFrontOf cs n z) (to_end cords place) front
+    (prefix : IsJoinOfFirst (take (length cords - place) (drop place cords)) n z) where
+  at_place : IsJoinOfFirst (drop place cords) n z
+  at_place = subst (λ (cs : List (Option Node)). IsJoinOfFirst cs n z) (to_end cords place) prefix
 
   -- one more front was joined
-  pub front_joined : (all next : Option Node) → IsCatting cords (drop place cords) all → IsCord next → text next ≡ text all ++ text z →
-      text_len next ≡ text_len all + text_len z → Kept (parts_of all ++ parts_of z) (parts_of next) →
+  pub prefix_joined : (all next : Option Node) → IsCatting cords (drop place cords) all → IsCord next → text next ≡ text all ++ text z →
+      text_len next ≡ text_len all + text_len z → PartsFrom (parts_of all ++ parts_of z) (parts_of next) →
       IsCatting cords (drop (place + n) cords) next
-  front_joined all next i s t l k =
+  prefix_joined all next i s t l k =
       subst (λ (cs : List (Option Node)). IsCatting cords cs next) (drop-drop n place cords)
       (catting_step cords z (drop n (drop place cords)) all next (grouped cords (drop place cords) n z all i at_place) s t l k)
 
-  pub front_within : place ≤ length cords → place + n ≤ length cords
-  front_within within = let left = length-drop place cords in omega (arith, at_place.within, left, within)
+  pub prefix_within : place ≤ length cords → place + n ≤ length cords
+  prefix_within within = let left = length-drop place cords in omega (arith, at_place.within, left, within)
 
 -- all are joined
 pub joined_whole : (cords : List (Option Node)) (place : ℕ) (all : Option Node) → length cords ≤ place →

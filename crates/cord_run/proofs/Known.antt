@@ -23,7 +23,7 @@ use Rattle.cord_run.specs.inner.Definitions.{file_made}
 use Rattle.cord_run.specs.inner.Entries.{HasContent, content_in, content_length, length_in, operand_in}
 use Rattle.cord_run.specs.inner.Extents.{extent_in, members_extent}
 use Rattle.cord_run.specs.inner.Known.{EndsInName, IsExtent, IsKnownAt, IsKnownOf, Measures, StaysKnown}
-use Rattle.cord_run.proofs.Fronts.{added, extent_both}
+use Rattle.cord_run.proofs.Prefixes.{added, extent_both}
 use Rattle.cord_run.proofs.Lengths.{Both, both, length_passed}
 use Rattle.cord_run.proofs.Members.{counted_length}
 
@@ -109,7 +109,7 @@ last_is d (member f es) e = last_is f es e
 module _ (entries : List Entry) where
   one_more : (es all : Exprs) (e : Expr) (z : List ℕ) (len : ℕ) → all ≡ append es (member e nothing) → e ≡ name z →
       extent_in entries (cat es) ≡ Ok len → extent_in entries (cat all) ≡ as_length MAX_LEN (min (len + length_in entries z) (2 ^ 64 - 1))
-  one_more es all e z len is ends told = by_sum (members_extent entries es) refl told
+  one_more es all e z len is ends reported = by_sum (members_extent entries es) refl reported
     where
       more : ℕ
       more = length_in entries z
@@ -173,16 +173,16 @@ ends_in [] m e = let bad : ⊥ = cc in absurd bad
 ends_in (k ∷ []) m e = let same : k ≡ m = cc in (nothing, ap (λ (s : Shared). member (shared_view s) nothing) same)
 ends_in (k ∷ l ∷ rest) m e =
     let later : length (k ∷ l ∷ rest) - 1 ≡ suc (length (l ∷ rest) - 1) = omega arith in
-    let behind = ends_in (l ∷ rest) m (subst (λ (i : ℕ). slice_get (k ∷ l ∷ rest) i ≡ Some m) later e) in
-    (member (shared_view k) behind.0, ap (λ (es : Exprs). member (shared_view k) es) behind.1)
+    let suffix = ends_in (l ∷ rest) m (subst (λ (i : ℕ). slice_get (k ∷ l ∷ rest) i ≡ Some m) later e) in
+    (member (shared_view k) suffix.0, ap (λ (es : Exprs). member (shared_view k) es) suffix.1)
 
-pub last_named : (all front : Exprs) (rest : List Shared) (m : Shared) (x : List ℕ) →
-    all ≡ append front (members_of (map shared_view rest)) → slice_get rest (length rest - 1) ≡ Some m → shared_view m ≡ name x →
+pub last_named : (all prefix : Exprs) (rest : List Shared) (m : Shared) (x : List ℕ) →
+    all ≡ append prefix (members_of (map shared_view rest)) → slice_get rest (length rest - 1) ≡ Some m → shared_view m ≡ name x →
     EndsInName all x
-last_named all front rest m x halves last named =
-    let behind = ends_in rest m last in
+last_named all prefix rest m x halves last named =
+    let suffix = ends_in rest m last in
     record {
-      others = append front behind.0;
-      is = halves ∙ ap (λ (es : Exprs). append front es) behind.1 ∙ append_twice front behind.0 (member (shared_view m) nothing)
-          ∙ ap (λ (e : Expr). append (append front behind.0) (member e nothing)) named;
+      others = append prefix suffix.0;
+      is = halves ∙ ap (λ (es : Exprs). append prefix es) suffix.1 ∙ append_twice prefix suffix.0 (member (shared_view m) nothing)
+          ∙ ap (λ (e : Expr). append (append prefix suffix.0) (member e nothing)) named;
     }

@@ -38,9 +38,9 @@ content_text t (Whole cord) = refl
 content_text t (Long len) = refl
 
 -- the length told of a content is that of what it holds
-pub told_length : (t : Table) (c : Content) → ContentFits (lengths_of t) c → content_length c ≡ held_length (held_over t c)
-told_length t (Whole cord) h = length-bytes t cord h.0 h.1
-told_length t (Long len) h = refl
+pub reported_length : (t : Table) (c : Content) → ContentFits (lengths_of t) c → content_length c ≡ held_length (held_over t c)
+reported_length t (Whole cord) h = length-bytes t cord h.0 h.1
+reported_length t (Long len) h = refl
 
 -- a number operand has the value that the holding gives it
 pub operand_value : (t : Table) (entries : List Entry) (n : Number) → operand_in entries n ≡ number_value (plain_of t entries) n
@@ -49,10 +49,11 @@ operand_value t entries (Named x) = refl
 
 module _ (t : Table) (entries : List Entry) (over : IsOver (lengths_of t) entries) where
   -- the length told of an expression is the one that the meaning of plans has
-  pub told_extent : (e : Expr) → extent_in entries e ≡ extent MAX_LEN e (holding_of t entries)
-  told_extent e = λ i. measured MAX_LEN (λ x. told_length t (content_in entries x) (over.contents x) i) (λ n. operand_value t entries n i) e
+  pub reported_extent : (e : Expr) → extent_in entries e ≡ extent MAX_LEN e (holding_of t entries)
+  reported_extent e = λ i. measured MAX_LEN (λ x. reported_length t (content_in entries x) (over.contents x) i)
+      (λ n. operand_value t entries n i) e
 
--- a text of the length that is told
+-- a text of the length that is reported
 abbrev padded : Held → List ℕ
 padded (Text text) = text
 padded (meaning.Long len) = replicate len 0
@@ -91,19 +92,19 @@ texts_split h (x ∷ xs) ys e =
 module _ (t : Table) (entries : List Entry) (over : IsOver (lengths_of t) entries) (e : Expr)
     (there : all_texts (holding_of t entries) (cords e) ≡ true) where
   -- the length told of an expression whose names all hold texts is that of its text
-  pub text_told : extent_in entries e ≡ length_of (text_in MAX_LEN (plain_of t entries) e)
-  text_told =
+  pub text_reported : extent_in entries e ≡ length_of (text_in MAX_LEN (plain_of t entries) e)
+  text_reported =
       let h : Holding = holding_of t entries in
       let full : State = record { texts = λ x. padded (h.held x); numbers = h.numbers; extensibles = h.extensibles } in
       let same : text_in MAX_LEN (plain h) e ≡ text_in MAX_LEN full e =
       value_same MAX_LEN (plain h) full e (λ y i. padded_same (h.held y) (text_there h (cords e) y there i)) (λ y i. refl) in
-      told_extent t entries over e ∙ extent_is MAX_LEN h full refl (λ y. padded_length (h.held y)) e ∙ ap length_of (sym same)
+      reported_extent t entries over e ∙ extent_is MAX_LEN h full refl (λ y. padded_length (h.held y)) e ∙ ap length_of (sym same)
 
   -- such an expression is as long as its text
   pub text_length : (text : List ℕ) → text_in MAX_LEN (plain_of t entries) e ≡ Ok text → extent_in entries e ≡ Ok (length text)
-  text_length text is = text_told ∙ ap length_of is
+  text_length text is = text_reported ∙ ap length_of is
 
--- no length is told that is longer than a cord can be
+-- no length is reported that is longer than a cord can be
 cord_short : (lengths : Lengths) (c : Content) → ContentFits lengths c → content_length c ≤ MAX_LEN
 cord_short lengths (Whole None) h = omega arith
 cord_short lengths (Whole (Some node)) h = len_limit node h.0

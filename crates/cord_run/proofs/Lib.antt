@@ -2,7 +2,7 @@ pub mod Entries
 pub mod Splices
 pub mod Members
 pub mod Lengths
-pub mod Fronts
+pub mod Prefixes
 pub mod Known
 pub mod Origins
 pub mod MemberRanges
@@ -20,7 +20,7 @@ pub mod Blank
 pub mod Branches
 pub mod Loop
 pub mod Lines
-pub mod HonestEnds
+pub mod FaithfulEnds
 pub mod Readers
 pub mod Ends
 pub mod Meaning

@@ -7,9 +7,9 @@ use Rattle.std.proofs.lemmas.Option.{get_or_from_slice_get, slice_get_within}
 use Rattle.cord_meaning.specs.declared.ends.End.{End}
 use Rattle.cord_meaning.specs.declared.ends.FaultKind.{FaultKind}
 use Rattle.cord_meaning.specs.declared.ends.FaultKind.TheVariants.{Negative, TooManyTurns}
-use Rattle.cord_meaning.specs.Blocks.{Shape, Simple, Loop, Branch, Otherwise, Close}
+use Rattle.cord_meaning.specs.Blocks.{Shape, Straight, Loop, Branch, Otherwise, Close}
 use Rattle.cord_meaning.specs.Machine.{Rules, Block, Turns, Chosen, Config, acted, after, begins, chooses, closes, enough, faults}
-use Rattle.cord_meaning.specs.Machine.{if_running, jump_from, notes, repeats, run_moments, runs, runs_shape, turned}
+use Rattle.cord_meaning.specs.Machine.{if_running, jump_from, notes, repeats, run_trace, runs, runs_shape, turned}
 use Rattle.cord_meaning.proofs.Terminates.{ends, settles}
 
 -- the lines of the open blocks
@@ -63,7 +63,7 @@ module _ {S : Type 0} where
 
 module _ {L S : Type 0} (rules : Rules L S) (most : ℕ) (statements : List L) (counted : All (λ l. 0 < rules.line l) statements) where
   by_shape : (c : Config S) (l : L) (shape : Shape) → 0 < rules.line l → Counted c → Counted (runs_shape rules most statements c l shape)
-  by_shape c l Simple lt h = acts c (rules.line l) (rules.act c.place l c.state) h lt
+  by_shape c l Straight lt h = acts c (rules.line l) (rules.act c.place l c.state) h lt
   by_shape c l Loop lt h = counts most c (rules.line l) (jump_from rules most statements c.place) (rules.count l c.state) h lt
   by_shape c l Branch lt h = compares c (rules.line l) (jump_from rules most statements c.place) (rules.holds l c.state) h lt
   by_shape c l Otherwise lt h = record { seen = h.seen; blocks = h.blocks }
@@ -87,7 +87,7 @@ module _ {L S : Type 0} (rules : Rules L S) (most : ℕ) (statements : List L) (
   after_steps state (suc k) = let c : Config S = after rules most statements k state in by_end c c.ended (after_steps state k)
 
   -- all members of the run
-  pub members_counted : (state : S) → All (λ m. 0 < m.line) (run_moments rules most statements state)
+  pub members_counted : (state : S) → All (λ m. 0 < m.line) (run_trace rules most statements state)
   members_counted state = subst (λ (c : Config S). All (λ m. 0 < m.line) c.seen)
       (sym (settles rules most statements state (enough most statements) (ends rules most statements state)))
       (after_steps state (enough most statements)).seen

@@ -2,7 +2,7 @@
 use Rattle.std.proofs.Common.{◌≡◌, ◌≤◌, ◌+◌, ℕ, List, [], ◌++◌, length, take, drop, sym, ap, subst, ◌∙◌, inl, arith}
 use Rattle.std.specs.Prelude.{Option}
 use Rattle.cord_io.specs.declared.TheConstants.{MAX_LEN}
-use Rattle.cord_io.specs.Entries.{text_of, digit_at, byte_value_at, length-text_of}
+use Rattle.cord_io.specs.FunctionTexts.{text_of, digit_at, byte_value_at, length-text_of}
 use Rattle.cord_io.proofs.Entries.{range-text_of}
 use Rattle.cord_io.specs.Table.{Lengths}
 use Rattle.cord_node.specs.declared.Node.{Node}
@@ -10,8 +10,8 @@ use Rattle.cord_node.specs.Tree.{Cell}
 use Rattle.cord_node.specs.Tables.{AreHeldIn, lengths_of}
 use Rattle.cord_core.specs.Cord.{IsCord}
 use Rattle.cord_core.specs.Equations.{IsEntryRange}
-use Rattle.cord_ec.specs.Grown.{bytes_over, IsCordOf, IsGrownBy}
-use Rattle.cord_file.specs.Entries.{lengths_in, table_in}
+use Rattle.cord_ec.specs.Grown.{bytes_of_cells, IsCordOf, IsGrownBy}
+use Rattle.cord_file.specs.FileTable.{lengths_in, table_in}
 use Rattle.cord_operands.specs.declared.operands.Function.{Function}
 use Rattle.cord_operands.specs.declared.operands.Function.TheVariants.{Digits, Bytes}
 use Rattle.cord_run.specs.inner.Contents.{IsStartOf, IsTextOf, entry_of}
@@ -25,7 +25,7 @@ gathered_text text before after cord none short grown of sound = record {
   whole = record {
     fits = λ lengths. of.fits lengths (held lengths);
     bytes = λ t. of.bytes t (held (lengths_of t)) ∙ grown.bytes t (nothing (lengths_of t))
-        ∙ ap (λ (xs : List Cell). bytes_over t xs ++ text) none;
+        ∙ ap (λ (xs : List Cell). bytes_of_cells t xs ++ text) none;
   };
 }
   where
@@ -48,14 +48,14 @@ module _ (count : ℕ) (cord : Option Node) (short : count ≤ MAX_LEN) (sound :
   start_by Digits range = record {
     sound = sound;
     fits = λ now. range.fits (lengths_in now) (inl inside);
-    bytes = λ now folder. range.bytes (table_in now folder)
+    bytes = λ now file_system. range.bytes (table_in now file_system)
         (inl (let long : length (text_of digit_at MAX_LEN) ≡ MAX_LEN = length-text_of digit_at MAX_LEN in
         subst (λ (n : ℕ). 0 + count ≤ n) (sym long) inside)) ∙ start_text digit_at MAX_LEN count short;
   }
   start_by Bytes range = record {
     sound = sound;
     fits = λ now. range.fits (lengths_in now) (inl inside);
-    bytes = λ now folder. range.bytes (table_in now folder)
+    bytes = λ now file_system. range.bytes (table_in now file_system)
         (inl (let long : length (text_of byte_value_at MAX_LEN) ≡ MAX_LEN = length-text_of byte_value_at MAX_LEN in
         subst (λ (n : ℕ). 0 + count ≤ n) (sym long) inside)) ∙ start_text byte_value_at MAX_LEN count short;
   }

@@ -21,7 +21,7 @@ use Rattle.cord_run.specs.inner.Entries.{IsOver}
 use Rattle.cord_run.specs.inner.Holdings.{holding_of, plain_of}
 use Rattle.cord_run.specs.inner.Origins.{Origin, origins, origins_of}
 use Rattle.cord_run.specs.inner.Ranges.{AddsExpression, AddsMembers, AddsRange, IsAfter, IsPast, joined_over}
-use Rattle.cord_run.proofs.Fronts.{IsFront, added, extent_both, member_front, members_front, origins_both, parts_of}
+use Rattle.cord_run.proofs.Prefixes.{IsPrefix, added, extent_both, member_prefix, members_prefix, origins_both, parts_of}
 use Rattle.cord_run.proofs.Origins.{TurnsSoFar, turns_added, turns_end, turns_go_on, turns_start}
 
 -- ---- texts
@@ -141,14 +141,14 @@ ends_added entries es wanted old left_over left now next s part = record {
 -- what is in front of the others is added
 passed : (entries : List Entry) (es : Exprs) (wanted : Wanted) (old : List (Option Node)) (all others : Exprs)
     (needed : List (List ℕ)) (from : List Origin) (first : Table → Result (List ℕ) FaultKind) (extent : Result ℕ FaultKind) →
-    IsFront entries all others needed first extent → origins_of all ≡ from ++ origins_of others → (left after : Wanted)
+    IsPrefix entries all others needed first extent → origins_of all ≡ from ++ origins_of others → (left after : Wanted)
     (now next : List (Option Node)) → SoFar entries es wanted old all left now → AddsRange entries needed from first left now next →
     IsAfter extent left after → SoFar entries es wanted old others after next
-passed entries es wanted old all others needed from first extent front turns left after now next s part past = record {
+passed entries es wanted old all others needed from first extent prefix turns left after now next s part past = record {
   fits = λ lengths over fit. part.fits lengths over (s.fits lengths over fit);
   bytes = λ t over there text is.
       let r = s.bytes t over there text is in
-      let p = parts_of entries all others needed first extent front t over r.rest r.joined r.there in
+      let p = parts_of entries all others needed first extent prefix t over r.rest r.joined r.there in
       let at : IsPast (length p.first) left after = subst (λ (q : Result ℕ FaultKind). IsAfter q left after) p.extent_is past in
       let split : take left.count (drop left.skip r.rest) ≡ take left.count (drop left.skip p.first)
       ++ take after.count (drop after.skip p.second) =
@@ -172,7 +172,8 @@ pub goes_on : (entries : List Entry) (es : Exprs) (wanted : Wanted) (old : List 
     (left after : Wanted) (now next : List (Option Node)) → SoFar entries es wanted old (member e others) left now →
     AddsExpression entries e left now next → IsAfter (extent_in entries e) left after → SoFar entries es wanted old others after next
 goes_on entries es wanted old e others left after now next s part past = passed entries es wanted old (member e others) others (cords e)
-    (origins e) (λ t. text_in MAX_LEN (plain_of t entries) e) (extent_in entries e) (member_front entries e others) refl left after now next
+    (origins e) (λ t. text_in MAX_LEN (plain_of t entries) e) (extent_in entries e) (member_prefix entries e others) refl left after now
+    next
     s part past
 
 -- those in front, and then the others
@@ -183,7 +184,7 @@ both_added entries es others wanted left old now next first past second =
     let all = append es others in
     ends_added entries all wanted old others left now next
     (passed entries all wanted old all others (cords_of es) (origins_of es) (λ t. joined_over entries es t) (members_extent entries es)
-    (members_front entries es others) (origins_both es others) wanted left old now (starts entries all wanted old) first past) second
+    (members_prefix entries es others) (origins_both es others) wanted left old now (starts entries all wanted old) first past) second
 
 -- ---- what is wanted after the members
 -- after one length and another

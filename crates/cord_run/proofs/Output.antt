@@ -10,8 +10,8 @@ use Rattle.cord_io.specs.declared.faults.CordError.TheVariants.{NoMemory, TooLon
 use Rattle.cord_io.specs.declared.writing.Sink as sinks
 use Rattle.cord_node.specs.declared.Node.{Node}
 use Rattle.cord_core.specs.Cord.{bytes_of, all_bytes, CordFitsIn, AllFitIn}
-use Rattle.cord_iter.specs.Output.{Counts, CountsFaults, IsFrontOf, Takes}
-use Rattle.cord_iter.proofs.Takes.{appends_both, front_join, front_more}
+use Rattle.cord_iter.specs.Output.{Counts, CountsFaults, IsPrefixOf, Takes}
+use Rattle.cord_iter.proofs.Takes.{appends_both, prefix_join, prefix_more}
 use Rattle.cord_meaning.specs.declared.ends.FaultKind.{FaultKind}
 use Rattle.cord_plan.specs.Exprs.{Expr}
 use Rattle.cord_plan.specs.Meaning.{all_texts, cords}
@@ -24,7 +24,7 @@ use Rattle.cord_run.specs.inner.Entries.{IsOver}
 use Rattle.cord_run.specs.inner.Holdings.{holding_of, plain_of}
 use Rattle.cord_run.specs.inner.Output.{CountsStops, PutsText, Wrote, stop_of_failure}
 use Rattle.cord_run.specs.inner.Expressions.{AreWhole, IsUnbuilt}
-use Rattle.cord_run.proofs.Tables.{over_told}
+use Rattle.cord_run.proofs.Tables.{over_reported}
 
 -- each of them fits
 pub fits_at : (lengths : Lengths) (ps : List (Option Node)) (i : ℕ) (d : Option Node) → AllFitIn lengths ps → i < length ps →
@@ -42,27 +42,27 @@ puts_none t ps a = sym (append-nil a)
 
 module _ (t : Table) (ps : List (Option Node)) (i : ℕ) (p : Option Node) (inside : i < length ps) (is : p ≡ get_or ps i p) (a b c : List ℕ)
     (so_far : b ≡ a ++ all_bytes t (take i ps)) where
-  abbrev front : List ℕ
-  front = all_bytes t (take i ps)
+  abbrev prefix : List ℕ
+  prefix = all_bytes t (take i ps)
 
-  next : all_bytes t (take (i + 1) ps) ≡ front ++ bytes_of t p
+  next : all_bytes t (take (i + 1) ps) ≡ prefix ++ bytes_of t p
   next = joined_next (λ (qs : List (Option Node)). all_bytes t qs) (λ (q : Option Node). bytes_of t q) ps i p (pieces_joined t) inside
-      ∙ ap (λ (q : Option Node). front ++ bytes_of t q) (sym is)
+      ∙ ap (λ (q : Option Node). prefix ++ bytes_of t q) (sym is)
 
   -- one more
   pub puts_next : c ≡ b ++ bytes_of t p → c ≡ a ++ all_bytes t (take (i + 1) ps)
-  puts_next took = appends_both a b c front (bytes_of t p) so_far took ∙ ap (λ (u : List ℕ). a ++ u) (sym next)
+  puts_next took = appends_both a b c prefix (bytes_of t p) so_far took ∙ ap (λ (u : List ℕ). a ++ u) (sym next)
 
   -- the next was not taken whole
-  pub puts_cut : Takes (IsFrontOf (bytes_of t p)) b c → Takes (IsFrontOf (all_bytes t ps)) a c
+  pub puts_cut : Takes (IsPrefixOf (bytes_of t p)) b c → Takes (IsPrefixOf (all_bytes t ps)) a c
   puts_cut took =
       let whole : all_bytes t ps ≡ all_bytes t (take (i + 1) ps) ++ all_bytes t (drop (i + 1) ps) =
       joined_all (λ (qs : List (Option Node)). all_bytes t qs) (λ (q : Option Node). bytes_of t q) ps (i + 1) (pieces_joined t) in
       record {
-        out = front ++ took.out;
-        such = front_more (all_bytes t ps) (all_bytes t (take (i + 1) ps)) (all_bytes t (drop (i + 1) ps)) (front ++ took.out) whole
-            (front_join (all_bytes t (take (i + 1) ps)) front (bytes_of t p) took.out next took.such);
-        taken = appends_both a b c front took.out so_far took.taken;
+        out = prefix ++ took.out;
+        such = prefix_more (all_bytes t ps) (all_bytes t (take (i + 1) ps)) (all_bytes t (drop (i + 1) ps)) (prefix ++ took.out) whole
+            (prefix_join (all_bytes t (take (i + 1) ps)) prefix (bytes_of t p) took.out next took.such);
+        taken = appends_both a b c prefix took.out so_far took.taken;
       }
 
 -- all of them
@@ -71,29 +71,29 @@ pub puts_all : (t : Table) (ps : List (Option Node)) (i : ℕ) (a b : List ℕ) 
 puts_all t ps i a b h k = subst (λ (qs : List (Option Node)). b ≡ a ++ all_bytes t qs) (take_all i ps h) k
 
 -- ---- an expression
-module _ (entries : List Entry) (e : Expr) (ls : Lengths) (over : IsOver ls entries) (a b : List ℕ) (t : Table) (told : HasLengths ls t)
+module _ (entries : List Entry) (e : Expr) (ls : Lengths) (over : IsOver ls entries) (a b : List ℕ) (t : Table) (reported : HasLengths ls t)
     (there : all_texts (holding_of t entries) (cords e) ≡ true) where
   abbrev meant : Result (List ℕ) FaultKind
   meant = text_in MAX_LEN (plain_of t entries) e
 
   -- that had a fault, or no memory
   pub wrote_nothing : (stop : Stop) → IsUnbuilt entries e stop → b ≡ a → Wrote meant a b (Err stop)
-  wrote_nothing (stops.Fault kind) h same = (h t (over_told ls t told entries over) there, same)
+  wrote_nothing (stops.Fault kind) h same = (h t (over_reported ls t reported entries over) there, same)
   wrote_nothing stops.NoMemory h same = same
   wrote_nothing stops.ReadFailed h same = absurd h
   wrote_nothing stops.WriteFailed h same = absurd h
 
   -- that was put
   pub wrote_whole : (ps : List (Option Node)) → AreWhole entries e ps → b ≡ a ++ all_bytes t ps → Wrote meant a b (Ok tt)
-  wrote_whole ps whole h = (all_bytes t ps, whole.bytes t (over_told ls t told entries over) there, h)
+  wrote_whole ps whole h = (all_bytes t ps, whole.bytes t (over_reported ls t reported entries over) there, h)
 
   -- that was put in part
-  pub wrote_part : (ps : List (Option Node)) (error : CordError) → AreWhole entries e ps → Takes (IsFrontOf (all_bytes t ps)) a b →
+  pub wrote_part : (ps : List (Option Node)) (error : CordError) → AreWhole entries e ps → Takes (IsPrefixOf (all_bytes t ps)) a b →
       Wrote meant a b (Err (stop_of_failure error))
-  wrote_part ps NoMemory whole h = (all_bytes t ps, whole.bytes t (over_told ls t told entries over) there, h)
-  wrote_part ps TooLong whole h = (all_bytes t ps, whole.bytes t (over_told ls t told entries over) there, h)
-  wrote_part ps ReadFailed whole h = (all_bytes t ps, whole.bytes t (over_told ls t told entries over) there, h)
-  wrote_part ps WriteFailed whole h = (all_bytes t ps, whole.bytes t (over_told ls t told entries over) there, h)
+  wrote_part ps NoMemory whole h = (all_bytes t ps, whole.bytes t (over_reported ls t reported entries over) there, h)
+  wrote_part ps TooLong whole h = (all_bytes t ps, whole.bytes t (over_reported ls t reported entries over) there, h)
+  wrote_part ps ReadFailed whole h = (all_bytes t ps, whole.bytes t (over_reported ls t reported entries over) there, h)
+  wrote_part ps WriteFailed whole h = (all_bytes t ps, whole.bytes t (over_reported ls t reported entries over) there, h)
 
 -- a failure of a device was counted as such
 pub stop_counts : (error : CordError) (n m : Counts) → CountsFaults {T = Unit {0}} n m (Err error) →

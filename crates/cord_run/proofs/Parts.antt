@@ -9,9 +9,9 @@ use Rattle.cord_io.specs.declared.TheConstants.{MAX_LEN}
 use Rattle.cord_io.specs.declared.faults.CordError.{CordError}
 use Rattle.cord_io.specs.declared.faults.CordError.TheVariants as errors
 use Rattle.cord_node.specs.declared.Node.{Node}
-use Rattle.cord_node.specs.Kept.{Part, Kept}
+use Rattle.cord_node.specs.PartsFrom.{Part, PartsFrom}
 use Rattle.cord_node.specs.Tables.{lengths_of}
-use Rattle.cord_node.proofs.KeptLemmas.{Kept-join, Kept-self}
+use Rattle.cord_node.proofs.PartsFromLemmas.{PartsFrom-join, PartsFrom-self}
 use Rattle.cord_core.specs.Cord.{bytes_of, text_len, parts_of, CordFits, CordFitsIn, IsCord, all_bytes, all_parts, AllFitIn}
 use Rattle.cord_core.specs.Equations.{IsCatOf, IsSubstring, HasText}
 use Rattle.cord_core.specs.Refusals.{IsRefusal}
@@ -32,7 +32,7 @@ use Rattle.cord_run.specs.inner.Holdings.{holding_of, plain_of}
 use Rattle.cord_run.specs.inner.Expressions.{IsBuilt, IsUnbuilt}
 use Rattle.cord_run.specs.inner.Origins.{Origin, named, copied, origins, InTurn, IsCutOf, IsPieceOf}
 use Rattle.cord_run.proofs.Files.{long_text, short_text}
-use Rattle.cord_run.proofs.Fronts.{joined}
+use Rattle.cord_run.proofs.Prefixes.{joined}
 use Rattle.cord_run.proofs.Lengths.{Both, cord_fits, content_text, length_passed, operand_value, texts_split}
 use Rattle.cord_run.proofs.Definitions.{cord_limit}
 use Rattle.cord_run.proofs.Origins.{turns_joined}
@@ -53,7 +53,7 @@ module _ (entries : List Entry) where
       bytes = λ t over there. text t over ∙ ap (λ (u : List ℕ). Ok u) (sym (append-nil (bytes_of t cord)));
     };
     in_turn = subst (λ (os : List Origin). InTurn entries os (cord ∷ [])) (sym from) (inl (piece, tt));
-    shared = subst (λ (ps : List Part). Kept ps (parts_of cord)) (sym (append-nil (parts_of cord))) (Kept-self (parts_of cord));
+    shared = subst (λ (ps : List Part). PartsFrom ps (parts_of cord)) (sym (append-nil (parts_of cord))) (PartsFrom-self (parts_of cord));
   }
 
   -- a text that a cord has is within the limit
@@ -72,7 +72,7 @@ module _ (entries : List Entry) where
           sym (take_all (text_len cord) (bytes_of t cord)
           (let long : text_len cord ≡ length (bytes_of t cord) = length-bytes t cord sound h in omega (arith, long)));
     };
-    shared = Kept-self (parts_of cord);
+    shared = PartsFrom-self (parts_of cord);
   }
 
   pub name_built : (x : List ℕ) (cord : Option Node) → cord ≡ cord_in (content_in entries x) → IsCord cord → IsBuilt entries (name x) cord
@@ -96,11 +96,12 @@ module _ (entries : List Entry) where
 
     pub range_built : (start count : ℕ) (cord range : Option Node) → as_index (operand_in entries i) ≡ Ok start →
         as_index (operand_in entries n) ≡ Ok count → cord ≡ cord_in (content_in entries x) → IsSubstring start count cord range →
-        Kept (parts_of cord) (parts_of range) → IsCord range → IsBuilt entries (sub (name x) i n) range
+        PartsFrom (parts_of cord) (parts_of range) → IsCord range → IsBuilt entries (sub (name x) i n) range
     range_built start count cord range first second is cut kept sound =
         let there : Option Node = cord_in (content_in entries x) in
         let cut_there : IsSubstring start count there range = subst (λ (c : Option Node). IsSubstring start count c range) is cut in
-        let kept_there : Kept (parts_of there) (parts_of range) = subst (λ (c : Option Node). Kept (parts_of c) (parts_of range)) is kept in
+        let kept_there : PartsFrom (parts_of there) (parts_of range) = subst (λ (c : Option Node). PartsFrom (parts_of c) (parts_of range))
+        is kept in
         one_built (sub (name x) i n) (named x) range refl (record { start = start; count = count; range = cut_there; shared = kept_there })
         sound
         (λ lengths over. cut_there.fits lengths (cord_fits lengths (content_in entries x) (over.contents x)))
@@ -120,7 +121,7 @@ module _ (entries : List Entry) where
 
     copies_made : (z w : ℤ) (b count : ℕ) → as_byte z ≡ Ok b → measured_copies MAX_LEN z w ≡ Ok count →
         copies MAX_LEN z w ≡ Ok (replicate count b)
-    copies_made z w b count byte told = by_count (as_index w) refl
+    copies_made z w b count byte reported = by_count (as_index w) refl
       where
         by_length : (m : ℕ) (r : Result ℕ FaultKind) → as_length MAX_LEN m ≡ r → r ≡ Ok count →
             and_then r (λ _. Ok (replicate m b)) ≡ Ok (replicate count b)
@@ -133,17 +134,17 @@ module _ (entries : List Entry) where
         by_count (Ok m) e =
             (λ j. and_then (byte j) (λ a. and_then (e j) (λ k. and_then (as_length MAX_LEN k) (λ _. Ok (replicate k a)))))
             ∙ by_length m (as_length MAX_LEN m) refl
-            (sym (λ j. and_then (byte j) (λ a. and_then (e j) (λ k. as_length MAX_LEN k))) ∙ told)
+            (sym (λ j. and_then (byte j) (λ a. and_then (e j) (λ k. as_length MAX_LEN k))) ∙ reported)
         by_count (Err kind) e =
-            let none : Err kind ≡ Ok count = sym (λ j. and_then (byte j) (λ a. and_then (e j) (λ k. as_length MAX_LEN k))) ∙ told in
+            let none : Err kind ≡ Ok count = sym (λ j. and_then (byte j) (λ a. and_then (e j) (λ k. as_length MAX_LEN k))) ∙ reported in
             let bad : ⊥ = cc in absurd bad
 
     pub run_built : (b count : ℕ) (cord : Option Node) → as_byte (operand_in entries c) ≡ Ok b →
         measured_copies MAX_LEN (operand_in entries c) (operand_in entries n) ≡ Ok count → HasText (replicate count b) cord → IsCord cord →
         IsBuilt entries (run c n) cord
-    run_built b count cord byte told has sound = one_built (run c n) (copied c) cord refl
+    run_built b count cord byte reported has sound = one_built (run c n) (copied c) cord refl
         (record { value = b; count = count; is = byte; text = has }) sound (λ lengths over. has.fits lengths)
-        (λ t over. numbers_same t ∙ copies_made (operand_in entries c) (operand_in entries n) b count byte told
+        (λ t over. numbers_same t ∙ copies_made (operand_in entries c) (operand_in entries n) b count byte reported
         ∙ ap (λ (u : List ℕ). Ok u) (sym (has.bytes t)))
 
 -- ---- two parts
@@ -156,7 +157,7 @@ all_bytes_both t [] qs = refl
 all_bytes_both t (p ∷ ps) qs = ap (λ (u : List ℕ). bytes_of t p ++ u) (all_bytes_both t ps qs)
     ∙ sym (append_assoc (bytes_of t p) (all_bytes t ps) (all_bytes t qs))
 
--- a text that is told twice
+-- a text that is reported twice
 same_text : (r : Result (List ℕ) FaultKind) (u v : List ℕ) → r ≡ Ok u → r ≡ Ok v → u ≡ v
 same_text r u v first second = cc
 
@@ -186,33 +187,35 @@ module _ (entries : List Entry) (d e : Expr) where
       (λ j. and_then (joined (first j) (joined (second j) (Ok []))) (λ text. within MAX_LEN text))
       ∙ ap (λ (w : List ℕ). within MAX_LEN (u ++ w)) (append-nil v)
 
-  module _ (front behind : Option Node) (one : IsBuilt entries d front) (other : IsBuilt entries e behind) where
-    long : (t : Table) → IsOver (lengths_of t) entries → text_len front + text_len behind ≡ length (bytes_of t front ++ bytes_of t behind)
+  module _ (prefix suffix : Option Node) (one : IsBuilt entries d prefix) (other : IsBuilt entries e suffix) where
+    long : (t : Table) → IsOver (lengths_of t) entries → text_len prefix + text_len suffix ≡ length (bytes_of t prefix ++ bytes_of t suffix)
     long t over =
-        let first : text_len front ≡ length (bytes_of t front) = length-bytes t front one.sound (one.fits (lengths_of t) over) in
-        let second : text_len behind ≡ length (bytes_of t behind) = length-bytes t behind other.sound (other.fits (lengths_of t) over) in
-        omega (arith, first, second, length-append (bytes_of t front) (bytes_of t behind))
+        let first : text_len prefix ≡ length (bytes_of t prefix) = length-bytes t prefix one.sound (one.fits (lengths_of t) over) in
+        let second : text_len suffix ≡ length (bytes_of t suffix) = length-bytes t suffix other.sound (other.fits (lengths_of t) over) in
+        omega (arith, first, second, length-append (bytes_of t prefix) (bytes_of t suffix))
 
     pair_text : (t : Table) → IsOver (lengths_of t) entries → all_texts (holding_of t entries) (cords both) ≡ true →
-        text_len front + text_len behind ≤ MAX_LEN → text_in MAX_LEN (plain_of t entries) both ≡ Ok (bytes_of t front ++ bytes_of t behind)
+        text_len prefix + text_len suffix ≤ MAX_LEN → text_in MAX_LEN (plain_of t entries) both ≡ Ok
+        (bytes_of t prefix ++ bytes_of t suffix)
     pair_text t over there short =
         let h = here t there in
-        both_text t (bytes_of t front) (bytes_of t behind) (one.bytes t over h.first) (other.bytes t over h.second)
-        ∙ short_text (bytes_of t front ++ bytes_of t behind) (subst (λ (n : ℕ). n ≤ MAX_LEN) (long t over) short)
+        both_text t (bytes_of t prefix) (bytes_of t suffix) (one.bytes t over h.first) (other.bytes t over h.second)
+        ∙ short_text (bytes_of t prefix ++ bytes_of t suffix) (subst (λ (n : ℕ). n ≤ MAX_LEN) (long t over) short)
 
     -- the bytes of the pieces of both
     pieces_same : (t : Table) → IsOver (lengths_of t) entries → all_texts (holding_of t entries) (cords both) ≡ true →
-        bytes_of t front ++ bytes_of t behind ≡ all_bytes t (one.pieces ++ other.pieces)
+        bytes_of t prefix ++ bytes_of t suffix ≡ all_bytes t (one.pieces ++ other.pieces)
     pieces_same t over there =
         let h = here t there in
-        let front_same : bytes_of t front ≡ all_bytes t one.pieces =
-        same_text _ (bytes_of t front) (all_bytes t one.pieces) (one.bytes t over h.first) (one.whole.bytes t over h.first) in
-        let behind_same : bytes_of t behind ≡ all_bytes t other.pieces =
-        same_text _ (bytes_of t behind) (all_bytes t other.pieces) (other.bytes t over h.second) (other.whole.bytes t over h.second) in
-        (λ j. front_same j ++ behind_same j) ∙ sym (all_bytes_both t one.pieces other.pieces)
+        let prefix_same : bytes_of t prefix ≡ all_bytes t one.pieces =
+        same_text _ (bytes_of t prefix) (all_bytes t one.pieces) (one.bytes t over h.first) (one.whole.bytes t over h.first) in
+        let after_same : bytes_of t suffix ≡ all_bytes t other.pieces =
+        same_text _ (bytes_of t suffix) (all_bytes t other.pieces) (other.bytes t over h.second) (other.whole.bytes t over h.second) in
+        (λ j. prefix_same j ++ after_same j) ∙ sym (all_bytes_both t one.pieces other.pieces)
 
-    pub pair_built : (cord : Option Node) → IsCatOf front behind cord → IsCord cord →
-        Kept (parts_of front ++ parts_of behind) (parts_of cord) → text_len front + text_len behind ≤ MAX_LEN → IsBuilt entries both cord
+    pub pair_built : (cord : Option Node) → IsCatOf prefix suffix cord → IsCord cord →
+        PartsFrom (parts_of prefix ++ parts_of suffix) (parts_of cord) → text_len prefix + text_len suffix ≤ MAX_LEN → IsBuilt entries both
+        cord
     pair_built cord is sound kept short = record {
       sound = sound;
       fits = λ lengths over. is.fits lengths (one.fits lengths over) (other.fits lengths over);
@@ -225,23 +228,23 @@ module _ (entries : List Entry) (d e : Expr) where
       };
       in_turn = turns_joined entries (origins d) (origins e ++ []) one.pieces other.pieces one.in_turn
           (subst (λ (os : List Origin). InTurn entries os other.pieces) (sym (append-nil (origins e))) other.in_turn);
-      shared = subst (λ (ps : List Part). Kept ps (parts_of cord)) (sym (all_parts_both one.pieces other.pieces))
-          (Kept-join (all_parts one.pieces) (all_parts other.pieces) (parts_of front) (parts_of behind) (parts_of cord) one.shared
+      shared = subst (λ (ps : List Part). PartsFrom ps (parts_of cord)) (sym (all_parts_both one.pieces other.pieces))
+          (PartsFrom-join (all_parts one.pieces) (all_parts other.pieces) (parts_of prefix) (parts_of suffix) (parts_of cord) one.shared
           other.shared kept);
     }
 
     -- they are too long together
-    pub pair_too_long : MAX_LEN < text_len front + text_len behind → IsUnbuilt entries both (stops.Fault TooLong)
+    pub pair_too_long : MAX_LEN < text_len prefix + text_len suffix → IsUnbuilt entries both (stops.Fault TooLong)
     pair_too_long above = λ t over there.
         let h = here t there in
-        both_text t (bytes_of t front) (bytes_of t behind) (one.bytes t over h.first) (other.bytes t over h.second)
-        ∙ long_text (bytes_of t front ++ bytes_of t behind) (subst (λ (n : ℕ). MAX_LEN < n) (long t over) above)
+        both_text t (bytes_of t prefix) (bytes_of t suffix) (one.bytes t over h.first) (other.bytes t over h.second)
+        ∙ long_text (bytes_of t prefix ++ bytes_of t suffix) (subst (λ (n : ℕ). MAX_LEN < n) (long t over) above)
 
     -- their join is refused
-    abbrev pub TellsTooLong : Result (Option Node) CordError → Type 0
-    TellsTooLong r = r ≡ Err errors.TooLong → MAX_LEN < text_len front + text_len behind
+    abbrev pub ReportsTooLong : Result (Option Node) CordError → Type 0
+    ReportsTooLong r = r ≡ Err errors.TooLong → MAX_LEN < text_len prefix + text_len suffix
 
-    pub pair_refused : (error : CordError) → IsRefusal error → TellsTooLong (Err error) → IsUnbuilt entries both (stop_of_cord error)
+    pub pair_refused : (error : CordError) → IsRefusal error → ReportsTooLong (Err error) → IsUnbuilt entries both (stop_of_cord error)
     pair_refused errors.NoMemory refused above = tt
     pair_refused errors.TooLong refused above = pair_too_long (above refl)
     pair_refused errors.ReadFailed refused above = refused
@@ -257,11 +260,11 @@ module _ (entries : List Entry) (d e : Expr) where
   first_unbuilt stops.WriteFailed h = h
 
   -- the first one was built, and the other has a fault, or no memory
-  pub second_unbuilt : (front : Option Node) → IsBuilt entries d front → (stop : Stop) → IsUnbuilt entries e stop →
+  pub second_unbuilt : (prefix : Option Node) → IsBuilt entries d prefix → (stop : Stop) → IsUnbuilt entries e stop →
       IsUnbuilt entries both stop
-  second_unbuilt front one (stops.Fault kind) faulty = λ t over there.
+  second_unbuilt prefix one (stops.Fault kind) faulty = λ t over there.
       let h = here t there in
       (λ j. and_then (joined (one.bytes t over h.first j) (joined (faulty t over h.second j) (Ok []))) (λ text. within MAX_LEN text))
-  second_unbuilt front one stops.NoMemory h = tt
-  second_unbuilt front one stops.ReadFailed h = h
-  second_unbuilt front one stops.WriteFailed h = h
+  second_unbuilt prefix one stops.NoMemory h = tt
+  second_unbuilt prefix one stops.ReadFailed h = h
+  second_unbuilt prefix one stops.WriteFailed h = h

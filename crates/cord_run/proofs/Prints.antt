@@ -28,7 +28,7 @@ use Rattle.cord_meaning.proofs.Checks.{length_above}
 use Rattle.cord_plan.specs.Values.{length_of, within}
 use Rattle.cord_plan.proofs.Values.{is_within}
 use Rattle.cord_run.specs.declared.store.Entry.{Entry}
-use Rattle.cord_run.specs.inner.Contents.{IsFaultOver, IsTextOver, IsToldOver, argument_in, stop_of_print}
+use Rattle.cord_run.specs.inner.Contents.{IsFaultOver, IsTextOver, IsReportedOver, argument_in, stop_of_print}
 use Rattle.cord_run.specs.inner.Entries.{content_in, IsOver}
 use Rattle.cord_run.specs.inner.Holdings.{plain_of}
 use Rattle.cord_run.proofs.Lengths.{content_text, cord_fits, operand_value}
@@ -122,10 +122,10 @@ module _ (entries : List Entry) (format : List Piece) (list : List Argument) whe
 
     -- its length alone
     pub printed_length : (len : ℕ) → IsPrintable format (arguments_of all) → len ≡ length (printed known format (arguments_of all)) →
-        len ≤ MAX_LEN → IsToldOver entries (λ s. and_then (format_text s format list) (λ text. within MAX_LEN text)) len
+        len ≤ MAX_LEN → IsReportedOver entries (λ s. and_then (format_text s format list) (λ text. within MAX_LEN text)) len
     printed_length len printable is short = record {
       short = short;
-      told = λ t over.
+      reported = λ t over.
           let meant : List ℕ = printed (λ b. b) format (map (λ a. piece_argument (plain_of t entries) a) list) in
           let long : len ≡ length meant =
           is ∙ ap (λ (some : List Arg). length (printed known format (arguments_of some))) same

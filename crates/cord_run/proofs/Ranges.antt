@@ -111,7 +111,7 @@ pub record AreMade (z w : ℤ) (whole : List ℕ) : Type 0 where
   pub byte : ℕ
   pub count : ℕ
   pub is : as_byte z ≡ Ok byte
-  pub told : measured_copies MAX_LEN z w ≡ Ok count
+  pub reported : measured_copies MAX_LEN z w ≡ Ok count
   pub same : replicate count byte ≡ whole
 
 pub run_made : (z w : ℤ) (whole : List ℕ) → copies MAX_LEN z w ≡ Ok whole → AreMade z w whole
@@ -122,9 +122,9 @@ run_made z w whole h = by_checks (as_byte z) (as_index w) refl refl h
     by_length b n (Err kind) e f g h = let bad : ⊥ = cc in absurd bad
     by_length b n (Ok k) e f g h =
         let passed = length_passed n k g in
-        let told : measured_copies MAX_LEN z w ≡ Ok n =
+        let reported : measured_copies MAX_LEN z w ≡ Ok n =
         (λ i. and_then (e i) (λ b. and_then (f i) (λ m. as_length MAX_LEN m))) ∙ g ∙ ap (λ (m : ℕ). Ok m) (sym passed.0) in
-        record { byte = b; count = n; is = e; told = told; same = cc }
+        record { byte = b; count = n; is = e; reported = reported; same = cc }
 
     by_checks : (rb rn : Result ℕ FaultKind) → as_byte z ≡ rb → as_index w ≡ rn →
         and_then rb (λ b. and_then rn (λ n. and_then (as_length MAX_LEN n) (λ _. Ok (replicate n b)))) ≡ Ok whole → AreMade z w whole
@@ -146,11 +146,11 @@ module _ (z w : ℤ) (wanted : Wanted) (old : List (Option Node)) where
   -- what is wanted of copies
   pub run_picked : (len taken : ℕ) (new : List (Option Node)) → measured_copies MAX_LEN z w ≡ Ok len →
       taken ≡ min wanted.count (len - wanted.skip) → AddsCopies z taken old new → AddsRun z w wanted old new
-  run_picked len taken new told some part = record {
+  run_picked len taken new reported some part = record {
     fits = part.fits;
     bytes = λ t whole is.
         let made = run_made z w whole is in
-        let same : len ≡ made.count = let told_made = made.told in cc in
+        let same : len ≡ made.count = let reported_made = made.reported in cc in
         part.bytes t made.byte made.is
         ∙ ap (λ (u : List ℕ). all_bytes t old ++ u) (ap (λ (k : ℕ). replicate k made.byte)
         (some ∙ ap (λ (k : ℕ). min wanted.count (k - wanted.skip)) same)

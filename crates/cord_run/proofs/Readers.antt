@@ -8,7 +8,7 @@ use Rattle.cord_syntax.specs.declared.statements.Statement.TheVariants.{Else, En
 use Rattle.cord_meaning.specs.Ends.{IsPut, IsReading}
 use Rattle.cord_meaning.specs.Statements.{line_of}
 use Rattle.cord_plan.specs.Exprs.{Expr}
-use Rattle.cord_plan.specs.Forced.{Table, exprs, own}
+use Rattle.cord_plan.specs.Inlined.{Table, exprs, defining}
 use Rattle.cord_plan.specs.Meaning.{operation_line}
 use Rattle.cord_plan.specs.Operands.{target_of}
 use Rattle.cord_plan.specs.Planned.{Made, Joined, Literal, OfFile, OfEager, OfLazy, OfFunction, Balanced, OfExtensible, Printed, Operation}
@@ -100,8 +100,8 @@ no_operations ss = record { reads = λ line at. absurd at; writes = λ line at. 
 -- those of the trivial plan
 trivial_alike : (s : List Statement) → FailsNowhereElse s (trivial s)
 trivial_alike [] = no_operations []
-trivial_alike (l ∷ rest) = with_first l (operation l (or_nothing (own l)) false false) rest (trivial rest)
-    (alike l (or_nothing (own l)) false false) (trivial_alike rest)
+trivial_alike (l ∷ rest) = with_first l (operation l (or_nothing (defining l)) false false) rest (trivial rest)
+    (alike l (or_nothing (defining l)) false false) (trivial_alike rest)
 
 from_place : (later : List ℕ → ℕ → Bool) (table : Table) (p : ℕ) (s : List Statement) (entries : Table) →
     FailsNowhereElse s (operations later table p s entries)

@@ -6,7 +6,7 @@ ghost use Rattle.cord_run.specs.Runs.{IsPlanBy, Way};
 ghost use Rattle.cord_syntax.specs.declared.statements.Statement.{Statement};
 
 /// The plan of a script, and its trivial plan, read and put only where the script's statements do. So `run` of a plan
-/// that `plan` or `Plan::trivial` made names a failed device only at such a line, and its end is an honest one.
+/// that `plan` or `Plan::trivial` made names a failed device only at such a line, and its end is a faithful one.
 pub fn plans_fail_where_their_scripts_do()
     ensures { (way : Way) (statements : List Statement) (operations : List Operation) →
         IsPlanBy way statements operations → FailsNowhereElse statements operations }

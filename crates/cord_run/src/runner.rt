@@ -1,23 +1,23 @@
 //! Runs plans, and scripts by their plans: steps through the operations, what each of them does, and the end.
 mod ends;
-mod known;
+mod known_lengths;
 mod steps;
 
 ghost use Rattle.std.specs.Prelude.{◌≡◌, ◌≢◌, ◌<◌, ◌-◌, ◌^◌, IfOk, IfErr, OnErr, List, ℕ, map};
 ghost use Rattle.cord_file.specs.Sources.{device_in};
-ghost use Rattle.cord_io.specs.Device.{Folder};
-ghost use Rattle.cord_meaning.specs.Ends.{EndsHonestly, FailsWhere, NamesCause, NamesDevice};
+ghost use Rattle.cord_io.specs.Device.{FileSystem};
+ghost use Rattle.cord_meaning.specs.Ends.{EndsFaithfully, FailsWhere, NamesCause, NamesDevice};
 ghost use Rattle.cord_plan.specs.Meaning.{IsPlanOf};
 ghost use Rattle.cord_plan.specs.Views.{operation_view};
 ghost use Rattle.cord_run.specs.Failing.{FailsNowhereElse, NamesFinish};
 ghost use Rattle.cord_run.specs.inner.Failing.{FailsAmong};
-ghost use Rattle.cord_run.specs.Runs.{IsPlanBy, NothingCalled, Runs, TellsRun, Way, counts_over};
-ghost use Rattle.cord_run.specs.inner.Steps.{HonestPlan};
-ghost use Rattle.cord_script.specs.Flaws.{Flaw};
+ghost use Rattle.cord_run.specs.Runs.{IsPlanBy, NothingCalled, Runs, ReportsRun, Way, counts_over};
+ghost use Rattle.cord_run.specs.inner.Steps.{FaithfulPlan};
+ghost use Rattle.cord_script.specs.FirstErrors.{FirstError};
 ghost use Rattle.cord_script.specs.Forms.{Grammar};
 ghost use Rattle.cord_script.specs.Script.{Reads, ReadsBy};
 ghost use Rattle.cord_syntax.specs.declared.statements.Statement.{Statement};
-ghost use Rattle.cord_run.specs.inner.Frames.{KeepNoMore};
+ghost use Rattle.cord_run.specs.inner.Frames.{NoMoreConsistent};
 
 use crate::runner::ends::{close_output, end_of_run};
 use crate::runner::steps::run_plan;
@@ -37,9 +37,9 @@ fn run_over<F: Files, S: Sink>(
 ) -> End
     requires files_count { F.failures (device_in sources.old) < 2 ^ 64 - 1 }
     requires sink_count { S.failures sink.old < 2 ^ 64 - 1 }
-    ensures earlier { KeepNoMore ⟦<F as Files>⟧ (device_in sources.old) (device_in sources.new) }
-    ensures honest { (folder : Folder) → F.keeps (device_in sources.new) folder →
-        HonestPlan folder (map operation_view plan.now) (S.taken sink.old) (S.taken sink.new) result }
+    ensures earlier { NoMoreConsistent ⟦<F as Files>⟧ (device_in sources.old) (device_in sources.new) }
+    ensures faithful { (file_system : FileSystem) → F.consistent (device_in sources.new) file_system →
+        FaithfulPlan file_system (map operation_view plan.now) (S.taken sink.old) (S.taken sink.new) result }
     ensures fails { FailsAmong (map operation_view plan.now) result }
     ensures cause { NamesDevice
         (counts_over ⟦<F as Files>⟧ ⟦<S as Sink>⟧ (device_in sources.old) (device_in sources.new) sink.old sink.new)
@@ -53,15 +53,17 @@ fn run_over<F: Files, S: Sink>(
 }
 
 /// Runs a plan over files, ends the output with one `finish`, unless writing failed, and hands the files back. Where a
-/// script is read from some bytes, and this is a plan of it, the end is an honest one of the script's run, over each
-/// folder that the files keep then. Which device failed, and where one may fail, is said over any files.
+/// script is read from some bytes, and this is a plan of it, the end is a faithful one of the script's run, over each
+/// file system that is consistent with the files then. Which device failed, and where one may fail, is said over any
+/// files.
 pub fn run<F: Files, S: Sink>(alloc: Global, plan: &Plan, files: F, sink: &mut S) -> (End, F)
     requires files_count { F.failures files < 2 ^ 64 - 1 }
     requires sink_count { S.failures sink.old < 2 ^ 64 - 1 }
-    ensures honest { (statements : List Statement) → IsPlanOf statements (map operation_view plan.now) →
+    ensures faithful { (statements : List Statement) → IsPlanOf statements (map operation_view plan.now) →
         FailsNowhereElse statements (map operation_view plan.now) →
-        (g : Grammar) (script : List ℕ) → ReadsBy g script statements → (folder : Folder) → F.keeps result.1 folder →
-        EndsHonestly statements folder (S.taken sink.old) (S.taken sink.new)
+        (g : Grammar) (script : List ℕ) → ReadsBy g script statements → (file_system : FileSystem) → F.consistent
+        result.1 file_system →
+        EndsFaithfully statements file_system (S.taken sink.old) (S.taken sink.new)
         (counts_over ⟦<F as Files>⟧ ⟦<S as Sink>⟧ files result.1 sink.old sink.new) result.0 }
     ensures fails { (statements : List Statement) → FailsNowhereElse statements (map operation_view plan.now) →
         FailsWhere statements result.0 }
@@ -69,7 +71,7 @@ pub fn run<F: Files, S: Sink>(alloc: Global, plan: &Plan, files: F, sink: &mut S
         (counts_over ⟦<F as Files>⟧ ⟦<S as Sink>⟧ files result.1 sink.old sink.new) result.0 }
     ensures finish { NamesFinish (map operation_view plan.now)
         (counts_over ⟦<F as Files>⟧ ⟦<S as Sink>⟧ files result.1 sink.old sink.new) result.0 }
-    ensures earlier { (folder : Folder) → F.keeps result.1 folder → F.keeps files folder }
+    ensures earlier { (file_system : FileSystem) → F.consistent result.1 file_system → F.consistent files file_system }
 {
     match Sources::new(alloc, files) {
         Ok(mut sources) => {
@@ -97,11 +99,11 @@ fn run_by<F: Files, S: Sink>(
     requires files_count { F.failures files < 2 ^ 64 - 1 }
     requires sink_count { S.failures sink.old < 2 ^ 64 - 1 }
     ensures run { (script : List ℕ) → Reads script read.now →
-        Runs script (F.keeps result.1) (S.taken sink.old) (S.taken sink.new)
+        Runs script (F.consistent result.1) (S.taken sink.old) (S.taken sink.new)
         (counts_over ⟦<F as Files>⟧ ⟦<S as Sink>⟧ files result.1 sink.old sink.new) result.0 }
     ensures cause { (script : List ℕ) → Reads script read.now → NamesCause
         (counts_over ⟦<F as Files>⟧ ⟦<S as Sink>⟧ files result.1 sink.old sink.new) result.0 }
-    ensures earlier { (folder : Folder) → F.keeps result.1 folder → F.keeps files folder }
+    ensures earlier { (file_system : FileSystem) → F.consistent result.1 file_system → F.consistent files file_system }
 {
     match made {
         Ok(plan) => run(alloc, &plan, files, sink),
@@ -122,7 +124,7 @@ pub fn run_text<F: Files, S: Sink>(
 ) -> (Result<End, Refusal>, F)
     requires files_count { F.failures files < 2 ^ 64 - 1 }
     requires sink_count { S.failures sink.old < 2 ^ 64 - 1 }
-    ensures told { TellsRun ⟦<F as Files>⟧ ⟦<S as Sink>⟧ script.now files sink.old sink.new result.0 result.1 }
+    ensures reported { ReportsRun ⟦<F as Files>⟧ ⟦<S as Sink>⟧ script.now files sink.old sink.new result.0 result.1 }
 {
     match parse(alloc, script) {
         Err(refusal) => (Err(refusal), files),
@@ -143,7 +145,7 @@ pub fn run_unplanned<F: Files, S: Sink>(
 ) -> (Result<End, Refusal>, F)
     requires files_count { F.failures files < 2 ^ 64 - 1 }
     requires sink_count { S.failures sink.old < 2 ^ 64 - 1 }
-    ensures told { TellsRun ⟦<F as Files>⟧ ⟦<S as Sink>⟧ script.now files sink.old sink.new result.0 result.1 }
+    ensures reported { ReportsRun ⟦<F as Files>⟧ ⟦<S as Sink>⟧ script.now files sink.old sink.new result.0 result.1 }
 {
     let read = match parse(alloc, script) {
         Ok(read) => read,

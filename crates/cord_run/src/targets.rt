@@ -6,8 +6,8 @@ mod prints;
 
 ghost use Rattle.std.specs.Prelude.{◌≡◌, ◌≢◌, Err, IfErr, IfOk, IfSome, OnErr};
 ghost use Rattle.cord_io.specs.declared.TheConstants.{MAX_LEN};
-ghost use Rattle.cord_io.specs.Device.{Folder, count_after};
-ghost use Rattle.cord_file.specs.Entries.{lengths_in, table_in};
+ghost use Rattle.cord_io.specs.Device.{FileSystem, count_after};
+ghost use Rattle.cord_file.specs.FileTable.{lengths_in, table_in};
 ghost use Rattle.cord_file.specs.Opening.{Grows};
 ghost use Rattle.cord_file.specs.Sources.{device_in, opened_in};
 ghost use Rattle.cord_plan.specs.Meaning.{does};
@@ -23,7 +23,7 @@ ghost use Rattle.cord_run.specs.inner.Extents.{extent_in};
 ghost use Rattle.cord_run.specs.inner.Holdings.{holding_of};
 ghost use Rattle.cord_run.specs.inner.Known.{IsExtent, IsKnown, StaysKnown};
 ghost use Rattle.cord_run.specs.inner.Outcomes.{CountsReads, Gives};
-ghost use Rattle.cord_run.specs.inner.Frames.{KeepNoMore};
+ghost use Rattle.cord_run.specs.inner.Frames.{NoMoreConsistent};
 
 use crate::checks::as_length;
 use crate::expressions::build;
@@ -54,11 +54,11 @@ pub(crate) fn give_cord<F: Files>(
 ) -> Result<(), Stop>
     requires over { IsOver (lengths_in (opened_in sources.old)) store.old.entries.items }
     ensures over { IfOk result (λ _. IsOver (lengths_in (opened_in sources.new)) store.new.entries.items) }
-    ensures earlier { KeepNoMore ⟦<F as Files>⟧ (device_in sources.old) (device_in sources.new) }
-    ensures gives { (folder : Folder) → F.keeps (device_in sources.new) folder → Gives
-        (does MAX_LEN folder (plan.Build 0 target.now (made_view made.now))
-        (holding_of (table_in (opened_in sources.old) folder) store.old.entries.items))
-        (holding_of (table_in (opened_in sources.new) folder) store.new.entries.items) result }
+    ensures earlier { NoMoreConsistent ⟦<F as Files>⟧ (device_in sources.old) (device_in sources.new) }
+    ensures gives { (file_system : FileSystem) → F.consistent (device_in sources.new) file_system → Gives
+        (does MAX_LEN file_system (plan.Build 0 target.now (made_view made.now))
+        (holding_of (table_in (opened_in sources.old) file_system) store.old.entries.items))
+        (holding_of (table_in (opened_in sources.new) file_system) store.new.entries.items) result }
     ensures fails { IfErr result (FailsIn (plan.Build 0 target.now (made_view made.now))) }
     ensures counts { CountsReads (F.failures (device_in sources.old)) (F.failures (device_in sources.new)) result }
 {
@@ -86,11 +86,11 @@ pub(crate) fn give_length<F: Files>(
     ensures stays { IfOk result (λ _. StaysKnown store.new.entries.items
         (plan.Measure 0 target.now (made_view made.now))) }
     ensures over { IfOk result (λ _. IsOver (lengths_in (opened_in sources.new)) store.new.entries.items) }
-    ensures earlier { KeepNoMore ⟦<F as Files>⟧ (device_in sources.old) (device_in sources.new) }
-    ensures gives { (folder : Folder) → F.keeps (device_in sources.new) folder → Gives
-        (does MAX_LEN folder (plan.Measure 0 target.now (made_view made.now))
-        (holding_of (table_in (opened_in sources.old) folder) store.old.entries.items))
-        (holding_of (table_in (opened_in sources.new) folder) store.new.entries.items) result }
+    ensures earlier { NoMoreConsistent ⟦<F as Files>⟧ (device_in sources.old) (device_in sources.new) }
+    ensures gives { (file_system : FileSystem) → F.consistent (device_in sources.new) file_system → Gives
+        (does MAX_LEN file_system (plan.Measure 0 target.now (made_view made.now))
+        (holding_of (table_in (opened_in sources.old) file_system) store.old.entries.items))
+        (holding_of (table_in (opened_in sources.new) file_system) store.new.entries.items) result }
     ensures fails { IfErr result (FailsIn (plan.Measure 0 target.now (made_view made.now))) }
     ensures counts { CountsReads (F.failures (device_in sources.old)) (F.failures (device_in sources.new)) result }
 {
@@ -126,12 +126,12 @@ fn make<F: Files>(
     made: &Made,
 ) -> Result<Cord, Stop>
     requires over { IsOver (lengths_in (opened_in sources.old)) store.old.entries.items }
-    ensures built { IfOk result (IsMade (F.keeps (device_in sources.new)) (opened_in sources.old)
+    ensures built { IfOk result (IsMade (F.consistent (device_in sources.new)) (opened_in sources.old)
         (opened_in sources.new) store.old.entries.items (made_view made.now)) }
-    ensures refused { IfErr result (IsUnmade (F.keeps (device_in sources.new))
+    ensures refused { IfErr result (IsUnmade (F.consistent (device_in sources.new))
         (opened_in sources.old) store.old.entries.items (made_view made.now)) }
     ensures same { IfOk result (λ _. SameEntries store.old.entries.items store.new.entries.items) }
-    ensures earlier { KeepNoMore ⟦<F as Files>⟧ (device_in sources.old) (device_in sources.new) }
+    ensures earlier { NoMoreConsistent ⟦<F as Files>⟧ (device_in sources.old) (device_in sources.new) }
     ensures grows { Grows (opened_in sources.old) (opened_in sources.new) }
     ensures fails { IfErr result (FailsBy (IsFileMade (made_view made.now)) ⊥) }
     ensures counts { F.failures (device_in sources.new)
@@ -185,11 +185,11 @@ fn measure<F: Files>(
     requires over { IsOver (lengths_in (opened_in sources.old)) store.now.entries.items }
     requires known { IfSome known (IsKnown store.now.entries.items (made_view made.now)) }
     ensures extent { IfOk result (IsExtent store.now.entries.items (made_view made.now)) }
-    ensures told { IfOk result (IsLength (F.keeps (device_in sources.new))
+    ensures reported { IfOk result (IsLength (F.consistent (device_in sources.new))
         (opened_in sources.old) store.now.entries.items (made_view made.now)) }
-    ensures refused { IfErr result (IsUnmeasured (F.keeps (device_in sources.new))
+    ensures refused { IfErr result (IsUnmeasured (F.consistent (device_in sources.new))
         (opened_in sources.old) store.now.entries.items (made_view made.now)) }
-    ensures earlier { KeepNoMore ⟦<F as Files>⟧ (device_in sources.old) (device_in sources.new) }
+    ensures earlier { NoMoreConsistent ⟦<F as Files>⟧ (device_in sources.old) (device_in sources.new) }
     ensures grows { Grows (opened_in sources.old) (opened_in sources.new) }
     ensures fails { IfErr result (FailsBy (IsFileMade (made_view made.now)) ⊥) }
     ensures counts { F.failures (device_in sources.new)
@@ -217,7 +217,7 @@ fn measure_of_names(
     requires fileless { IsFileMade (made_view made.now) → ⊥ }
     requires known { IfSome known (IsKnown store.now.entries.items (made_view made.now)) }
     ensures extent { IfOk result (IsExtent store.now.entries.items (made_view made.now)) }
-    ensures told { IfOk result (IsLengthOfNames store.now.entries.items (made_view made.now)) }
+    ensures reported { IfOk result (IsLengthOfNames store.now.entries.items (made_view made.now)) }
     ensures refused { IfErr result (IsUnmeasuredOfNames store.now.entries.items (made_view made.now)) }
     ensures unbuilt { TakesNoMemory (made_view made.now) → result ≢ Err Stop.NoMemory }
 {

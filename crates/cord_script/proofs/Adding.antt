@@ -6,7 +6,7 @@ use Rattle.cord_script.specs.declared.words.Word.TheVariants.{Plain}
 use Rattle.cord_syntax.specs.declared.statements.Statement.{Statement}
 use Rattle.cord_syntax.specs.Lines.{line_of}
 use Rattle.cord_script.specs.Words.{IsPlain, IsIdle, HasWord}
-use Rattle.cord_script.specs.Flaws.{block_flaw}
+use Rattle.cord_script.specs.FirstErrors.{block_error}
 use Rattle.cord_script.specs.Forms.{Form, form_of, effect_of, terms_of}
 use Rattle.cord_script.specs.Script.{Scope, FitsBlocks, after, paths_after, blocks_after}
 use Rattle.cord_script.specs.inner.LineReading.{LineView, SaysLine, left_after}
@@ -15,7 +15,7 @@ use Rattle.cord_script.specs.inner.Verbal.{verb_word, verb_effect}
 use Rattle.cord_script.proofs.Allowed.{block_right}
 use Rattle.cord_script.proofs.Unique.{Begins}
 use Rattle.cord_script.proofs.Found.{not_idle}
-use Rattle.cord_script.proofs.Stated.{right_form}
+use Rattle.cord_script.proofs.OneStatement.{right_form}
 
 -- no statement's word begins with `#`
 comment_form : (cs : List ℕ) → form_of (35 ∷ cs) ≡ None
@@ -27,7 +27,7 @@ word_shows : (w : List ℕ) (form : Form) (line rest : List ℕ) → form_of w �
 word_shows [] form line rest is h = absurd (h.3 refl)
 word_shows (c ∷ cs) form line rest is h =
     let begins : Begins line c (cs ++ rest) = record {
-      front = h.0;
+      prefix = h.0;
       blank = h.1;
       shows = (All-head IsPlain c cs h.4).0;
       whole = h.2 ∙ append_assoc h.0 (c ∷ cs) rest;
@@ -61,7 +61,7 @@ leaves v n old new s h =
 
 -- a line that begins with the verb's word, before words that say a statement of the verb
 pub adds : (v : Verb) (n : ℕ) (line : List ℕ) (old new : LineView) (left : Scope) (s : Statement) (ss grown : List Statement) →
-    HasWord line (Plain (verb_word v)) old.rest → block_flaw (verb_effect v) old.scope.blocks ≡ None → SaysLine v n old new s →
+    HasWord line (Plain (verb_word v)) old.rest → block_error (verb_effect v) old.scope.blocks ≡ None → SaysLine v n old new s →
     left ≡ left_after (verb_effect v) n new.name new.path old.scope → grown ≡ ss ++ s ∷ [] → Adds n line old.scope left ss grown
 adds v n line old new left s ss grown first fits h is added =
     let right = right_form h.words s h.says h.suits in

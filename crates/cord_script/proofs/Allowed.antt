@@ -1,4 +1,4 @@
--- Terms without a flaw are allowed.
+-- Terms without an error are allowed.
 use Rattle.std.proofs.Common.{inl, inr, None, ◌≡◌, ◌<◌, ℕ, List, [], ◌∷◌, true, refl, ◌∙◌, ap, length, map}
 use Rattle.std.specs.Prelude.{Option, ◌⊎◌, ◌||◌, nat_lt, if◌then◌else◌}
 use Rattle.std.proofs.lemmas.Bool.{ltb-true}
@@ -16,20 +16,20 @@ use Rattle.cord_script.specs.Forms.Effect.{Stays, OpensRepeat, OpensIf, Turns, C
 use Rattle.cord_script.specs.Forms.Term.{Target, Operand, Value, Literal, FilePath, Applies, Compares, Formats}
 use Rattle.cord_script.specs.Script.{Scope, Block, kind_of, is_among, IsTerm, AreTerms, IsAllowed, AreAllowed, FitsBlocks}
 use Rattle.cord_script.specs.Script.Block.{InRepeat, InIf, InElse}
-use Rattle.cord_script.specs.Flaws.{first_of, unless, first_pair, kind_flaw}
-use Rattle.cord_script.specs.Flaws.{operand_flaw, word_target_flaw, word_path_flaw, names_flaw, block_flaw}
+use Rattle.cord_script.specs.FirstErrors.{first_of, unless, first_pair, kind_error}
+use Rattle.cord_script.specs.FirstErrors.{operand_error, word_target_error, word_path_error, names_error, block_error}
 use Rattle.cord_script.specs.inner.Fields.{want_of}
-use Rattle.cord_script.specs.inner.ContextViews.{operand_term_flaw, target_term_flaw, path_term_flaw, first_term, terms_flaw}
+use Rattle.cord_script.specs.inner.ContextViews.{operand_term_error, target_term_error, path_term_error, first_term, terms_error}
 use Rattle.cord_script.proofs.Checked.{neither, holds, kind_right, target_right}
 use Rattle.cord_script.proofs.Terms.{either, name_begins, numeral_known}
 
 -- a word is wrong as an operand where its term is
-operand_same : (names : List Known) (w : Word) (t : Term) → IsTerm w t → operand_flaw names (want_of t) w ≡ operand_term_flaw names t
+operand_same : (names : List Known) (w : Word) (t : Term) → IsTerm w t → operand_error names (want_of t) w ≡ operand_term_error names t
 operand_same names w (Target kind name) h = refl
-operand_same names w (Operand kind name) h = ap (operand_flaw names (wants.Operand kind)) h.0
-operand_same names w (Value (Numeral v)) h = ap (operand_flaw names wants.Number) h.1 ∙ numeral_known names h.0 v h.2
-operand_same names w (Value (Named name)) h = ap (operand_flaw names wants.Number) h.0
-    ∙ ap (λ b. if b then None else kind_flaw (kind_of names name) kinds.Number) (name_begins name h.1)
+operand_same names w (Operand kind name) h = ap (operand_error names (wants.Operand kind)) h.0
+operand_same names w (Value (Numeral v)) h = ap (operand_error names wants.Number) h.1 ∙ numeral_known names h.0 v h.2
+operand_same names w (Value (Named name)) h = ap (operand_error names wants.Number) h.0
+    ∙ ap (λ b. if b then None else kind_error (kind_of names name) kinds.Number) (name_begins name h.1)
 operand_same names w (Literal text) h = refl
 operand_same names w (FilePath path) h = refl
 operand_same names w (Applies function) h = refl
@@ -37,8 +37,8 @@ operand_same names w (Compares relation) h = refl
 operand_same names w (Formats text) h = refl
 
 -- a word is wrong as the target where its term is
-target_same : (names : List Known) (w : Word) (t : Term) → IsTerm w t → word_target_flaw names (want_of t) w ≡ target_term_flaw names t
-target_same names w (Target kind name) h = ap (word_target_flaw names (wants.Target kind)) h.0
+target_same : (names : List Known) (w : Word) (t : Term) → IsTerm w t → word_target_error names (want_of t) w ≡ target_term_error names t
+target_same names w (Target kind name) h = ap (word_target_error names (wants.Target kind)) h.0
 target_same names w (Operand kind name) h = refl
 target_same names w (Value number) h = refl
 target_same names w (Literal text) h = refl
@@ -48,12 +48,12 @@ target_same names w (Compares relation) h = refl
 target_same names w (Formats text) h = refl
 
 -- a word is wrong as a path where its term is
-path_same : (paths : List (List ℕ)) (w : Word) (t : Term) → IsTerm w t → word_path_flaw paths (want_of t) w ≡ path_term_flaw paths t
+path_same : (paths : List (List ℕ)) (w : Word) (t : Term) → IsTerm w t → word_path_error paths (want_of t) w ≡ path_term_error paths t
 path_same paths w (Target kind name) h = refl
 path_same paths w (Operand kind name) h = refl
 path_same paths w (Value number) h = refl
 path_same paths w (Literal text) h = refl
-path_same paths w (FilePath path) h = ap (word_path_flaw paths wants.Path) h.0
+path_same paths w (FilePath path) h = ap (word_path_error paths wants.Path) h.0
 path_same paths w (Applies function) h = refl
 path_same paths w (Compares relation) h = refl
 path_same paths w (Formats text) h = refl
@@ -70,16 +70,16 @@ first_same test other (w ∷ ws) (t ∷ ts) f h = ap (λ k. first_of k (first_pa
 
 -- what is wrong with the names of a line is what is wrong with its terms
 pub names_same : (scope : Scope) (ws : List Word) (ts : List Term) → AreTerms ws ts →
-    names_flaw scope (map want_of ts) ws ≡ terms_flaw scope ts
+    names_error scope (map want_of ts) ws ≡ terms_error scope ts
 names_same scope ws ts h =
-    let o = first_same (operand_flaw scope.names) (operand_term_flaw scope.names) ws ts (λ w t k. operand_same scope.names w t k) h in
-    let t = first_same (word_target_flaw scope.names) (target_term_flaw scope.names) ws ts (λ w t k. target_same scope.names w t k) h in
-    let p = first_same (word_path_flaw scope.paths) (path_term_flaw scope.paths) ws ts (λ w t k. path_same scope.paths w t k) h in
-    ap (λ k. first_of k (first_of (first_pair (word_target_flaw scope.names) (map want_of ts) ws)
-    (first_pair (word_path_flaw scope.paths) (map want_of ts) ws))) o
-    ∙ ap (λ k. first_of (first_term (operand_term_flaw scope.names) ts)
-    (first_of k (first_pair (word_path_flaw scope.paths) (map want_of ts) ws))) t
-    ∙ ap (λ k. first_of (first_term (operand_term_flaw scope.names) ts) (first_of (first_term (target_term_flaw scope.names) ts) k)) p
+    let o = first_same (operand_error scope.names) (operand_term_error scope.names) ws ts (λ w t k. operand_same scope.names w t k) h in
+    let t = first_same (word_target_error scope.names) (target_term_error scope.names) ws ts (λ w t k. target_same scope.names w t k) h in
+    let p = first_same (word_path_error scope.paths) (path_term_error scope.paths) ws ts (λ w t k. path_same scope.paths w t k) h in
+    ap (λ k. first_of k (first_of (first_pair (word_target_error scope.names) (map want_of ts) ws)
+    (first_pair (word_path_error scope.paths) (map want_of ts) ws))) o
+    ∙ ap (λ k. first_of (first_term (operand_term_error scope.names) ts)
+    (first_of k (first_pair (word_path_error scope.paths) (map want_of ts) ws))) t
+    ∙ ap (λ k. first_of (first_term (operand_term_error scope.names) ts) (first_of (first_term (target_term_error scope.names) ts) k)) p
 
 path_right : (paths : List (List ℕ)) (path : List ℕ) → unless (is_among paths path || nat_lt (length paths) MAX_PATHS) TooMany ≡ None →
     (is_among paths path ≡ true) ⊎ (length paths < MAX_PATHS)
@@ -90,9 +90,9 @@ path_right paths path h =
       | inr x ↦ inr (ltb-true (length paths) MAX_PATHS x)
     ]
 
--- a term without a flaw is allowed
-term_allowed : (scope : Scope) (t : Term) → operand_term_flaw scope.names t ≡ None → target_term_flaw scope.names t ≡ None →
-    path_term_flaw scope.paths t ≡ None → IsAllowed scope t
+-- a term without an error is allowed
+term_allowed : (scope : Scope) (t : Term) → operand_term_error scope.names t ≡ None → target_term_error scope.names t ≡ None →
+    path_term_error scope.paths t ≡ None → IsAllowed scope t
 term_allowed scope (Target kind name) o t p = target_right (kind_of scope.names name) kind (length scope.names) t
 term_allowed scope (Operand kind name) o t p = kind_right (kind_of scope.names name) kind o
 term_allowed scope (Value (Numeral v)) o t p = tt
@@ -103,27 +103,27 @@ term_allowed scope (Applies function) o t p = tt
 term_allowed scope (Compares relation) o t p = tt
 term_allowed scope (Formats text) o t p = tt
 
-terms_allowed : (scope : Scope) (ts : List Term) → first_term (operand_term_flaw scope.names) ts ≡ None →
-    first_term (target_term_flaw scope.names) ts ≡ None → first_term (path_term_flaw scope.paths) ts ≡ None → AreAllowed scope ts
+terms_allowed : (scope : Scope) (ts : List Term) → first_term (operand_term_error scope.names) ts ≡ None →
+    first_term (target_term_error scope.names) ts ≡ None → first_term (path_term_error scope.paths) ts ≡ None → AreAllowed scope ts
 terms_allowed scope [] o t p = tt
 terms_allowed scope (x ∷ xs) o t p =
-    let a = neither (operand_term_flaw scope.names x) (first_term (operand_term_flaw scope.names) xs) o in
-    let b = neither (target_term_flaw scope.names x) (first_term (target_term_flaw scope.names) xs) t in
-    let c = neither (path_term_flaw scope.paths x) (first_term (path_term_flaw scope.paths) xs) p in
+    let a = neither (operand_term_error scope.names x) (first_term (operand_term_error scope.names) xs) o in
+    let b = neither (target_term_error scope.names x) (first_term (target_term_error scope.names) xs) t in
+    let c = neither (path_term_error scope.paths x) (first_term (path_term_error scope.paths) xs) p in
     (term_allowed scope x a.0 b.0 c.0, terms_allowed scope xs a.1 b.1 c.1)
 
--- terms without a flaw are allowed
-pub all_allowed : (scope : Scope) (ts : List Term) → terms_flaw scope ts ≡ None → AreAllowed scope ts
+-- terms without an error are allowed
+pub all_allowed : (scope : Scope) (ts : List Term) → terms_error scope ts ≡ None → AreAllowed scope ts
 all_allowed scope ts h =
-    let o = first_term (operand_term_flaw scope.names) ts in
-    let t = first_term (target_term_flaw scope.names) ts in
-    let p = first_term (path_term_flaw scope.paths) ts in
+    let o = first_term (operand_term_error scope.names) ts in
+    let t = first_term (target_term_error scope.names) ts in
+    let p = first_term (path_term_error scope.paths) ts in
     let a = neither o (first_of t p) h in
     let b = neither t p a.1 in
     terms_allowed scope ts a.0 b.0 b.1
 
--- a statement without a flaw fits the open blocks
-pub block_right : (effect : Effect) (blocks : List Block) → block_flaw effect blocks ≡ None → FitsBlocks effect blocks
+-- a statement without an error fits the open blocks
+pub block_right : (effect : Effect) (blocks : List Block) → block_error effect blocks ≡ None → FitsBlocks effect blocks
 block_right Stays blocks h = tt
 block_right OpensRepeat blocks h = ltb-true (length blocks) MAX_BLOCKS (holds (nat_lt (length blocks) MAX_BLOCKS) TooDeep h)
 block_right OpensIf blocks h = ltb-true (length blocks) MAX_BLOCKS (holds (nat_lt (length blocks) MAX_BLOCKS) TooDeep h)

@@ -7,7 +7,7 @@ use Rattle.cord_script.specs.declared.kinds.Kind.TheVariants as kinds
 use Rattle.cord_script.specs.declared.refusals.RefusalKind.{RefusalKind}
 use Rattle.cord_script.specs.declared.refusals.RefusalKind.TheVariants.{TooMany}
 use Rattle.cord_script.specs.declared.TheConstants.{MAX_NAMES}
-use Rattle.cord_script.specs.Flaws.{first_of, unless, kind_flaw, assigned_flaw}
+use Rattle.cord_script.specs.FirstErrors.{first_of, unless, kind_error, assigned_error}
 
 -- neither is wrong
 pub neither : (o p : Option RefusalKind) → first_of o p ≡ None → (o ≡ None) × (p ≡ None)
@@ -20,7 +20,7 @@ holds true k h = refl
 holds false k h = cc
 
 -- a name of this kind
-pub kind_right : (o : Option Kind) (kind : Kind) → kind_flaw o kind ≡ None → o ≡ Some kind
+pub kind_right : (o : Option Kind) (kind : Kind) → kind_error o kind ≡ None → o ≡ Some kind
 kind_right None kind h = cc
 kind_right (Some kinds.Cord) kinds.Cord h = refl
 kind_right (Some kinds.Number) kinds.Number h = refl
@@ -28,7 +28,7 @@ kind_right (Some kinds.Extensible) kinds.Extensible h = refl
 kind_right (Some _) _ h = cc
 
 -- a target of this kind
-pub target_right : (o : Option Kind) (kind : Kind) (n : ℕ) → assigned_flaw o kind n ≡ None → (o ≡ Some kind) ⊎
+pub target_right : (o : Option Kind) (kind : Kind) (n : ℕ) → assigned_error o kind n ≡ None → (o ≡ Some kind) ⊎
     ((o ≡ None) × (n < MAX_NAMES))
 target_right None kind n h = inr (refl, ltb-true n MAX_NAMES (holds (nat_lt n MAX_NAMES) TooMany h))
 target_right (Some has) kind n h = inl (kind_right (Some has) kind h)

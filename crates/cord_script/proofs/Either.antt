@@ -1,4 +1,4 @@
--- Each text is a script, or has a first flaw.
+-- Each text is a script, or has a first error.
 use Rattle.std.proofs.Common.{inl, inr, ◌≡◌, ◌≤◌, ◌+◌, ◌⊎◌, ℕ, List, [], ◌∷◌, ◌++◌, refl, ap, subst, length, arith}
 use Rattle.std.proofs.lemmas.Bool.{cases_lt}
 use Rattle.cord_printf.specs.FormatLaws.{FormatOrBad}
@@ -11,8 +11,8 @@ use Rattle.cord_script.specs.Words.{IsSplit, IsIdle, HasWords}
 use Rattle.cord_script.specs.Forms.{Grammar}
 use Rattle.cord_script.specs.Script.{Scope, Block, Says, LinesSay, ReadsBy, start, after, after_all}
 use Rattle.cord_script.specs.Script.Block.{InRepeat, InIf, InElse}
-use Rattle.cord_script.specs.Flaws.{HasBadLine, IsLeftOpen, FlawBy}
-use Rattle.cord_script.specs.Laws.{ReadOrFlawed}
+use Rattle.cord_script.specs.FirstErrors.{HasBadLine, IsLeftOpen, FirstErrorBy}
+use Rattle.cord_script.specs.Laws.{ReadOrError}
 use Rattle.cord_script.proofs.Readings.{some_lines}
 use Rattle.cord_script.proofs.Found.{idle_or_not, words_or_bad, some_words}
 use Rattle.cord_script.proofs.Filled.{says_or_bad}
@@ -40,14 +40,14 @@ line_or_bad law g n scope line few shows = elim (words_or_bad line) [
 
 -- the first of these lines that is wrong
 record Stops (g : Grammar) (n : ℕ) (scope : Scope) (lines : List (List ℕ)) : Type 0 where
-  pub front : List (List ℕ)
+  pub prefix : List (List ℕ)
   pub line : List ℕ
   pub later : List (List ℕ)
-  pub whole : lines ≡ front ++ line ∷ later
+  pub whole : lines ≡ prefix ++ line ∷ later
   pub statements : List Statement
-  pub say : LinesSay g n scope front statements
+  pub say : LinesSay g n scope prefix statements
   pub kind : RefusalKind
-  pub wrong : HasBadLine g (n + length front) (after_all statements scope) line kind
+  pub wrong : HasBadLine g (n + length prefix) (after_all statements scope) line kind
 
 -- these lines say statements, and are no more than there may be
 record Goes (g : Grammar) (n : ℕ) (scope : Scope) (lines : List (List ℕ)) : Type 0 where
@@ -63,7 +63,7 @@ stops_here : (g : Grammar) (n : ℕ) (scope : Scope) (line : List ℕ) (lines : 
 stops_here g n scope line lines kind wrong =
     let here : n ≡ n + 0 = omega arith in
     inr (record {
-      front = [];
+      prefix = [];
       line = line;
       later = lines;
       whole = refl;
@@ -74,14 +74,14 @@ stops_here g n scope line lines kind wrong =
     })
 
 -- after a line that says nothing
-behind_idle : (g : Grammar) (n : ℕ) (scope : Scope) (line : List ℕ) (lines : List (List ℕ)) → IsIdle line →
+after_idle : (g : Grammar) (n : ℕ) (scope : Scope) (line : List ℕ) (lines : List (List ℕ)) → IsIdle line →
     GoesOrStops g (n + 1) scope lines → GoesOrStops g n scope (line ∷ lines)
-behind_idle g n scope line lines idle (inl h) =
+after_idle g n scope line lines idle (inl h) =
     inl (record { statements = h.statements; say = inl (idle, h.say); few = omega (arith, h.few) })
-behind_idle g n scope line lines idle (inr h) =
-    let number : (n + 1) + length h.front ≡ n + length (line ∷ h.front) = omega arith in
+after_idle g n scope line lines idle (inr h) =
+    let number : (n + 1) + length h.prefix ≡ n + length (line ∷ h.prefix) = omega arith in
     inr (record {
-      front = line ∷ h.front;
+      prefix = line ∷ h.prefix;
       line = h.line;
       later = h.later;
       whole = ap (λ x. line ∷ x) h.whole;
@@ -92,19 +92,19 @@ behind_idle g n scope line lines idle (inr h) =
     })
 
 -- after a line that says a statement
-behind_saying : (g : Grammar) (n : ℕ) (scope : Scope) (line : List ℕ) (lines : List (List ℕ)) → ¬ IsIdle line →
+after_saying : (g : Grammar) (n : ℕ) (scope : Scope) (line : List ℕ) (lines : List (List ℕ)) → ¬ IsIdle line →
     (s : LineSays g n scope line) → GoesOrStops g (n + 1) (after s.statement scope) lines → GoesOrStops g n scope (line ∷ lines)
-behind_saying g n scope line lines shows s (inl h) =
+after_saying g n scope line lines shows s (inl h) =
     inl (record {
       statements = s.statement ∷ h.statements;
       say =
           inr (shows, s.statement, s.words, h.statements, refl, s.has, s.says, h.say);
       few = omega (arith, h.few);
     })
-behind_saying g n scope line lines shows s (inr h) =
-    let number : (n + 1) + length h.front ≡ n + length (line ∷ h.front) = omega arith in
+after_saying g n scope line lines shows s (inr h) =
+    let number : (n + 1) + length h.prefix ≡ n + length (line ∷ h.prefix) = omega arith in
     inr (record {
-      front = line ∷ h.front;
+      prefix = line ∷ h.prefix;
       line = h.line;
       later = h.later;
       whole = ap (λ x. line ∷ x) h.whole;
@@ -120,24 +120,24 @@ lines_by law g n scope [] few = inl (record { statements = []; say = refl; few =
 lines_by law g n scope (line ∷ lines) few = elim (cases_lt MAX_LINES n) [
   | inl past ↦ stops_here g n scope line lines TooBig (inl (omega (arith, few, past), refl))
   | inr low ↦ elim (idle_or_not line) [
-    | inl idle ↦ behind_idle g n scope line lines idle (lines_by law g (n + 1) scope lines (omega (arith, low)))
+    | inl idle ↦ after_idle g n scope line lines idle (lines_by law g (n + 1) scope lines (omega (arith, low)))
     | inr shows ↦ elim (line_or_bad law g n scope line low shows) [
-      | inl s ↦ behind_saying g n scope line lines shows s (lines_by law g (n + 1) (after s.statement scope) lines (omega (arith, low)))
+      | inl s ↦ after_saying g n scope line lines shows s (lines_by law g (n + 1) (after s.statement scope) lines (omega (arith, low)))
       | inr bad ↦ stops_here g n scope line lines bad.0 bad.1
     ]
   ]
 ]
 
--- an open block is a flaw at the end
+-- an open block is an error at the end
 left_open : (block : Block) → (n : ℕ) × (kind : RefusalKind) × IsLeftOpen block n kind
 left_open (InRepeat line) = (line, MissingEnd, (refl, refl))
 left_open (InIf line) = (line, MissingIfEnd, (refl, refl))
 left_open (InElse line) = (line, MissingIfEnd, (refl, refl))
 
 abbrev Either : Grammar → List ℕ → Type 0
-Either g b = ((ss : List Statement) × ReadsBy g b ss) ⊎ ((n : ℕ) × (kind : RefusalKind) × FlawBy g b n kind)
+Either g b = ((ss : List Statement) × ReadsBy g b ss) ⊎ ((n : ℕ) × (kind : RefusalKind) × FirstErrorBy g b n kind)
 
--- all lines say something: each block is closed, or the innermost open one is a flaw
+-- all lines say something: each block is closed, or the innermost open one is an error
 closed_or_open : (g : Grammar) (b : List ℕ) (lines : List (List ℕ)) (blocks : List Block) → length b ≤ MAX_SCRIPT → IsSplit b lines →
     (h : Goes g 1 start lines) → (after_all h.statements start).blocks ≡ blocks → Either g b
 closed_or_open g b lines [] small split h e = inl (
@@ -175,11 +175,11 @@ by_lines : (g : Grammar) (b : List ℕ) (lines : List (List ℕ)) → length b �
 by_lines g b lines small split (inl h) = closed_or_open g b lines (after_all h.statements start).blocks small split h refl
 by_lines g b lines small split (inr h) =
     inr (
-      1 + length h.front,
+      1 + length h.prefix,
       h.kind,
       inr (inl (record {
         size = small;
-        front = h.front;
+        prefix = h.prefix;
         line = h.line;
         later = h.later;
         split = subst (IsSplit b) h.whole split;
@@ -190,8 +190,8 @@ by_lines g b lines small split (inr h) =
       })),
     )
 
-pub read_or_flawed : FormatOrBad → ReadOrFlawed
-read_or_flawed law g b = elim (cases_lt MAX_SCRIPT (length b)) [
+pub read_or_error : FormatOrBad → ReadOrError
+read_or_error law g b = elim (cases_lt MAX_SCRIPT (length b)) [
   | inl big ↦ inr (0, TooBig, inl (record { size = big; line = refl; is = refl }))
   | inr small ↦ let split = some_lines b in
       by_lines g b split.0 small split.1 (lines_by law g 1 start split.0 (omega arith))

@@ -1,4 +1,4 @@
--- The words of a line say a statement, or have a first flaw.
+-- The words of a line say a statement, or have a first error.
 use Rattle.std.proofs.Common.{inl, inr, Some, None, ◌≡◌, ◌≢◌, ◌+◌, ◌⊎◌, ℕ, List, [], ◌∷◌, Bool, true, false, refl, sym, ◌∙◌, ap, subst, map}
 use Rattle.std.proofs.Common.{length, arith, eqb-true}
 use Rattle.std.specs.Prelude.{Option, ◌==◌, ◌||◌, nat_le, is_some, codes, ℤ, if◌then◌else◌}
@@ -49,11 +49,13 @@ use Rattle.cord_script.specs.Forms.Shape.{Words, Joined, Printed}
 use Rattle.cord_script.specs.Forms.Effect.{Stays}
 use Rattle.cord_script.specs.Forms.Term.{Target, Operand, Value, Literal, FilePath, Applies, Compares, Formats}
 use Rattle.cord_script.specs.Script.{Scope, Says, Suits, IsTerm, AreTerms, FitsBlocks}
-use Rattle.cord_script.specs.Flaws.{first_of, unless, misfit, first_pair, first_misfit, name_misfit, is_count, cords, joined, format_wants}
-use Rattle.cord_script.specs.Flaws.{arguments_flaw, words_flaw, wants_of, names_flaw, block_flaw, form_flaw, HasFormat, HasFormFlaw}
-use Rattle.cord_script.specs.Flaws.{HasBadWords}
+use Rattle.cord_script.specs.FirstErrors.{first_of, unless, misfit, first_pair, first_misfit, name_misfit, is_count, cords, joined}
+use Rattle.cord_script.specs.FirstErrors.{format_wants}
+use Rattle.cord_script.specs.FirstErrors.{arguments_error, words_error, wants_of, names_error, block_error, form_error, HasFormat}
+use Rattle.cord_script.specs.FirstErrors.{HasFormError}
+use Rattle.cord_script.specs.FirstErrors.{HasBadWords}
 use Rattle.cord_script.specs.inner.Fields.{want_of}
-use Rattle.cord_script.specs.inner.ContextViews.{terms_flaw}
+use Rattle.cord_script.specs.inner.ContextViews.{terms_error}
 use Rattle.cord_script.specs.inner.Verbal.{verb_word, all_verbs, find_verb, form_at}
 use Rattle.cord_script.proofs.Spelled.{both, chosen}
 use Rattle.cord_script.proofs.Checked.{neither, holds}
@@ -189,7 +191,7 @@ record IsFilled (word : List ℕ) (form : Form) (n : ℕ) (ws : List Word) (form
 abbrev Fills : List ℕ → ℕ → List Word → Option Form → Type 0
 Fills word n ws None = Unit {0}
 Fills word n ws (Some form) = (formats : Option (List Want)) → HasFormat form.shape ws formats → is_count form.shape (length ws) ≡ true →
-    words_flaw form.shape formats ws ≡ None → IsFilled word form n ws formats
+    words_error form.shape formats ws ≡ None → IsFilled word form n ws formats
 
 -- words of a fixed number
 fixed : {word : List ℕ} {effect : Effect} {xs : List Want} (n : ℕ) (ws : List Word) → ((h : AllSaid xs) → Made word effect n (terms xs h)) →
@@ -257,19 +259,19 @@ arguments_said (printed.Cord ∷ ks) h =
     let r = arguments_said ks h.1 in
     (arguments.Cord h.0 ∷ r.0, ap (λ k. Operand kinds.Cord h.0 ∷ k) r.1, ap (λ k. wants.Operand kinds.Cord ∷ k) r.2)
 
-no_format : (o : Option RefusalKind) (ws : List Word) → first_of o (arguments_flaw None ws) ≡ None → ⊥
+no_format : (o : Option RefusalKind) (ws : List Word) → first_of o (arguments_error None ws) ≡ None → ⊥
 no_format o ws h = let wrong = (neither o (Some BadFormat) h).1 in cc
 
 -- a target, a format and what its conversions want
 printed_filled : (n : ℕ) (ws : List Word) (formats : Option (List Want)) → HasFormat Printed ws formats →
-    is_count Printed (length ws) ≡ true → words_flaw Printed formats ws ≡ None → IsFilled (codes "sprintf") (record { shape = Printed; effect = Stays }) n ws formats
+    is_count Printed (length ws) ≡ true → words_error Printed formats ws ≡ None → IsFilled (codes "sprintf") (record { shape = Printed; effect = Stays }) n ws formats
 printed_filled n [] formats has count fit = cc
 printed_filled n (w ∷ []) formats has count fit = cc
 printed_filled n (w ∷ x ∷ ws) None has count fit = absurd (no_format (first_misfit format_wants (w ∷ x ∷ ws)) ws fit)
 printed_filled n (w ∷ Plain p ∷ ws) (Some xs) has count fit = cc
 printed_filled n (w ∷ Quoted text ∷ ws) (Some xs) has count fit =
     let ks = wanted has.0 in
-    let r = neither (first_misfit format_wants (w ∷ Quoted text ∷ ws)) (arguments_flaw (Some xs) ws) fit in
+    let r = neither (first_misfit format_wants (w ∷ Quoted text ∷ ws)) (arguments_error (Some xs) ws) fit in
     let target = a_name w (neither (name_misfit w) (first_pair misfit (wants.Format ∷ []) (Quoted text ∷ ws)) r.0).0 in
     let q = neither (unless (length ws == length xs) WrongCount) (first_misfit xs ws) r.1 in
     let number = eqb-true (length ws) (length xs) (holds (length ws == length xs) WrongCount q.0) in
@@ -342,22 +344,22 @@ formats_of law Printed (t ∷ Quoted text ∷ ws) = converts_of law text
 abbrev SaysOrBad : Grammar → ℕ → Scope → List Word → Type 0
 SaysOrBad g n scope words = ((s : Statement) × Says g n scope words s) ⊎ ((kind : RefusalKind) × HasBadWords g scope words kind)
 
--- the words after a verb have no flaw
+-- the words after a verb have no error
 well_said : (g : Grammar) (n : ℕ) (scope : Scope) (p : List ℕ) (ws : List Word) (v : Verb) (form : Form) (formats : Option (List Want)) →
     g.has p ≡ true → p ≡ verb_word v → form_of (verb_word v) ≡ Some form → HasFormat form.shape ws formats →
-    form_flaw form scope formats ws ≡ None → (s : Statement) × Says g n scope (Plain p ∷ ws) s
+    form_error form scope formats ws ≡ None → (s : Statement) × Says g n scope (Plain p ∷ ws) s
 well_said g n scope p ws v form formats has spelled is format fine =
     let shape = form.shape in
-    let names = names_flaw scope (wants_of shape formats ws) ws in
-    let blocks = block_flaw form.effect scope.blocks in
+    let names = names_error scope (wants_of shape formats ws) ws in
+    let blocks = block_error form.effect scope.blocks in
     let a = neither (unless (is_count shape (length ws)) WrongCount)
-    (first_of (words_flaw shape formats ws) (first_of names blocks)) fine in
-    let b = neither (words_flaw shape formats ws) (first_of names blocks) a.1 in
+    (first_of (words_error shape formats ws) (first_of names blocks)) fine in
+    let b = neither (words_error shape formats ws) (first_of names blocks) a.1 in
     let c = neither names blocks b.1 in
     let f = subst (Fills (verb_word v) n ws) is (filled v n ws) formats format (holds (is_count shape (length ws)) WrongCount a.0) b.0 in
     let ts = terms_of f.statement in
-    let known : terms_flaw scope ts ≡ None =
-    sym (names_same scope ws ts f.terms) ∙ ap (λ k. names_flaw scope k ws) (sym f.wanted) ∙ c.0 in (
+    let known : terms_error scope ts ≡ None =
+    sym (names_same scope ws ts f.terms) ∙ ap (λ k. names_error scope k ws) (sym f.wanted) ∙ c.0 in (
       f.statement,
       record {
         has = ap g.has (f.named ∙ sym spelled) ∙ has;
@@ -372,24 +374,25 @@ well_said g n scope p ws v form formats has spelled is format fine =
     )
 
 bad_form : (g : Grammar) (scope : Scope) (p : List ℕ) (ws : List Word) (form : Option Form) (kind : RefusalKind) → form_in g p ≡ form →
-    HasFormFlaw scope form ws kind → HasBadWords g scope (Plain p ∷ ws) kind
-bad_form g scope p ws form kind e h = subst (λ k. HasFormFlaw scope k ws kind) (sym e) h
+    HasFormError scope form ws kind → HasBadWords g scope (Plain p ∷ ws) kind
+bad_form g scope p ws form kind e h = subst (λ k. HasFormError scope k ws kind) (sym e) h
 
 verb_by : (g : Grammar) (n : ℕ) (scope : Scope) (p : List ℕ) (ws : List Word) (v : Verb) (form : Form) (formats : Option (List Want))
-    (flaw : Option RefusalKind) → g.has p ≡ true → p ≡ verb_word v → form_of (verb_word v) ≡ Some form → form_in g p ≡ Some form →
-    HasFormat form.shape ws formats → form_flaw form scope formats ws ≡ flaw → SaysOrBad g n scope (Plain p ∷ ws)
-verb_by g n scope p ws v form formats None has spelled is told format e = inl (well_said g n scope p ws v form formats has spelled is format e)
-verb_by g n scope p ws v form formats (Some kind) has spelled is told format e =
-    inr (kind, bad_form g scope p ws (Some form) kind told (formats, format, e))
+    (first_error : Option RefusalKind) → g.has p ≡ true → p ≡ verb_word v → form_of (verb_word v) ≡ Some form → form_in g p ≡ Some form →
+    HasFormat form.shape ws formats → form_error form scope formats ws ≡ first_error → SaysOrBad g n scope (Plain p ∷ ws)
+verb_by g n scope p ws v form formats None has spelled is reported format e = inl
+    (well_said g n scope p ws v form formats has spelled is format e)
+verb_by g n scope p ws v form formats (Some kind) has spelled is reported format e =
+    inr (kind, bad_form g scope p ws (Some form) kind reported (formats, format, e))
 
--- the words after a verb say a statement, or have a flaw
+-- the words after a verb say a statement, or have an error
 verb_says : FormatOrBad → (g : Grammar) (n : ℕ) (scope : Scope) (p : List ℕ) (ws : List Word) (v : Verb) (form : Option Form) →
     g.has p ≡ true → p ≡ verb_word v → form_of (verb_word v) ≡ form → form_in g p ≡ form → SaysOrBad g n scope (Plain p ∷ ws)
-verb_says law g n scope p ws v None has spelled is told =
-    inr (UnknownStatement, bad_form g scope p ws None UnknownStatement told refl)
-verb_says law g n scope p ws v (Some form) has spelled is told =
+verb_says law g n scope p ws v None has spelled is reported =
+    inr (UnknownStatement, bad_form g scope p ws None UnknownStatement reported refl)
+verb_says law g n scope p ws v (Some form) has spelled is reported =
     let formats = formats_of law form.shape ws in
-    verb_by g n scope p ws v form formats.0 (form_flaw form scope formats.0 ws) has spelled is told formats.1 refl
+    verb_by g n scope p ws v form formats.0 (form_error form scope formats.0 ws) has spelled is reported formats.1 refl
 
 -- a verb that is found has the word
 spelled_so : (vs : List Verb) (p : List ℕ) (v : Verb) → find_verb vs p ≡ Some v → p ≡ verb_word v
@@ -414,7 +417,7 @@ word_by law g n scope p ws true has = allowed_says law g n scope p ws (find_verb
 word_by law g n scope p ws false has =
     inr (UnknownStatement, bad_form g scope p ws None UnknownStatement (ap (λ b. if b then form_of p else None) has) refl)
 
--- words say a statement, or have a flaw
+-- words say a statement, or have an error
 pub says_or_bad : FormatOrBad → (g : Grammar) (n : ℕ) (scope : Scope) (words : List Word) → words ≢ [] → SaysOrBad g n scope words
 says_or_bad law g n scope [] some = absurd (some refl)
 says_or_bad law g n scope (Quoted text ∷ ws) some = inr (UnknownStatement, refl)

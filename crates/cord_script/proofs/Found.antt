@@ -1,4 +1,4 @@
--- Each line is idle or isn't, and has words or a first flaw of its bytes.
+-- Each line is idle or isn't, and has words or a first error of its bytes.
 use Rattle.std.proofs.Common.{inl, inr, Some, None, ◌≡◌, ◌≢◌, ◌≤◌, ◌<◌, ◌⊎◌, ℕ, zero, suc, List, [], ◌∷◌, ◌++◌, refl, sym, ◌∙◌, ap}
 use Rattle.std.proofs.Common.{append_assoc, length, length-append, arith}
 use Rattle.std.specs.Prelude.{All, Option}
@@ -46,15 +46,15 @@ plain_or_not c = elim (blank_or_not c) [
 shown : (line : List ℕ) → All IsBlank line ⊎ ((c : ℕ) × (rest : List ℕ) × Begins line c rest)
 shown [] = inl (All-nil IsBlank)
 shown (c ∷ cs) = elim (blank_or_not c) [
-  | inr shows ↦ inr (c, cs, record { front = []; blank = All-nil IsBlank; shows = shows; whole = refl })
+  | inr shows ↦ inr (c, cs, record { prefix = []; blank = All-nil IsBlank; shows = shows; whole = refl })
   | inl b ↦ elim (shown cs) [
     | inl all ↦ inl (All-cons IsBlank c cs b all)
     | inr h ↦ inr (
       h.0,
       h.1,
       record {
-        front = c ∷ h.2.front;
-        blank = All-cons IsBlank c h.2.front b h.2.blank;
+        prefix = c ∷ h.2.prefix;
+        blank = All-cons IsBlank c h.2.prefix b h.2.blank;
         shows = h.2.shows;
         whole = ap (λ x. c ∷ x) h.2.whole;
       },
@@ -66,11 +66,11 @@ shown (c ∷ cs) = elim (blank_or_not c) [
 pub not_idle : (line rest : List ℕ) (c : ℕ) → Begins line c rest → c ≢ 35 → ¬ IsIdle line
 not_idle line rest c b n (inl all) = no_beginning line rest c b all
 not_idle line rest c b n (inr note) =
-    n ((one_beginning line rest note.1 c 35 b (record { front = note.0; blank = note.2; shows = note_shows; whole = note.3 })).0)
+    n ((one_beginning line rest note.1 c 35 b (record { prefix = note.0; blank = note.2; shows = note_shows; whole = note.3 })).0)
 
 note_or_not : (line rest : List ℕ) (c : ℕ) → Begins line c rest → IsIdle line ⊎ (¬ IsIdle line)
 note_or_not line rest c b = elim (cases_eq c 35) [
-  | inl e ↦ inl (inr (b.front, rest, b.blank, b.whole ∙ ap (λ k. b.front ++ k ∷ rest) e))
+  | inl e ↦ inl (inr (b.prefix, rest, b.blank, b.whole ∙ ap (λ k. b.prefix ++ k ∷ rest) e))
   | inr n ↦ inr (not_idle line rest c b n)
 ]
 
@@ -92,11 +92,11 @@ stands_some u b (inr (inr (inr (inr (inr h))))) = omega (arith, ap length h.4)
 -- a part that stands for a byte at the front, before fewer bytes
 record HasUnit (rest : List ℕ) : Type 0 where
   pub unit : List ℕ
-  pub behind : List ℕ
+  pub suffix : List ℕ
   pub byte : ℕ
-  pub whole : rest ≡ unit ++ behind
+  pub whole : rest ≡ unit ++ suffix
   pub stands : Stands unit byte
-  pub shorter : length behind < length rest
+  pub shorter : length suffix < length rest
 
 unit_or_none : (rest : List ℕ) (o : Option (ℕ × List ℕ)) → unit_of rest ≡ o → HasUnit rest ⊎ (unit_of rest ≡ None)
 unit_or_none rest None e = inr e
@@ -104,7 +104,7 @@ unit_or_none rest (Some p) e =
     let s = unit_stands rest p.1 p.0 e in
     inl (record {
       unit = s.0;
-      behind = p.1;
+      suffix = p.1;
       byte = p.0;
       whole = s.1;
       stands = s.2;
@@ -124,7 +124,7 @@ backslash c rest n none = elim (cases_eq c 92) [
   | inr m ↦ absurd (none_stands (c ∷ rest) none (c ∷ []) rest c refl (inl (refl, n, m)))
 ]
 
--- what stands after the first quote of a quoted word: its text and a quote, or a flaw
+-- what stands after the first quote of a quoted word: its text and a quote, or an error
 abbrev Inside : List ℕ → Type 0
 Inside inner = ((w rest text : List ℕ) × (inner ≡ w ++ 34 ∷ rest) × Spells w text × (length text ≤ MAX_TEXT)) ⊎
     ((kind : RefusalKind) × IsBadText inner kind)
@@ -137,11 +137,11 @@ record SoFar (inner rest : List ℕ) : Type 0 where
   pub spells : Spells read text
   pub few : length text ≤ MAX_TEXT
 
-one_more : (inner rest : List ℕ) (h : SoFar inner rest) (u : HasUnit rest) → length h.text < MAX_TEXT → SoFar inner u.behind
+one_more : (inner rest : List ℕ) (h : SoFar inner rest) (u : HasUnit rest) → length h.text < MAX_TEXT → SoFar inner u.suffix
 one_more inner rest h u room = record {
   read = h.read ++ u.unit;
   text = h.text ++ u.byte ∷ [];
-  whole = h.whole ∙ ap (λ x. h.read ++ x) u.whole ∙ sym (append_assoc h.read u.unit u.behind);
+  whole = h.whole ∙ ap (λ x. h.read ++ x) u.whole ∙ sym (append_assoc h.read u.unit u.suffix);
   spells = spells_push h.read u.unit h.text u.byte h.spells u.stands;
   few = omega (arith, room, length-append h.text (u.byte ∷ []));
 }
@@ -165,7 +165,7 @@ inside (suc n) inner (c ∷ rest) le h = elim (cases_eq c 34) [
       ),
     )
     | inl u ↦ elim (cases_lt (length h.text) MAX_TEXT) [
-      | inl room ↦ inside n inner u.behind (omega (arith, le, u.shorter)) (one_more inner (c ∷ rest) h u room)
+      | inl room ↦ inside n inner u.suffix (omega (arith, le, u.shorter)) (one_more inner (c ∷ rest) h u room)
       | inr full ↦ inr (
         LiteralTooLong,
         (
@@ -175,7 +175,7 @@ inside (suc n) inner (c ∷ rest) le h = elim (cases_eq c 34) [
           h.whole,
           h.spells,
           h.few,
-          inr (inl (refl, omega (arith, full, h.few), (u.unit, u.behind, u.byte, u.whole, u.stands))),
+          inr (inl (refl, omega (arith, full, h.few), (u.unit, u.suffix, u.byte, u.whole, u.stands))),
         ),
       )
     ]
@@ -183,26 +183,26 @@ inside (suc n) inner (c ∷ rest) le h = elim (cases_eq c 34) [
 ]
 
 -- the bytes of a plain word at the front
-record PlainFront (b : List ℕ) : Type 0 where
-  pub front : List ℕ
+record PlainPrefix (b : List ℕ) : Type 0 where
+  pub prefix : List ℕ
   pub rest : List ℕ
-  pub whole : b ≡ front ++ rest
-  pub all : All IsPlain front
+  pub whole : b ≡ prefix ++ rest
+  pub all : All IsPlain prefix
   pub ends : EndsPlain rest
 
-plain_front : (b : List ℕ) → PlainFront b
-plain_front [] = record { front = []; rest = []; whole = refl; all = All-nil IsPlain; ends = tt }
-plain_front (c ∷ cs) = longer (plain_front cs) (plain_or_not c)
+plain_prefix : (b : List ℕ) → PlainPrefix b
+plain_prefix [] = record { prefix = []; rest = []; whole = refl; all = All-nil IsPlain; ends = tt }
+plain_prefix (c ∷ cs) = longer (plain_prefix cs) (plain_or_not c)
   where
-    longer : PlainFront cs → IsPlain c ⊎ (¬ IsPlain c) → PlainFront (c ∷ cs)
+    longer : PlainPrefix cs → IsPlain c ⊎ (¬ IsPlain c) → PlainPrefix (c ∷ cs)
     longer l (inl h) = record {
-      front = c ∷ l.front;
+      prefix = c ∷ l.prefix;
       rest = l.rest;
       whole = ap (λ x. c ∷ x) l.whole;
-      all = All-cons IsPlain c l.front h l.all;
+      all = All-cons IsPlain c l.prefix h l.all;
       ends = l.ends;
     }
-    longer l (inr n) = record { front = []; rest = c ∷ cs; whole = refl; all = All-nil IsPlain; ends = n }
+    longer l (inr n) = record { prefix = []; rest = c ∷ cs; whole = refl; all = All-nil IsPlain; ends = n }
 
 -- the next word
 record HasFirst (line : List ℕ) : Type 0 where
@@ -213,32 +213,32 @@ record HasFirst (line : List ℕ) : Type 0 where
 
 plain_first : (line rest : List ℕ) (c : ℕ) → Begins line c rest → c ≢ 34 → HasFirst line
 plain_first line rest c b n =
-    let l = plain_front rest in
-    let whole : line ≡ b.front ++ (c ∷ l.front) ++ l.rest =
-    b.whole ∙ ap (λ x. b.front ++ c ∷ x) l.whole ∙ sym (append_assoc b.front (c ∷ l.front) l.rest) in
+    let l = plain_prefix rest in
+    let whole : line ≡ b.prefix ++ (c ∷ l.prefix) ++ l.rest =
+    b.whole ∙ ap (λ x. b.prefix ++ c ∷ x) l.whole ∙ sym (append_assoc b.prefix (c ∷ l.prefix) l.rest) in
     record {
-      word = Plain (c ∷ l.front);
+      word = Plain (c ∷ l.prefix);
       rest = l.rest;
-      is = (b.front, b.blank, whole, (λ e. cc), All-cons IsPlain c l.front (b.shows, n) l.all, l.ends);
-      shorter = omega (arith, ap length whole, length-append (b.front ++ (c ∷ l.front)) l.rest, length-append b.front (c ∷ l.front));
+      is = (b.prefix, b.blank, whole, (λ e. cc), All-cons IsPlain c l.prefix (b.shows, n) l.all, l.ends);
+      shorter = omega (arith, ap length whole, length-append (b.prefix ++ (c ∷ l.prefix)) l.rest, length-append b.prefix (c ∷ l.prefix));
     }
 
-quoted_first : (line inner front : List ℕ) → All IsBlank front → line ≡ front ++ 34 ∷ inner → Inside inner → HasFirst line ⊎
+quoted_first : (line inner prefix : List ℕ) → All IsBlank prefix → line ≡ prefix ++ 34 ∷ inner → Inside inner → HasFirst line ⊎
     ((kind : RefusalKind) × BeginsBadText line kind)
-quoted_first line inner front blank e (inr bad) = inr (bad.0, (front, inner, blank, e, bad.1))
-quoted_first line inner front blank e (inl h) =
-    let whole : line ≡ (front ++ 34 ∷ h.0) ++ 34 ∷ h.1 =
-    e ∙ ap (λ x. front ++ 34 ∷ x) h.3 ∙ sym (append_assoc front (34 ∷ h.0) (34 ∷ h.1)) in
+quoted_first line inner prefix blank e (inr bad) = inr (bad.0, (prefix, inner, blank, e, bad.1))
+quoted_first line inner prefix blank e (inl h) =
+    let whole : line ≡ (prefix ++ 34 ∷ h.0) ++ 34 ∷ h.1 =
+    e ∙ ap (λ x. prefix ++ 34 ∷ x) h.3 ∙ sym (append_assoc prefix (34 ∷ h.0) (34 ∷ h.1)) in
     inl (record {
       word = Quoted h.2;
       rest = h.1;
-      is = (front, h.0, blank, whole, h.4, h.5);
-      shorter = omega (arith, ap length whole, length-append (front ++ 34 ∷ h.0) (34 ∷ h.1));
+      is = (prefix, h.0, blank, whole, h.4, h.5);
+      shorter = omega (arith, ap length whole, length-append (prefix ++ 34 ∷ h.0) (34 ∷ h.1));
     })
 
 first_or_bad : (line rest : List ℕ) (c : ℕ) → Begins line c rest → HasFirst line ⊎ ((kind : RefusalKind) × BeginsBadText line kind)
 first_or_bad line rest c b = elim (cases_eq c 34) [
-  | inl e ↦ quoted_first line rest b.front b.blank (b.whole ∙ ap (λ k. b.front ++ k ∷ rest) e)
+  | inl e ↦ quoted_first line rest b.prefix b.blank (b.whole ∙ ap (λ k. b.prefix ++ k ∷ rest) e)
       (inside (length rest) rest rest (omega arith) (record { read = []; text = []; whole = refl; spells = refl; few = omega arith }))
   | inr n ↦ inl (plain_first line rest c b n)
 ]
@@ -247,15 +247,15 @@ abbrev WordsOrBad : List ℕ → Type 0
 WordsOrBad line = ((ws : List Word) × HasWords line ws) ⊎ ((kind : RefusalKind) × HasBadBytes line kind)
 
 -- one more word in front
-behind_word : (line : List ℕ) (w : HasFirst line) → WordsOrBad w.rest → WordsOrBad line
-behind_word line w (inl h) = inl (w.word ∷ h.0, (h.1.0, (w.rest, w.is, h.1.1), h.1.2))
-behind_word line w (inr h) = inr (h.0, (w.word ∷ h.1.0, h.1.1, (w.rest, w.is, h.1.2), h.1.3))
+after_word : (line : List ℕ) (w : HasFirst line) → WordsOrBad w.rest → WordsOrBad line
+after_word line w (inl h) = inl (w.word ∷ h.0, (h.1.0, (w.rest, w.is, h.1.1), h.1.2))
+after_word line w (inr h) = inr (h.0, (w.word ∷ h.1.0, h.1.1, (w.rest, w.is, h.1.2), h.1.3))
 
 words_by : (line : List ℕ) → ((rest : List ℕ) → length rest < length line → WordsOrBad rest) → WordsOrBad line
 words_by line more = elim (shown line) [
   | inl all ↦ inl ([], (line, refl, all))
   | inr h ↦ elim (first_or_bad line h.1 h.0 h.2) [
-    | inl w ↦ behind_word line w (more w.rest w.shorter)
+    | inl w ↦ after_word line w (more w.rest w.shorter)
     | inr bad ↦ inr (bad.0, ([], line, refl, bad.1))
   ]
 ]
@@ -264,7 +264,7 @@ words_up_to : (n : ℕ) (line : List ℕ) → length line ≤ n → WordsOrBad l
 words_up_to zero line le = words_by line (λ rest lt. absurd (omega (arith, le, lt)))
 words_up_to (suc n) line le = words_by line (λ rest lt. words_up_to n rest (omega (arith, le, lt)))
 
--- a line has words, or a first flaw of its bytes
+-- a line has words, or a first error of its bytes
 pub words_or_bad : (line : List ℕ) → WordsOrBad line
 words_or_bad line = words_up_to (length line) line (omega arith)
 

@@ -5,7 +5,7 @@ pub mod Either
 pub mod Filled
 pub mod Firsts
 pub mod Found
-pub mod FormFlaws
+pub mod FormErrors
 pub mod LineReading
 pub mod Lines
 pub mod Magnitudes
@@ -15,9 +15,9 @@ pub mod Samples
 pub mod Same
 pub mod Single
 pub mod Spelled
-pub mod Stated
+pub mod OneStatement
 pub mod Tabled
 pub mod Terms
 pub mod Unique
 pub mod Worded
-pub mod Worked
+pub mod Examples

@@ -64,7 +64,7 @@ sprintf_built line old new target text format args target_put text_put format_pu
     let same : Sprintf line target text format args ≡ Sprintf line target_put text_put format_put args_put = cc in
     subst (IsBuilt verbs.Sprintf line old new) same (record { word = refl; effect = refl; numbered = refl; fields = fields; suits = (is, wants) })
 
--- the word of a verb that is told
+-- the word of a verb that is reported
 pub spelled : {V : Type 0} (of : V → FixedVerb) {a b : V} → a ≡ b → fixed_word (of b) ≡ fixed_word (of a)
 spelled of e = ap (λ v. fixed_word (of v)) (sym e)
 

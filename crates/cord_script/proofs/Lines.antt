@@ -65,19 +65,19 @@ pub tail_of : (P : ℕ → Type 0) (x : ℕ) (xs : List ℕ) → All P (x ∷ xs
 tail_of P x xs h = λ k d lt. h (suc k) d (omega arith)
 
 -- a byte that is no blank
-pub not_all_blank : (front rest : List ℕ) (c : ℕ) → All IsBlank (front ++ c ∷ rest) → ¬ IsBlank c → ⊥
+pub not_all_blank : (prefix rest : List ℕ) (c : ℕ) → All IsBlank (prefix ++ c ∷ rest) → ¬ IsBlank c → ⊥
 not_all_blank [] rest c h n = n (head_of IsBlank c rest h)
 not_all_blank (x ∷ xs) rest c h n = not_all_blank xs rest c (tail_of IsBlank x (xs ++ c ∷ rest) h) n
 
 -- the blanks at the front end at one place
-pub one_front : (f g : List ℕ) (c d : ℕ) (r s : List ℕ) → All IsBlank f → ¬ IsBlank c → All IsBlank g → ¬ IsBlank d →
+pub one_prefix : (f g : List ℕ) (c d : ℕ) (r s : List ℕ) → All IsBlank f → ¬ IsBlank c → All IsBlank g → ¬ IsBlank d →
     f ++ c ∷ r ≡ g ++ d ∷ s → (f ≡ g) × (c ≡ d) × (r ≡ s)
-one_front [] [] c d r s hf nc hg nd e = (refl, cc, cc)
-one_front [] (y ∷ g) c d r s hf nc hg nd e = let same : y ≡ c = cc in absurd (nc (subst IsBlank same (head_of IsBlank y g hg)))
-one_front (x ∷ f) [] c d r s hf nc hg nd e = let same : x ≡ d = cc in absurd (nd (subst IsBlank same (head_of IsBlank x f hf)))
-one_front (x ∷ f) (y ∷ g) c d r s hf nc hg nd e =
+one_prefix [] [] c d r s hf nc hg nd e = (refl, cc, cc)
+one_prefix [] (y ∷ g) c d r s hf nc hg nd e = let same : y ≡ c = cc in absurd (nc (subst IsBlank same (head_of IsBlank y g hg)))
+one_prefix (x ∷ f) [] c d r s hf nc hg nd e = let same : x ≡ d = cc in absurd (nd (subst IsBlank same (head_of IsBlank x f hf)))
+one_prefix (x ∷ f) (y ∷ g) c d r s hf nc hg nd e =
     let rest : f ++ c ∷ r ≡ g ++ d ∷ s = cc in
-    let t = one_front f g c d r s (tail_of IsBlank x f hf) nc (tail_of IsBlank y g hg) nd rest in
+    let t = one_prefix f g c d r s (tail_of IsBlank x f hf) nc (tail_of IsBlank y g hg) nd rest in
     let same : x ≡ y = cc in
     (let fs = t.0 in cc, t.1, t.2)
 
@@ -92,7 +92,7 @@ note_by line inner b c false t e h s =
     let whole : line ≡ take b line ++ c ∷ inner = parts b line ∙ ap (λ k. take b line ++ k) e in
     λ idle. elim idle [
       | inl all ↦ not_all_blank (take b line) inner c (subst (All IsBlank) whole all) s
-      | inr note ↦ eqb-false c 35 t ((one_front (take b line) note.0 c 35 inner note.1 h s note.2 note_shows (sym whole ∙ note.3)).1)
+      | inr note ↦ eqb-false c 35 t ((one_prefix (take b line) note.0 c 35 inner note.1 h s note.2 note_shows (sym whole ∙ note.3)).1)
     ]
 
 -- a line whose first other byte isn't `#` says something

@@ -13,9 +13,9 @@ use Rattle.cord_syntax.specs.Lines.{line_of}
 use Rattle.cord_script.specs.Forms.{Grammar}
 use Rattle.cord_script.specs.Script.{Scope, Block, ReadsBy, ReadsUpTo, Says, LinesSay, whole, start, after, after_all}
 use Rattle.cord_script.specs.Script.Block.{InRepeat, InIf, InElse}
-use Rattle.cord_script.specs.Flaws.{FlawBy, HasBadLine}
+use Rattle.cord_script.specs.FirstErrors.{FirstErrorBy, HasBadLine}
 use Rattle.cord_script.specs.inner.ContextViews.{IsInnermostOpen}
-use Rattle.cord_script.specs.inner.Steps.{Takes, HasWrong, HasRead}
+use Rattle.cord_script.specs.inner.Steps.{TakesLine, HasWrong, HasRead}
 
 all_more_at : {X : Type 0} (P : X → Type 0) (x : X) (xs : List X) → P x → All P xs → (k : ℕ) (d : X) → k < length (x ∷ xs) →
     P (get_or (x ∷ xs) k d)
@@ -49,17 +49,17 @@ after_push [] more scope = refl
 after_push (s ∷ ss) more scope = after_push ss more (after s scope)
 
 -- one more line that says nothing
-pub says_idle : (g : Grammar) (n : ℕ) (scope : Scope) (front : List (List ℕ)) (line : List ℕ) (ss : List Statement) →
-    LinesSay g n scope front ss → IsIdle line → LinesSay g n scope (front ++ line ∷ []) ss
+pub says_idle : (g : Grammar) (n : ℕ) (scope : Scope) (prefix : List (List ℕ)) (line : List ℕ) (ss : List Statement) →
+    LinesSay g n scope prefix ss → IsIdle line → LinesSay g n scope (prefix ++ line ∷ []) ss
 says_idle g n scope [] line ss h idle = inl (idle, h)
-says_idle g n scope (x ∷ front) line ss (inl h) idle = inl (h.0, says_idle g (n + 1) scope front line ss h.1 idle)
-says_idle g n scope (x ∷ front) line ss (inr h) idle =
-    inr (h.0, h.1, h.2, h.3, h.4, h.5, h.6, says_idle g (n + 1) (after h.1 scope) front line h.3 h.7 idle)
+says_idle g n scope (x ∷ prefix) line ss (inl h) idle = inl (h.0, says_idle g (n + 1) scope prefix line ss h.1 idle)
+says_idle g n scope (x ∷ prefix) line ss (inr h) idle =
+    inr (h.0, h.1, h.2, h.3, h.4, h.5, h.6, says_idle g (n + 1) (after h.1 scope) prefix line h.3 h.7 idle)
 
 -- one more line that says a statement
-pub says_more : (g : Grammar) (n m : ℕ) (scope : Scope) (front : List (List ℕ)) (line : List ℕ) (ss : List Statement) (s : Statement)
-    (words : List Word) → LinesSay g n scope front ss → m ≡ n + length front → ¬ IsIdle line → HasWords line words →
-    Says g m (after_all ss scope) words s → LinesSay g n scope (front ++ line ∷ []) (ss ++ s ∷ [])
+pub says_more : (g : Grammar) (n m : ℕ) (scope : Scope) (prefix : List (List ℕ)) (line : List ℕ) (ss : List Statement) (s : Statement)
+    (words : List Word) → LinesSay g n scope prefix ss → m ≡ n + length prefix → ¬ IsIdle line → HasWords line words →
+    Says g m (after_all ss scope) words s → LinesSay g n scope (prefix ++ line ∷ []) (ss ++ s ∷ [])
 says_more g n m scope [] line ss s words h e shows hw says =
     let same : m ≡ n = omega arith in
     inr (
@@ -73,9 +73,9 @@ says_more g n m scope [] line ss s words h e shows hw says =
           (subst (λ x. Says g m (after_all x scope) words s) h says),
       refl,
     )
-says_more g n m scope (x ∷ front) line ss s words (inl h) e shows hw says =
-    inl (h.0, says_more g (n + 1) m scope front line ss s words h.1 (omega arith) shows hw says)
-says_more g n m scope (x ∷ front) line ss s words (inr h) e shows hw says =
+says_more g n m scope (x ∷ prefix) line ss s words (inl h) e shows hw says =
+    inl (h.0, says_more g (n + 1) m scope prefix line ss s words h.1 (omega arith) shows hw says)
+says_more g n m scope (x ∷ prefix) line ss s words (inr h) e shows hw says =
     inr (
       h.0,
       h.1,
@@ -84,43 +84,43 @@ says_more g n m scope (x ∷ front) line ss s words (inr h) e shows hw says =
       ap (λ x. x ++ s ∷ []) h.4,
       h.5,
       h.6,
-      says_more g (n + 1) m (after h.1 scope) front line h.3 s words h.7 (omega arith) shows hw
+      says_more g (n + 1) m (after h.1 scope) prefix line h.3 s words h.7 (omega arith) shows hw
           (subst (λ x. Says g m (after_all x scope) words s) h.4 says),
     )
 
 -- a line that was read is one of the lines in front
-pub reads_line : (b rest behind line : List ℕ) (n : ℕ) (old new : Scope) (ss grown : List Statement) → HasRead b rest n old ss →
-    ((lines : List (List ℕ)) → IsSplit behind lines → IsSplit rest (line ∷ lines)) → Takes n line old new ss grown →
-    HasRead b behind (n + 1) new grown
-reads_line b rest behind line n old new ss grown r first (None, t, e) =
+pub reads_line : (b rest suffix line : List ℕ) (n : ℕ) (old new : Scope) (ss grown : List Statement) → HasRead b rest n old ss →
+    ((lines : List (List ℕ)) → IsSplit suffix lines → IsSplit rest (line ∷ lines)) → TakesLine n line old new ss grown →
+    HasRead b suffix (n + 1) new grown
+reads_line b rest suffix line n old new ss grown r first (None, t, e) =
     let same : grown ≡ ss = e ∙ append-nil ss in
     record {
-      front = r.front ++ line ∷ [];
-      split = λ later h. subst (IsSplit b) (sym (append_assoc r.front (line ∷ []) later)) (r.split (line ∷ later) (first later h));
-      say = subst (LinesSay whole 1 start (r.front ++ line ∷ [])) (sym same) (says_idle whole 1 start r.front line ss r.say t.0);
-      number = omega (arith, r.number, length-append r.front (line ∷ []));
+      prefix = r.prefix ++ line ∷ [];
+      split = λ later h. subst (IsSplit b) (sym (append_assoc r.prefix (line ∷ []) later)) (r.split (line ∷ later) (first later h));
+      say = subst (LinesSay whole 1 start (r.prefix ++ line ∷ [])) (sym same) (says_idle whole 1 start r.prefix line ss r.say t.0);
+      number = omega (arith, r.number, length-append r.prefix (line ∷ []));
       leaves = ap (λ x. after_all x start) same ∙ r.leaves ∙ sym t.1;
     }
-reads_line b rest behind line n old new ss grown r first (Some s, t, e) =
+reads_line b rest suffix line n old new ss grown r first (Some s, t, e) =
     record {
-      front = r.front ++ line ∷ [];
-      split = λ later h. subst (IsSplit b) (sym (append_assoc r.front (line ∷ []) later)) (r.split (line ∷ later) (first later h));
-      say = subst (LinesSay whole 1 start (r.front ++ line ∷ [])) (sym e)
-          (says_more whole 1 n start r.front line ss s t.1 r.say (omega (arith, r.number)) t.0 t.2
+      prefix = r.prefix ++ line ∷ [];
+      split = λ later h. subst (IsSplit b) (sym (append_assoc r.prefix (line ∷ []) later)) (r.split (line ∷ later) (first later h));
+      say = subst (LinesSay whole 1 start (r.prefix ++ line ∷ [])) (sym e)
+          (says_more whole 1 n start r.prefix line ss s t.1 r.say (omega (arith, r.number)) t.0 t.2
           (subst (λ x. Says whole n x t.1 s) (sym r.leaves) t.3.says));
-      number = omega (arith, r.number, length-append r.front (line ∷ []));
+      number = omega (arith, r.number, length-append r.prefix (line ∷ []));
       leaves = ap (λ x. after_all x start) e ∙ after_push ss (s ∷ []) start ∙ ap (after s) r.leaves ∙ t.3.leaves;
     }
 
 -- the line that is being read
-pub reached : (b rest behind line : List ℕ) (n : ℕ) (scope : Scope) (ss : List Statement) → length b ≤ MAX_SCRIPT → n ≤ MAX_LINES →
-    HasRead b rest n scope ss → ((lines : List (List ℕ)) → IsSplit behind lines → IsSplit rest (line ∷ lines)) → ReadsUpTo b n
-reached b rest behind line n scope ss small few r first =
-    let later = some_lines behind in
+pub reached : (b rest suffix line : List ℕ) (n : ℕ) (scope : Scope) (ss : List Statement) → length b ≤ MAX_SCRIPT → n ≤ MAX_LINES →
+    HasRead b rest n scope ss → ((lines : List (List ℕ)) → IsSplit suffix lines → IsSplit rest (line ∷ lines)) → ReadsUpTo b n
+reached b rest suffix line n scope ss small few r first =
+    let later = some_lines suffix in
     record {
       size = small;
       few = few;
-      front = r.front;
+      prefix = r.prefix;
       line = line;
       later = later.0;
       split = r.split (line ∷ later.0) (first later.0 later.1);
@@ -129,7 +129,7 @@ reached b rest behind line n scope ss small few r first =
       say = r.say;
     }
 
--- an open block is no want of memory
+-- an open block is no out of memory
 pub left_found : (blocks : List Block) (n : ℕ) (kind : RefusalKind) → IsInnermostOpen blocks n kind → kind ≢ NoMemory
 left_found [] n kind h = absurd h
 left_found (InRepeat line ∷ blocks) n kind h = λ e. cc
@@ -137,14 +137,14 @@ left_found (InIf line ∷ blocks) n kind h = λ e. cc
 left_found (InElse line ∷ blocks) n kind h = λ e. cc
 
 -- a line that is too much, or wrong
-pub stops : (b rest behind line : List ℕ) (n : ℕ) (scope : Scope) (ss : List Statement) (kind : RefusalKind) → length b ≤ MAX_SCRIPT →
-    HasRead b rest n scope ss → ((lines : List (List ℕ)) → IsSplit behind lines → IsSplit rest (line ∷ lines)) →
-    HasBadLine whole n scope line kind → FlawBy whole b n kind
-stops b rest behind line n scope ss kind small r first wrong =
-    let later = some_lines behind in
+pub stops : (b rest suffix line : List ℕ) (n : ℕ) (scope : Scope) (ss : List Statement) (kind : RefusalKind) → length b ≤ MAX_SCRIPT →
+    HasRead b rest n scope ss → ((lines : List (List ℕ)) → IsSplit suffix lines → IsSplit rest (line ∷ lines)) →
+    HasBadLine whole n scope line kind → FirstErrorBy whole b n kind
+stops b rest suffix line n scope ss kind small r first wrong =
+    let later = some_lines suffix in
     inr (inl (record {
       size = small;
-      front = r.front;
+      prefix = r.prefix;
       line = line;
       later = later.0;
       split = r.split (line ∷ later.0) (first later.0 later.1);
@@ -155,12 +155,12 @@ stops b rest behind line n scope ss kind small r first wrong =
     }))
 
 too_many_by : (b rest : List ℕ) (n : ℕ) (scope : Scope) (ss : List Statement) (lines : List (List ℕ)) → length b ≤ MAX_SCRIPT →
-    HasRead b rest n scope ss → rest ≢ [] → n ≡ MAX_LINES + 1 → IsSplit rest lines → FlawBy whole b n TooBig
+    HasRead b rest n scope ss → rest ≢ [] → n ≡ MAX_LINES + 1 → IsSplit rest lines → FirstErrorBy whole b n TooBig
 too_many_by b rest n scope ss [] small r some e h = absurd (some h)
 too_many_by b rest n scope ss (line ∷ later) small r some e h =
     inr (inl (record {
       size = small;
-      front = r.front;
+      prefix = r.prefix;
       line = line;
       later = later;
       split = r.split (line ∷ later) h;
@@ -172,7 +172,7 @@ too_many_by b rest n scope ss (line ∷ later) small r some e h =
 
 -- more lines than there may be
 pub too_many : (b rest : List ℕ) (n : ℕ) (scope : Scope) (ss : List Statement) → length b ≤ MAX_SCRIPT → HasRead b rest n scope ss →
-    rest ≢ [] → n ≡ MAX_LINES + 1 → FlawBy whole b n TooBig
+    rest ≢ [] → n ≡ MAX_LINES + 1 → FirstErrorBy whole b n TooBig
 too_many b rest n scope ss small r some e = let later = some_lines rest in too_many_by b rest n scope ss later.0 small r some e later.1
 
 -- a line that is wrong
@@ -185,8 +185,8 @@ pub read_whole : (b rest : List ℕ) (n : ℕ) (scope : Scope) (ss : List Statem
     rest ≡ [] → HasRead b rest n scope ss → scope.blocks ≡ [] → ReadsBy whole b ss
 read_whole b rest n scope ss small few e r closed = record {
   size = small;
-  lines = r.front;
-  split = subst (IsSplit b) (append-nil r.front) (r.split [] e);
+  lines = r.prefix;
+  split = subst (IsSplit b) (append-nil r.prefix) (r.split [] e);
   count = omega (arith, r.number);
   say = r.say;
   closed = ap (λ x. x.blocks) r.leaves ∙ closed;
@@ -194,13 +194,13 @@ read_whole b rest n scope ss small few e r closed = record {
 
 open_by : (b rest : List ℕ) (n at : ℕ) (scope : Scope) (ss : List Statement) (kind : RefusalKind) (blocks : List Block) →
     length b ≤ MAX_SCRIPT → n ≤ MAX_LINES + 1 → rest ≡ [] → HasRead b rest n scope ss → scope.blocks ≡ blocks →
-    IsInnermostOpen blocks at kind → FlawBy whole b at kind
+    IsInnermostOpen blocks at kind → FirstErrorBy whole b at kind
 open_by b rest n at scope ss kind [] small few e r same h = absurd h
 open_by b rest n at scope ss kind (block ∷ others) small few e r same h =
     inr (inr (record {
       size = small;
-      lines = r.front;
-      split = subst (IsSplit b) (append-nil r.front) (r.split [] e);
+      lines = r.prefix;
+      split = subst (IsSplit b) (append-nil r.prefix) (r.split [] e);
       count = omega (arith, r.number);
       statements = ss;
       say = r.say;
@@ -212,7 +212,7 @@ open_by b rest n at scope ss kind (block ∷ others) small few e r same h =
 
 -- a block that is open where no line is left
 pub leaves_open : (b rest : List ℕ) (n at : ℕ) (scope : Scope) (ss : List Statement) (kind : RefusalKind) → length b ≤ MAX_SCRIPT →
-    n ≤ MAX_LINES + 1 → rest ≡ [] → HasRead b rest n scope ss → IsInnermostOpen scope.blocks at kind → FlawBy whole b at kind
+    n ≤ MAX_LINES + 1 → rest ≡ [] → HasRead b rest n scope ss → IsInnermostOpen scope.blocks at kind → FirstErrorBy whole b at kind
 leaves_open b rest n at scope ss kind small few e r h = open_by b rest n at scope ss kind scope.blocks small few e r refl h
 
 -- nothing is left
@@ -233,7 +233,7 @@ numbered_push (x ∷ xs) s h l = all_more (λ y. 1 ≤ line_of y) x (xs ++ s ∷
 
 -- what a line adds has its number
 pub numbered_line : (n : ℕ) (line : List ℕ) (old new : Scope) (ss grown : List Statement) → 1 ≤ n → All (λ x. 1 ≤ line_of x) ss →
-    Takes n line old new ss grown → All (λ x. 1 ≤ line_of x) grown
+    TakesLine n line old new ss grown → All (λ x. 1 ≤ line_of x) grown
 numbered_line n line old new ss grown one h (None, t, e) = subst (All (λ x. 1 ≤ line_of x)) (sym (e ∙ append-nil ss)) h
 numbered_line n line old new ss grown one h (Some s, t, e) =
     let own : 1 ≤ line_of s = omega (arith, t.3.says.line) in

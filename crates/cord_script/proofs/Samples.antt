@@ -11,7 +11,7 @@ use Rattle.cord_script.specs.Words.{IsSplit, IsBlank, IsIdle, IsPlain, EndsPlain
 use Rattle.cord_script.specs.Words.{BeginsBadText}
 use Rattle.cord_script.specs.Tests.{each}
 use Rattle.cord_script.proofs.Spelled.{both}
-use Rattle.cord_script.proofs.Lines.{one_front, head_of, note_shows}
+use Rattle.cord_script.proofs.Lines.{one_prefix, head_of, note_shows}
 use Rattle.cord_script.proofs.Unique.{not_true}
 use Rattle.cord_script.proofs.Terms.{either}
 
@@ -23,16 +23,16 @@ pub data Chunk : Type 0 where
 -- the chunks in front of other bytes
 abbrev pub spelled_before : List Chunk → List ℕ → List ℕ
 spelled_before [] rest = rest
-spelled_before (Bare front p ∷ cs) rest = front ++ p ++ spelled_before cs rest
-spelled_before (Marked front t ∷ cs) rest = front ++ 34 ∷ t ++ 34 ∷ spelled_before cs rest
+spelled_before (Bare prefix p ∷ cs) rest = prefix ++ p ++ spelled_before cs rest
+spelled_before (Marked prefix t ∷ cs) rest = prefix ++ 34 ∷ t ++ 34 ∷ spelled_before cs rest
 
 abbrev pub spelled : List Chunk → List ℕ
 spelled cs = spelled_before cs []
 
 abbrev pub chunk_words : List Chunk → List Word
 chunk_words [] = []
-chunk_words (Bare front p ∷ cs) = Plain p ∷ chunk_words cs
-chunk_words (Marked front t ∷ cs) = Quoted t ∷ chunk_words cs
+chunk_words (Bare prefix p ∷ cs) = Plain p ∷ chunk_words cs
+chunk_words (Marked prefix t ∷ cs) = Quoted t ∷ chunk_words cs
 
 abbrev pub blank : ℕ → Bool
 blank c = (c == 32) || (c == 9) || (c == 13)
@@ -53,9 +53,9 @@ ends (c ∷ cs) = not (bare c)
 
 abbrev pub well_before : List Chunk → List ℕ → Bool
 well_before [] rest = true
-well_before (Bare front p ∷ cs) rest =
-    each blank front && (some p && (each bare p && (ends (spelled_before cs rest) && well_before cs rest)))
-well_before (Marked front t ∷ cs) rest = each blank front && (each own t && (nat_le (length t) MAX_TEXT && well_before cs rest))
+well_before (Bare prefix p ∷ cs) rest =
+    each blank prefix && (some p && (each bare p && (ends (spelled_before cs rest) && well_before cs rest)))
+well_before (Marked prefix t ∷ cs) rest = each blank prefix && (each own t && (nat_le (length t) MAX_TEXT && well_before cs rest))
 
 abbrev pub well : List Chunk → Bool
 well cs = well_before cs []
@@ -122,15 +122,15 @@ ends_is (c ∷ cs) h = λ plain. let clash : true ≡ false = sym (is_bare c pla
 -- chunks in front of other bytes have their words
 pub starts_well : (cs : List Chunk) (rest : List ℕ) → well_before cs rest ≡ true → StartsWith (spelled_before cs rest) (chunk_words cs) rest
 starts_well [] rest h = refl
-starts_well (Bare front p ∷ cs) rest h =
-    let a = both (each blank front) (some p && (each bare p && (ends (spelled_before cs rest) && well_before cs rest))) h in
+starts_well (Bare prefix p ∷ cs) rest h =
+    let a = both (each blank prefix) (some p && (each bare p && (ends (spelled_before cs rest) && well_before cs rest))) h in
     let b = both (some p) (each bare p && (ends (spelled_before cs rest) && well_before cs rest)) a.1 in
     let c = both (each bare p) (ends (spelled_before cs rest) && well_before cs rest) b.1 in
     let d = both (ends (spelled_before cs rest)) (well_before cs rest) c.1 in (
       spelled_before cs rest,
       (
-        front,
-        all_by blank IsBlank blank_is front a.0,
+        prefix,
+        all_by blank IsBlank blank_is prefix a.0,
         refl,
         some_is p b.0,
         all_by bare IsPlain bare_is p c.0,
@@ -138,12 +138,12 @@ starts_well (Bare front p ∷ cs) rest h =
       ),
       starts_well cs rest d.1,
     )
-starts_well (Marked front t ∷ cs) rest h =
-    let a = both (each blank front) (each own t && (nat_le (length t) MAX_TEXT && well_before cs rest)) h in
+starts_well (Marked prefix t ∷ cs) rest h =
+    let a = both (each blank prefix) (each own t && (nat_le (length t) MAX_TEXT && well_before cs rest)) h in
     let b = both (each own t) (nat_le (length t) MAX_TEXT && well_before cs rest) a.1 in
     let c = both (nat_le (length t) MAX_TEXT) (well_before cs rest) b.1 in (
       spelled_before cs rest,
-      (front, t, all_by blank IsBlank blank_is front a.0, refl, own_spells t b.0, leb-true (length t) MAX_TEXT c.0),
+      (prefix, t, all_by blank IsBlank blank_is prefix a.0, refl, own_spells t b.0, leb-true (length t) MAX_TEXT c.0),
       starts_well cs rest c.1,
     )
 
@@ -162,7 +162,7 @@ not_idle c rest b n idle =
     elim idle [
       | inl all ↦ shows (head_of IsBlank c rest all)
       | inr note ↦ eqb-false c 35 n
-          ((one_front [] note.0 c 35 rest note.1 (λ k d lt. absurd (omega arith)) shows note.2 note_shows note.3).1)
+          ((one_prefix [] note.0 c 35 rest note.1 (λ k d lt. absurd (omega arith)) shows note.2 note_shows note.3).1)
     ]
 
 -- no byte 10

@@ -8,9 +8,9 @@ use Rattle.cord_script.specs.Words.{IsSplit, IsIdle, HasWords}
 use Rattle.cord_script.specs.Forms.{Grammar}
 use Rattle.cord_script.specs.Script.{Scope, Block, Says, LinesSay, ReadsBy, start, after, after_all, whole, without_branches}
 use Rattle.cord_script.specs.Script.Block.{InRepeat, InIf, InElse}
-use Rattle.cord_script.specs.Flaws.{HasBadWords, HasBadLine, StopsAt, IsLeftOpen, FlawBy}
+use Rattle.cord_script.specs.FirstErrors.{HasBadWords, HasBadLine, StopsAt, IsLeftOpen, FirstErrorBy}
 use Rattle.cord_script.proofs.Unique.{one_words, good_bytes, one_bad_bytes, one_split}
-use Rattle.cord_script.proofs.Stated.{good_words, one_bad_words, one_statement}
+use Rattle.cord_script.proofs.OneStatement.{good_words, one_bad_words, one_statement}
 
 -- lines say one list of statements
 one_saying : OneFormat → BadIsNoFormat → (g : Grammar) (n : ℕ) (scope : Scope) (lines : List (List ℕ)) (ss more : List Statement) →
@@ -37,28 +37,28 @@ says_fine one bad g n scope line lines ss kind few (inr h) (inr (m, shows, inr w
     good_words one bad g n scope h.2 h.1 kind h.6 (subst (λ ws. HasBadWords g scope ws kind) (sym words) w.2)
 
 -- lines that all say something are none of them wrong
-no_stop : OneFormat → BadIsNoFormat → (g : Grammar) (n m : ℕ) (scope : Scope) (front : List (List ℕ)) (line : List ℕ)
-    (later : List (List ℕ)) (ss more : List Statement) (kind : RefusalKind) → m ≡ n + length front → m ≤ MAX_LINES →
-    LinesSay g n scope (front ++ line ∷ later) ss → LinesSay g n scope front more → HasBadLine g m (after_all more scope) line kind → ⊥
+no_stop : OneFormat → BadIsNoFormat → (g : Grammar) (n m : ℕ) (scope : Scope) (prefix : List (List ℕ)) (line : List ℕ)
+    (later : List (List ℕ)) (ss more : List Statement) (kind : RefusalKind) → m ≡ n + length prefix → m ≤ MAX_LINES →
+    LinesSay g n scope (prefix ++ line ∷ later) ss → LinesSay g n scope prefix more → HasBadLine g m (after_all more scope) line kind → ⊥
 no_stop one bad g n m scope [] line later ss more kind e few h k w =
     let same : m ≡ n = omega arith in
     says_fine one bad g n scope line later ss kind (omega arith) h
     (subst (λ x. HasBadLine g x scope line kind) same (subst (λ x. HasBadLine g m (after_all x scope) line kind) k w))
-no_stop one bad g n m scope (x ∷ front) line later ss more kind e few (inl h) (inl k) w =
-    no_stop one bad g (n + 1) m scope front line later ss more kind (omega arith) few h.1 k.1 w
-no_stop one bad g n m scope (x ∷ front) line later ss more kind e few (inl h) (inr k) w = k.0 h.0
-no_stop one bad g n m scope (x ∷ front) line later ss more kind e few (inr h) (inl k) w = h.0 k.0
-no_stop one bad g n m scope (x ∷ front) line later ss more kind e few (inr h) (inr k) w =
+no_stop one bad g n m scope (x ∷ prefix) line later ss more kind e few (inl h) (inl k) w =
+    no_stop one bad g (n + 1) m scope prefix line later ss more kind (omega arith) few h.1 k.1 w
+no_stop one bad g n m scope (x ∷ prefix) line later ss more kind e few (inl h) (inr k) w = k.0 h.0
+no_stop one bad g n m scope (x ∷ prefix) line later ss more kind e few (inr h) (inl k) w = h.0 k.0
+no_stop one bad g n m scope (x ∷ prefix) line later ss more kind e few (inr h) (inr k) w =
     let words = one_words x h.2 k.2 h.5 k.5 in
     let s = one_statement one bad g n scope h.2 h.1 k.1 h.6 (subst (λ ws. Says g n scope ws k.1) (sym words) k.6) in
-    no_stop one bad g (n + 1) m (after k.1 scope) front line later h.3 k.3 kind (omega arith) few
-    (subst (λ y. LinesSay g (n + 1) (after y scope) (front ++ line ∷ later) h.3) s h.7) k.7
+    no_stop one bad g (n + 1) m (after k.1 scope) prefix line later h.3 k.3 kind (omega arith) few
+    (subst (λ y. LinesSay g (n + 1) (after y scope) (prefix ++ line ∷ later) h.3) s h.7) k.7
     (subst (λ y. HasBadLine g m (after_all y scope) line kind) k.4 w)
 
-line_within : (front : List (List ℕ)) (line : List ℕ) (later lines : List (List ℕ)) (n : ℕ) → front ++ line ∷ later ≡ lines →
-    n ≡ length front + 1 → length lines ≤ MAX_LINES → n ≤ MAX_LINES
-line_within front line later lines n e m few =
-    let lengths = length-append front (line ∷ later) in
+line_within : (prefix : List (List ℕ)) (line : List ℕ) (later lines : List (List ℕ)) (n : ℕ) → prefix ++ line ∷ later ≡ lines →
+    n ≡ length prefix + 1 → length lines ≤ MAX_LINES → n ≤ MAX_LINES
+line_within prefix line later lines n e m few =
+    let lengths = length-append prefix (line ∷ later) in
     let same = ap length e in
     omega arith
 
@@ -66,16 +66,16 @@ line_within front line later lines n e m few =
 read_goes_on : OneFormat → BadIsNoFormat → (g : Grammar) (b : List ℕ) (lines : List (List ℕ)) (ss : List Statement) (n : ℕ)
     (kind : RefusalKind) → IsSplit b lines → length lines ≤ MAX_LINES → LinesSay g 1 start lines ss → StopsAt g b n kind → ⊥
 read_goes_on one bad g b lines ss n kind split few say h =
-    let same = one_split b (h.front ++ h.line ∷ h.later) lines h.split split in
-    no_stop one bad g 1 n start h.front h.line h.later ss h.statements kind (omega (arith, h.number))
-    (line_within h.front h.line h.later lines n same h.number few) (subst (λ x. LinesSay g 1 start x ss) (sym same) say) h.say h.wrong
+    let same = one_split b (h.prefix ++ h.line ∷ h.later) lines h.split split in
+    no_stop one bad g 1 n start h.prefix h.line h.later ss h.statements kind (omega (arith, h.number))
+    (line_within h.prefix h.line h.later lines n same h.number few) (subst (λ x. LinesSay g 1 start x ss) (sym same) say) h.say h.wrong
 
--- a script that is read has no flaw
-pub no_flaw : OneFormat → BadIsNoFormat → (g : Grammar) (b : List ℕ) (ss : List Statement) (n : ℕ) (kind : RefusalKind) → ReadsBy g b ss →
-    FlawBy g b n kind → ⊥
-no_flaw one bad g b ss n kind r (inl h) = omega (arith, r.size, h.size)
-no_flaw one bad g b ss n kind r (inr (inl h)) = read_goes_on one bad g b r.lines ss n kind r.split r.count r.say h
-no_flaw one bad g b ss n kind r (inr (inr h)) =
+-- a script that is read has no error
+pub no_error : OneFormat → BadIsNoFormat → (g : Grammar) (b : List ℕ) (ss : List Statement) (n : ℕ) (kind : RefusalKind) → ReadsBy g b ss →
+    FirstErrorBy g b n kind → ⊥
+no_error one bad g b ss n kind r (inl h) = omega (arith, r.size, h.size)
+no_error one bad g b ss n kind r (inr (inl h)) = read_goes_on one bad g b r.lines ss n kind r.split r.count r.say h
+no_error one bad g b ss n kind r (inr (inr h)) =
     let lines = one_split b h.lines r.lines h.split r.split in
     let same = one_saying one bad g 1 start r.lines h.statements ss (subst (λ x. LinesSay g 1 start x h.statements) lines h.say) r.say in
     let clash : h.block ∷ h.others ≡ [] = sym h.blocks ∙ ap (λ x. (after_all x start).blocks) same ∙ r.closed in
@@ -88,7 +88,7 @@ one_script one bad g b ss more r q =
     let lines = one_split b q.lines r.lines q.split r.split in
     one_saying one bad g 1 start r.lines ss more r.say (subst (λ x. LinesSay g 1 start x more) lines q.say)
 
--- a line has one first flaw
+-- a line has one first error
 one_bad_line : OneFormat → BadIsNoFormat → (g : Grammar) (n : ℕ) (scope : Scope) (line : List ℕ) (kind other : RefusalKind) →
     HasBadLine g n scope line kind → HasBadLine g n scope line other → kind ≡ other
 one_bad_line one bad g n scope line kind other (inl h) (inl k) = h.1 ∙ sym k.1
@@ -107,10 +107,10 @@ bad_number g n scope line kind (inl h) = omega (arith, h.0)
 bad_number g n scope line kind (inr h) = omega (arith, h.0)
 
 -- lines stop at one line
-one_stop : OneFormat → BadIsNoFormat → (g : Grammar) (n m k : ℕ) (scope : Scope) (front : List (List ℕ)) (line : List ℕ)
-    (later : List (List ℕ)) (front' : List (List ℕ)) (line' : List ℕ) (later' : List (List ℕ)) (ss more : List Statement)
-    (kind other : RefusalKind) → m ≡ n + length front → k ≡ n + length front' → front ++ line ∷ later ≡ front' ++ line' ∷ later' →
-    LinesSay g n scope front ss → LinesSay g n scope front' more → HasBadLine g m (after_all ss scope) line kind →
+one_stop : OneFormat → BadIsNoFormat → (g : Grammar) (n m k : ℕ) (scope : Scope) (prefix : List (List ℕ)) (line : List ℕ)
+    (later : List (List ℕ)) (prefix' : List (List ℕ)) (line' : List ℕ) (later' : List (List ℕ)) (ss more : List Statement)
+    (kind other : RefusalKind) → m ≡ n + length prefix → k ≡ n + length prefix' → prefix ++ line ∷ later ≡ prefix' ++ line' ∷ later' →
+    LinesSay g n scope prefix ss → LinesSay g n scope prefix' more → HasBadLine g m (after_all ss scope) line kind →
     HasBadLine g k (after_all more scope) line' other → (m ≡ k) × (kind ≡ other)
 one_stop one bad g n m k scope [] line later [] line' later' ss more kind other e f lines h h' w w' =
     let same : line ≡ line' = cc in
@@ -119,36 +119,36 @@ one_stop one bad g n m k scope [] line later [] line' later' ss more kind other 
     let there = subst (λ x. HasBadLine g x scope line' other) numbers
     (subst (λ x. HasBadLine g k (after_all x scope) line' other) h' w') in
     (sym numbers, one_bad_line one bad g m scope line kind other here (subst (λ x. HasBadLine g m scope x other) (sym same) there))
-one_stop one bad g n m k scope [] line later (y ∷ front') line' later' ss more kind other e f lines h h' w w' =
+one_stop one bad g n m k scope [] line later (y ∷ prefix') line' later' ss more kind other e f lines h h' w w' =
     let same : line ≡ y = cc in
     let number : m ≡ n = omega arith in
     let few : n ≤ MAX_LINES = omega (arith, bad_number g k (after_all more scope) line' other w') in
     let here = subst (λ x. HasBadLine g x scope line kind) number (subst (λ x. HasBadLine g m (after_all x scope) line kind) h w) in
-    absurd (says_fine one bad g n scope y front' more kind few h' (subst (λ x. HasBadLine g n scope x kind) same here))
-one_stop one bad g n m k scope (x ∷ front) line later [] line' later' ss more kind other e f lines h h' w w' =
+    absurd (says_fine one bad g n scope y prefix' more kind few h' (subst (λ x. HasBadLine g n scope x kind) same here))
+one_stop one bad g n m k scope (x ∷ prefix) line later [] line' later' ss more kind other e f lines h h' w w' =
     let same : line' ≡ x = cc in
     let number : k ≡ n = omega arith in
     let few : n ≤ MAX_LINES = omega (arith, bad_number g m (after_all ss scope) line kind w) in
     let there = subst (λ z. HasBadLine g z scope line' other) number
     (subst (λ z. HasBadLine g k (after_all z scope) line' other) h' w') in
-    absurd (says_fine one bad g n scope x front ss other few h (subst (λ z. HasBadLine g n scope z other) same there))
-one_stop one bad g n m k scope (x ∷ front) line later (y ∷ front') line' later' ss more kind other e f lines (inl h) (inl h') w w' =
-    let others : front ++ line ∷ later ≡ front' ++ line' ∷ later' = cc in
-    one_stop one bad g (n + 1) m k scope front line later front' line' later' ss more kind other (omega arith)
+    absurd (says_fine one bad g n scope x prefix ss other few h (subst (λ z. HasBadLine g n scope z other) same there))
+one_stop one bad g n m k scope (x ∷ prefix) line later (y ∷ prefix') line' later' ss more kind other e f lines (inl h) (inl h') w w' =
+    let others : prefix ++ line ∷ later ≡ prefix' ++ line' ∷ later' = cc in
+    one_stop one bad g (n + 1) m k scope prefix line later prefix' line' later' ss more kind other (omega arith)
     (omega arith) others h.1 h'.1 w w'
-one_stop one bad g n m k scope (x ∷ front) line later (y ∷ front') line' later' ss more kind other e f lines (inl h) (inr h') w w' =
+one_stop one bad g n m k scope (x ∷ prefix) line later (y ∷ prefix') line' later' ss more kind other e f lines (inl h) (inr h') w w' =
     let first : x ≡ y = cc in
     absurd (h'.0 (subst IsIdle first h.0))
-one_stop one bad g n m k scope (x ∷ front) line later (y ∷ front') line' later' ss more kind other e f lines (inr h) (inl h') w w' =
+one_stop one bad g n m k scope (x ∷ prefix) line later (y ∷ prefix') line' later' ss more kind other e f lines (inr h) (inl h') w w' =
     let first : x ≡ y = cc in
     absurd (h.0 (subst IsIdle (sym first) h'.0))
-one_stop one bad g n m k scope (x ∷ front) line later (y ∷ front') line' later' ss more kind other e f lines (inr h) (inr h') w w' =
+one_stop one bad g n m k scope (x ∷ prefix) line later (y ∷ prefix') line' later' ss more kind other e f lines (inr h) (inr h') w w' =
     let first : x ≡ y = cc in
-    let others : front ++ line ∷ later ≡ front' ++ line' ∷ later' = cc in
+    let others : prefix ++ line ∷ later ≡ prefix' ++ line' ∷ later' = cc in
     let words = one_words x h.2 h'.2 h.5 (subst (λ z. HasWords z h'.2) (sym first) h'.5) in
     let s = one_statement one bad g n scope h.2 h.1 h'.1 h.6 (subst (λ ws. Says g n scope ws h'.1) (sym words) h'.6) in
-    one_stop one bad g (n + 1) m k (after h.1 scope) front line later front' line' later' h.3 h'.3 kind other (omega arith)
-    (omega arith) others h.7 (subst (λ z. LinesSay g (n + 1) (after z scope) front' h'.3) (sym s) h'.7)
+    one_stop one bad g (n + 1) m k (after h.1 scope) prefix line later prefix' line' later' h.3 h'.3 kind other (omega arith)
+    (omega arith) others h.7 (subst (λ z. LinesSay g (n + 1) (after z scope) prefix' h'.3) (sym s) h'.7)
     (subst (λ z. HasBadLine g m (after_all z scope) line kind) h.4 w)
     (subst (λ z. HasBadLine g k (after_all h'.3 (after z scope)) line' other) (sym s)
     (subst (λ z. HasBadLine g k (after_all z scope) line' other) h'.4 w'))
@@ -159,23 +159,23 @@ one_left (InRepeat line) m n kind other h k = (h.0 ∙ sym k.0, h.1 ∙ sym k.1)
 one_left (InIf line) m n kind other h k = (h.0 ∙ sym k.0, h.1 ∙ sym k.1)
 one_left (InElse line) m n kind other h k = (h.0 ∙ sym k.0, h.1 ∙ sym k.1)
 
--- bytes have one first flaw
-pub one_flaw : OneFormat → BadIsNoFormat → (g : Grammar) (b : List ℕ) (m n : ℕ) (kind other : RefusalKind) → FlawBy g b m kind →
-    FlawBy g b n other → (m ≡ n) × (kind ≡ other)
-one_flaw one bad g b m n kind other (inl h) (inl k) = (h.line ∙ sym k.line, h.is ∙ sym k.is)
-one_flaw one bad g b m n kind other (inl h) (inr (inl k)) = absurd (omega (arith, h.size, k.size))
-one_flaw one bad g b m n kind other (inl h) (inr (inr k)) = absurd (omega (arith, h.size, k.size))
-one_flaw one bad g b m n kind other (inr (inl h)) (inl k) = absurd (omega (arith, h.size, k.size))
-one_flaw one bad g b m n kind other (inr (inr h)) (inl k) = absurd (omega (arith, h.size, k.size))
-one_flaw one bad g b m n kind other (inr (inl h)) (inr (inl k)) =
-    let lines = one_split b (h.front ++ h.line ∷ h.later) (k.front ++ k.line ∷ k.later) h.split k.split in
-    one_stop one bad g 1 m n start h.front h.line h.later k.front k.line k.later h.statements k.statements kind other
+-- bytes have one first error
+pub one_error : OneFormat → BadIsNoFormat → (g : Grammar) (b : List ℕ) (m n : ℕ) (kind other : RefusalKind) → FirstErrorBy g b m kind →
+    FirstErrorBy g b n other → (m ≡ n) × (kind ≡ other)
+one_error one bad g b m n kind other (inl h) (inl k) = (h.line ∙ sym k.line, h.is ∙ sym k.is)
+one_error one bad g b m n kind other (inl h) (inr (inl k)) = absurd (omega (arith, h.size, k.size))
+one_error one bad g b m n kind other (inl h) (inr (inr k)) = absurd (omega (arith, h.size, k.size))
+one_error one bad g b m n kind other (inr (inl h)) (inl k) = absurd (omega (arith, h.size, k.size))
+one_error one bad g b m n kind other (inr (inr h)) (inl k) = absurd (omega (arith, h.size, k.size))
+one_error one bad g b m n kind other (inr (inl h)) (inr (inl k)) =
+    let lines = one_split b (h.prefix ++ h.line ∷ h.later) (k.prefix ++ k.line ∷ k.later) h.split k.split in
+    one_stop one bad g 1 m n start h.prefix h.line h.later k.prefix k.line k.later h.statements k.statements kind other
     (omega (arith, h.number)) (omega (arith, k.number)) lines h.say k.say h.wrong k.wrong
-one_flaw one bad g b m n kind other (inr (inl h)) (inr (inr k)) =
+one_error one bad g b m n kind other (inr (inl h)) (inr (inr k)) =
     absurd (read_goes_on one bad g b k.lines k.statements m kind k.split k.count k.say h)
-one_flaw one bad g b m n kind other (inr (inr h)) (inr (inl k)) =
+one_error one bad g b m n kind other (inr (inr h)) (inr (inl k)) =
     absurd (read_goes_on one bad g b h.lines h.statements n other h.split h.count h.say k)
-one_flaw one bad g b m n kind other (inr (inr h)) (inr (inr k)) =
+one_error one bad g b m n kind other (inr (inr h)) (inr (inr k)) =
     let lines = one_split b k.lines h.lines k.split h.split in
     let same = one_saying one bad g 1 start h.lines k.statements h.statements
     (subst (λ x. LinesSay g 1 start x k.statements) lines k.say) h.say in

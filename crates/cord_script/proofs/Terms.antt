@@ -24,9 +24,9 @@ use Rattle.cord_script.specs.Tests.{relation_word}
 use Rattle.cord_script.specs.Forms.{Term}
 use Rattle.cord_script.specs.Forms.Term.{Target, Operand, Value, Literal, FilePath, Applies, Compares, Formats}
 use Rattle.cord_script.specs.Script.{Scope, kind_of, is_among, IsTerm, AreTerms, IsAllowed, AreAllowed}
-use Rattle.cord_script.specs.Flaws.{first_of, unless, misfit, first_pair, kind_flaw, same_kind, operand_flaw, number_flaw}
-use Rattle.cord_script.specs.Flaws.{plain_number_misfit, function_misfit, relation_misfit, name_misfit, number_misfit, text_misfit}
-use Rattle.cord_script.specs.Flaws.{path_misfit, assigned_flaw, word_target_flaw, word_path_flaw}
+use Rattle.cord_script.specs.FirstErrors.{first_of, unless, misfit, first_pair, kind_error, same_kind, operand_error, number_error}
+use Rattle.cord_script.specs.FirstErrors.{plain_number_misfit, function_misfit, relation_misfit, name_misfit, number_misfit, text_misfit}
+use Rattle.cord_script.specs.FirstErrors.{path_misfit, assigned_error, word_target_error, word_path_error}
 use Rattle.cord_script.specs.inner.Fields.{want_of}
 use Rattle.cord_script.proofs.Spelled.{both, chosen}
 use Rattle.cord_script.proofs.Unique.{above, head_or}
@@ -89,8 +89,8 @@ same_kinds kinds.Number = refl
 same_kinds kinds.Extensible = refl
 
 -- a name of the kind
-pub right_kind : (has : Option Kind) (kind : Kind) → has ≡ Some kind → kind_flaw has kind ≡ None
-right_kind has kind h = ap (λ k. kind_flaw k kind) h ∙ ap (λ b. unless b WrongKind) (same_kinds kind)
+pub right_kind : (has : Option Kind) (kind : Kind) → has ≡ Some kind → kind_error has kind ≡ None
+right_kind has kind h = ap (λ k. kind_error k kind) h ∙ ap (λ b. unless b WrongKind) (same_kinds kind)
 
 numeral_fits : (p : List ℕ) (v : ℤ) → numeral_of p ≡ Some v → plain_number_misfit p ≡ None
 numeral_fits p v h =
@@ -126,20 +126,20 @@ term_right w (Formats text) h = ap text_misfit h
 pub term_fits : (w : Word) (t : Term) (scope : Scope) → IsTerm w t → IsAllowed scope t → misfit (want_of t) w ≡ None
 term_fits w t scope h a = term_right w t h
 
-pub numeral_known : (names : List Known) (p : List ℕ) (v : ℤ) → numeral_of p ≡ Some v → number_flaw names p ≡ None
-numeral_known names p v h = ap (λ b. if b then None else kind_flaw (kind_of names p) kinds.Number) (numeral_begins p v h)
+pub numeral_known : (names : List Known) (p : List ℕ) (v : ℤ) → numeral_of p ≡ Some v → number_error names p ≡ None
+numeral_known names p v h = ap (λ b. if b then None else kind_error (kind_of names p) kinds.Number) (numeral_begins p v h)
 
-named_known : (names : List Known) (p : List ℕ) → is_name p ≡ true → kind_of names p ≡ Some kinds.Number → number_flaw names p ≡ None
-named_known names p h k = ap (λ b. if b then None else kind_flaw (kind_of names p) kinds.Number) (name_begins p h)
+named_known : (names : List Known) (p : List ℕ) → is_name p ≡ true → kind_of names p ≡ Some kinds.Number → number_error names p ≡ None
+named_known names p h k = ap (λ b. if b then None else kind_error (kind_of names p) kinds.Number) (name_begins p h)
     ∙ right_kind (kind_of names p) kinds.Number k
 
--- an operand that is allowed has no flaw
-pub term_known : (w : Word) (t : Term) (scope : Scope) → IsTerm w t → IsAllowed scope t → operand_flaw scope.names (want_of t) w ≡ None
+-- an operand that is allowed has no error
+pub term_known : (w : Word) (t : Term) (scope : Scope) → IsTerm w t → IsAllowed scope t → operand_error scope.names (want_of t) w ≡ None
 term_known w (Target kind name) scope h a = refl
-term_known w (Operand kind name) scope h a = ap (operand_flaw scope.names (wants.Operand kind)) h.0
+term_known w (Operand kind name) scope h a = ap (operand_error scope.names (wants.Operand kind)) h.0
     ∙ right_kind (kind_of scope.names name) kind a
-term_known w (Value (Numeral v)) scope h a = ap (operand_flaw scope.names wants.Number) h.1 ∙ numeral_known scope.names h.0 v h.2
-term_known w (Value (Named name)) scope h a = ap (operand_flaw scope.names wants.Number) h.0 ∙ named_known scope.names name h.1 a
+term_known w (Value (Numeral v)) scope h a = ap (operand_error scope.names wants.Number) h.1 ∙ numeral_known scope.names h.0 v h.2
+term_known w (Value (Named name)) scope h a = ap (operand_error scope.names wants.Number) h.0 ∙ named_known scope.names name h.1 a
 term_known w (Literal text) scope h a = refl
 term_known w (FilePath path) scope h a = refl
 term_known w (Applies function) scope h a = refl
@@ -147,15 +147,15 @@ term_known w (Compares relation) scope h a = refl
 term_known w (Formats text) scope h a = refl
 
 target_fine : (names : List Known) (name : List ℕ) (kind : Kind) → (kind_of names name ≡ Some kind) ⊎
-    ((kind_of names name ≡ None) × (length names < MAX_NAMES)) → assigned_flaw (kind_of names name) kind (length names) ≡ None
-target_fine names name kind (inl h) = ap (λ k. assigned_flaw k kind (length names)) h ∙ ap (λ b. unless b WrongKind) (same_kinds kind)
-target_fine names name kind (inr h) = ap (λ k. assigned_flaw k kind (length names)) h.0
+    ((kind_of names name ≡ None) × (length names < MAX_NAMES)) → assigned_error (kind_of names name) kind (length names) ≡ None
+target_fine names name kind (inl h) = ap (λ k. assigned_error k kind (length names)) h ∙ ap (λ b. unless b WrongKind) (same_kinds kind)
+target_fine names name kind (inr h) = ap (λ k. assigned_error k kind (length names)) h.0
     ∙ ap (λ b. unless b TooMany) (le-leb (suc (length names)) MAX_NAMES h.1)
 
--- a target that is allowed has no flaw
+-- a target that is allowed has no error
 pub term_assigned : (w : Word) (t : Term) (scope : Scope) → IsTerm w t → IsAllowed scope t →
-    word_target_flaw scope.names (want_of t) w ≡ None
-term_assigned w (Target kind name) scope h a = ap (word_target_flaw scope.names (wants.Target kind)) h.0
+    word_target_error scope.names (want_of t) w ≡ None
+term_assigned w (Target kind name) scope h a = ap (word_target_error scope.names (wants.Target kind)) h.0
     ∙ target_fine scope.names name kind a
 term_assigned w (Operand kind name) scope h a = refl
 term_assigned w (Value number) scope h a = refl
@@ -171,19 +171,19 @@ path_fine paths path (inl h) = ap (λ b. unless b TooMany) (either_left (is_amon
 path_fine paths path (inr h) = ap (λ b. unless b TooMany) (either_right (is_among paths path) (nat_lt (length paths) MAX_PATHS)
     (le-leb (suc (length paths)) MAX_PATHS h))
 
--- a path that is allowed has no flaw
+-- a path that is allowed has no error
 pub term_opened : (w : Word) (t : Term) (scope : Scope) → IsTerm w t → IsAllowed scope t →
-    word_path_flaw scope.paths (want_of t) w ≡ None
+    word_path_error scope.paths (want_of t) w ≡ None
 term_opened w (Target kind name) scope h a = refl
 term_opened w (Operand kind name) scope h a = refl
 term_opened w (Value number) scope h a = refl
 term_opened w (Literal text) scope h a = refl
-term_opened w (FilePath path) scope h a = ap (word_path_flaw scope.paths wants.Path) h.0 ∙ path_fine scope.paths path a
+term_opened w (FilePath path) scope h a = ap (word_path_error scope.paths wants.Path) h.0 ∙ path_fine scope.paths path a
 term_opened w (Applies function) scope h a = refl
 term_opened w (Compares relation) scope h a = refl
 term_opened w (Formats text) scope h a = refl
 
--- terms of which none has a flaw
+-- terms of which none has an error
 pub pairs_none : (test : Want → Word → Option RefusalKind) (scope : Scope) (ws : List Word) (ts : List Term) →
     ((w : Word) (t : Term) → IsTerm w t → IsAllowed scope t → test (want_of t) w ≡ None) → AreTerms ws ts → AreAllowed scope ts →
     first_pair test (map want_of ts) ws ≡ None

@@ -1,4 +1,4 @@
--- A script has one list of lines, and a line one list of words or one first flaw of its bytes.
+-- A script has one list of lines, and a line one list of words or one first error of its bytes.
 use Rattle.std.proofs.Common.{inl, inr, Some, None, ◌≡◌, ◌≢◌, ◌≤◌, ◌<◌, ◌+◌, ◌-◌, ◌*◌, ℕ, List, [], ◌∷◌, ◌++◌, Bool, true, false, refl, sym}
 use Rattle.std.proofs.Common.{◌∙◌, ap, subst, append_assoc, length, arith}
 use Rattle.std.specs.Prelude.{Option, All, ◌==◌, ◌&&◌, nat_le, if◌then◌else◌}
@@ -10,7 +10,7 @@ use Rattle.cord_script.specs.declared.words.Word.TheVariants.{Plain, Quoted}
 use Rattle.cord_script.specs.Words.{IsSplit, IsBlank, IsPlain, EndsPlain, Stands, Spells, HexDigit, HasWord, HasWords, StartsWith, IsBadEnd}
 use Rattle.cord_script.specs.Words.{IsBadText, BeginsBadText, HasBadBytes}
 use Rattle.cord_script.specs.inner.Reading.{digit_of, byte_of, escape_of, unit_of}
-use Rattle.cord_script.proofs.Lines.{split_nil, head_of, tail_of, not_all_blank, one_front}
+use Rattle.cord_script.proofs.Lines.{split_nil, head_of, tail_of, not_all_blank, one_prefix}
 use Rattle.cord_script.proofs.Spelled.{both, same_pair, unit_stands}
 
 -- a test that can't hold
@@ -147,8 +147,8 @@ abbrev pub head_or : List ℕ → ℕ
 head_or [] = 0
 head_or (c ∷ cs) = c
 
-no_quote_after : (r rest behind : List ℕ) → 34 ∷ r ≡ rest → rest ≡ 92 ∷ behind → ⊥
-no_quote_after r rest behind e h =
+no_quote_after : (r rest suffix : List ℕ) → 34 ∷ r ≡ rest → rest ≡ 92 ∷ suffix → ⊥
+no_quote_after r rest suffix e h =
     absurd (let clash : 34 ≡ 92 = ap head_or (e ∙ h) in omega (arith, clash))
 
 quote_stuck : (r : List ℕ) → unit_of (34 ∷ r) ≡ None
@@ -166,12 +166,12 @@ closed_by inner w r t w' rest t' kind e s few e' s' (inr (inr h)) =
     let same : 34 ∷ r ≡ [] = q.1 ∙ h.1 in
     cc
 
--- a closed text has no flaw
+-- a closed text has no error
 closed_good : (inner w r t : List ℕ) (kind : RefusalKind) → inner ≡ w ++ 34 ∷ r → Spells w t → length t ≤ MAX_TEXT → IsBadText inner kind →
     ⊥
 closed_good inner w r t kind e s few h = closed_by inner w r t h.0 h.1 h.2 kind e s few h.3 h.4 h.6
 
--- a text has one flaw
+-- a text has one error
 pub one_bad_text : (inner : List ℕ) (kind kind' : RefusalKind) → IsBadText inner kind → IsBadText inner kind' → kind ≡ kind'
 one_bad_text inner kind kind' (w, rest, t, e, s, few, inl h) (w', rest', t', e', s', few', inl h') = h.0 ∙ sym h'.0
 one_bad_text inner kind kind' (w, rest, t, e, s, few, inl h) (w', rest', t', e', s', few', inr (inl h')) =
@@ -193,21 +193,21 @@ one_bad_text inner kind kind' (w, rest, t, e, s, few, inr (inr h)) (w', rest', t
 
 -- the first byte that is no blank, and what follows it
 pub record Begins (line : List ℕ) (c : ℕ) (rest : List ℕ) : Type 0 where
-  pub front : List ℕ
-  pub blank : All IsBlank front
+  pub prefix : List ℕ
+  pub blank : All IsBlank prefix
   pub shows : ¬ IsBlank c
-  pub whole : line ≡ front ++ c ∷ rest
+  pub whole : line ≡ prefix ++ c ∷ rest
 
 quote_shows : ¬ IsBlank 34
 quote_shows = λ h. elim h [ inl e ↦ omega arith | inr k ↦ elim k [ inl e ↦ omega arith | inr e ↦ omega arith ] ]
 
 pub one_beginning : (line rest rest' : List ℕ) (c c' : ℕ) → Begins line c rest → Begins line c' rest' → (c ≡ c') × (rest ≡ rest')
 one_beginning line rest rest' c c' b b' =
-    let r = one_front b.front b'.front c c' rest rest' b.blank b.shows b'.blank b'.shows (sym b.whole ∙ b'.whole) in
+    let r = one_prefix b.prefix b'.prefix c c' rest rest' b.blank b.shows b'.blank b'.shows (sym b.whole ∙ b'.whole) in
     (r.1, r.2)
 
 pub no_beginning : (line rest : List ℕ) (c : ℕ) → Begins line c rest → All IsBlank line → ⊥
-no_beginning line rest c b all = not_all_blank b.front rest c (subst (All IsBlank) b.whole all) b.shows
+no_beginning line rest c b all = not_all_blank b.prefix rest c (subst (All IsBlank) b.whole all) b.shows
 
 -- how a plain word begins
 pub record BeginsPlain (line p rest : List ℕ) : Type 0 where
@@ -226,19 +226,19 @@ plain_begins line (c ∷ cs) rest h =
       others = cs;
       is = refl;
       no_quote = plain.1;
-      begins = record { front = h.0; blank = h.1; shows = plain.0; whole = h.2 ∙ append_assoc h.0 (c ∷ cs) rest };
+      begins = record { prefix = h.0; blank = h.1; shows = plain.0; whole = h.2 ∙ append_assoc h.0 (c ∷ cs) rest };
     }
 
 quoted_begins : (line text rest : List ℕ) (h : HasWord line (Quoted text) rest) → Begins line 34 (h.1 ++ 34 ∷ rest)
 quoted_begins line text rest h = record {
-  front = h.0;
+  prefix = h.0;
   blank = h.2;
   shows = quote_shows;
   whole = h.3 ∙ append_assoc h.0 (34 ∷ h.1) (34 ∷ rest);
 }
 
 bad_begins : (line : List ℕ) (kind : RefusalKind) (h : BeginsBadText line kind) → Begins line 34 h.1
-bad_begins line kind h = record { front = h.0; blank = h.2; shows = quote_shows; whole = h.3 }
+bad_begins line kind h = record { prefix = h.0; blank = h.2; shows = quote_shows; whole = h.3 }
 
 -- a plain word ends at one place
 one_run : (p p' rest rest' : List ℕ) → All IsPlain p → EndsPlain rest → All IsPlain p' → EndsPlain rest' → p ++ rest ≡ p' ++ rest' →
@@ -247,8 +247,8 @@ one_run [] [] rest rest' a n a' n' e = (refl, e)
 one_run [] (y ∷ ys) rest rest' a n a' n' e = absurd (subst EndsPlain e n (head_of IsPlain y ys a'))
 one_run (x ∷ xs) [] rest rest' a n a' n' e = absurd (subst EndsPlain (sym e) n' (head_of IsPlain x xs a))
 one_run (x ∷ xs) (y ∷ ys) rest rest' a n a' n' e =
-    let behind : xs ++ rest ≡ ys ++ rest' = cc in
-    let r = one_run xs ys rest rest' (tail_of IsPlain x xs a) n (tail_of IsPlain y ys a') n' behind in
+    let suffix : xs ++ rest ≡ ys ++ rest' = cc in
+    let r = one_run xs ys rest rest' (tail_of IsPlain x xs a) n (tail_of IsPlain y ys a') n' suffix in
     let same : x ≡ y = cc in
     (ap (λ k. k ∷ xs) same ∙ ap (λ k. y ∷ k) r.0, r.1)
 
@@ -274,8 +274,8 @@ one_word line rest rest' (Quoted t) (Quoted t') h h' =
     let r = one_beginning line (h.1 ++ 34 ∷ rest) (h'.1 ++ 34 ∷ rest') 34 34 (quoted_begins line t rest h)
     (quoted_begins line t' rest' h') in
     let q = one_text h.1 h'.1 (34 ∷ rest) (34 ∷ rest') t t' h.4 h'.4 r.1 refl refl in
-    let behind : rest ≡ rest' = let e = q.1 in cc in
-    (ap Quoted q.0, behind)
+    let suffix : rest ≡ rest' = let e = q.1 in cc in
+    (ap Quoted q.0, suffix)
 
 no_word : (line rest : List ℕ) (w : Word) → HasWord line w rest → All IsBlank line → ⊥
 no_word line rest (Plain p) h all = let b = plain_begins line p rest h in no_beginning line (b.others ++ rest) b.first b.begins all
@@ -314,7 +314,7 @@ starts_good line rest rest' (w ∷ ws) (w' ∷ ws') kind s b s' bad =
     let r = one_word line s.0 s'.0 w w' s.1 s'.1 in
     starts_good s.0 rest rest' ws ws' kind s.2 b (subst (λ x. StartsWith x ws' rest') (sym r.1) s'.2) bad
 
--- a line that has words has no flaw of its bytes
+-- a line that has words has no error of its bytes
 pub good_bytes : (line : List ℕ) (ws : List Word) (kind : RefusalKind) → HasWords line ws → HasBadBytes line kind → ⊥
 good_bytes line ws kind h bad = starts_good line h.0 bad.1 ws bad.0 kind h.1 h.2 bad.2 bad.3
 
@@ -333,7 +333,7 @@ starts_bad line rest rest' (w ∷ ws) (w' ∷ ws') kind kind' s bad s' bad' =
     let r = one_word line s.0 s'.0 w w' s.1 s'.1 in
     starts_bad s.0 rest rest' ws ws' kind kind' s.2 bad (subst (λ x. StartsWith x ws' rest') (sym r.1) s'.2) bad'
 
--- the bytes of a line have one first flaw
+-- the bytes of a line have one first error
 pub one_bad_bytes : (line : List ℕ) (kind kind' : RefusalKind) → HasBadBytes line kind → HasBadBytes line kind' → kind ≡ kind'
 one_bad_bytes line kind kind' h h' = starts_bad line h.1 h'.1 h.0 h'.0 kind kind' h.2 h.3 h'.2 h'.3
 
@@ -343,16 +343,16 @@ one_end [] [] r r' a a' e = (refl, cc)
 one_end [] (y ∷ ys) r r' a a' e = let same : y ≡ 10 = cc in absurd (head_of (λ c. c ≢ 10) y ys a' same)
 one_end (x ∷ xs) [] r r' a a' e = let same : x ≡ 10 = cc in absurd (head_of (λ c. c ≢ 10) x xs a same)
 one_end (x ∷ xs) (y ∷ ys) r r' a a' e =
-    let behind : xs ++ 10 ∷ r ≡ ys ++ 10 ∷ r' = cc in
-    let q = one_end xs ys r r' (tail_of (λ c. c ≢ 10) x xs a) (tail_of (λ c. c ≢ 10) y ys a') behind in
+    let suffix : xs ++ 10 ∷ r ≡ ys ++ 10 ∷ r' = cc in
+    let q = one_end xs ys r r' (tail_of (λ c. c ≢ 10) x xs a) (tail_of (λ c. c ≢ 10) y ys a') suffix in
     let same : x ≡ y = cc in
     (ap (λ k. k ∷ xs) same ∙ ap (λ k. y ∷ k) q.0, q.1)
 
-no_end : (l front r : List ℕ) → All (λ c. c ≢ 10) l → l ≡ front ++ 10 ∷ r → ⊥
+no_end : (l prefix r : List ℕ) → All (λ c. c ≢ 10) l → l ≡ prefix ++ 10 ∷ r → ⊥
 no_end [] [] r a e = cc
 no_end [] (y ∷ ys) r a e = cc
 no_end (x ∷ xs) [] r a e = let same : x ≡ 10 = cc in head_of (λ c. c ≢ 10) x xs a same
-no_end (x ∷ xs) (y ∷ ys) r a e = let behind : xs ≡ ys ++ 10 ∷ r = cc in no_end xs ys r (tail_of (λ c. c ≢ 10) x xs a) behind
+no_end (x ∷ xs) (y ∷ ys) r a e = let suffix : xs ≡ ys ++ 10 ∷ r = cc in no_end xs ys r (tail_of (λ c. c ≢ 10) x xs a) suffix
 
 -- a script has one list of lines
 pub one_split : (b : List ℕ) (ls ls' : List (List ℕ)) → IsSplit b ls → IsSplit b ls' → ls ≡ ls'

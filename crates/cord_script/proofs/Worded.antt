@@ -16,9 +16,9 @@ pub begins_bad : (line rest inner : List ℕ) (b first : ℕ) (kind : RefusalKin
 begins_bad line rest inner b first kind r q f blank bad =
     (take b line, inner, blank, parts b line ∙ ap (λ x. take b line ++ x) (sym r ∙ q ∙ ap (λ x. x ∷ inner) f), bad)
 
-shorter : (line front middle rest : List ℕ) → line ≡ front ++ middle ++ rest → middle ≢ [] → length rest < length line
-shorter line front [] rest e n = absurd (n refl)
-shorter line front (c ∷ cs) rest e n = omega (arith, ap length e, length-append (front ++ c ∷ cs) rest, length-append front (c ∷ cs))
+shorter : (line prefix middle rest : List ℕ) → line ≡ prefix ++ middle ++ rest → middle ≢ [] → length rest < length line
+shorter line prefix [] rest e n = absurd (n refl)
+shorter line prefix (c ∷ cs) rest e n = omega (arith, ap length e, length-append (prefix ++ c ∷ cs) rest, length-append prefix (c ∷ cs))
 
 -- a quoted word after blanks
 pub quoted_next : (line rest inner w after text : List ℕ) (b first : ℕ) → rest ≡ drop b line → rest ≡ first ∷ inner → first ≡ 34 →
@@ -59,7 +59,7 @@ plain_next line rest inner p after c b len ep ea r q blank stops nq plain ends =
     )
 
 -- one more word
-pub starts_push : (line rest behind : List ℕ) (ws : List Word) (w : Word) → StartsWith line ws rest → HasWord rest w behind →
-    StartsWith line (ws ++ w ∷ []) behind
-starts_push line rest behind [] w h s = (behind, subst (λ x. HasWord x w behind) (sym h) s, refl)
-starts_push line rest behind (x ∷ xs) w h s = (h.0, h.1, starts_push h.0 rest behind xs w h.2 s)
+pub starts_push : (line rest suffix : List ℕ) (ws : List Word) (w : Word) → StartsWith line ws rest → HasWord rest w suffix →
+    StartsWith line (ws ++ w ∷ []) suffix
+starts_push line rest suffix [] w h s = (suffix, subst (λ x. HasWord x w suffix) (sym h) s, refl)
+starts_push line rest suffix (x ∷ xs) w h s = (h.0, h.1, starts_push h.0 rest suffix xs w h.2 s)

@@ -84,7 +84,7 @@ form_of w =
     else if bytes_eq w (codes "end") then Some (record { shape = Words []; effect = Closes })
     else None
 
--- A grammar is told by the statements' words that it has.
+-- A grammar is reported by the statements' words that it has.
 pub record Grammar : Type 0 where
   pub has : List ℕ → Bool
 

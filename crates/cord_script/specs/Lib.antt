@@ -1,9 +1,9 @@
-pub mod Flaws
+pub mod FirstErrors
 pub mod Formats
 pub mod Forms
 pub mod Laws
 pub mod Refusals
-pub mod Rows
+pub mod Examples
 pub mod Script
 pub mod Tests
 pub mod Words

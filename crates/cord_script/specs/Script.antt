@@ -188,10 +188,10 @@ Reads b ss = ReadsBy whole b ss
 pub record ReadsUpTo (b : List ℕ) (n : ℕ) : Type 0 where
   pub size : length b ≤ MAX_SCRIPT
   pub few : n ≤ MAX_LINES
-  pub front : List (List ℕ)
+  pub prefix : List (List ℕ)
   pub line : List ℕ
   pub later : List (List ℕ)
-  pub split : IsSplit b (front ++ line ∷ later)
-  pub number : n ≡ length front + 1
+  pub split : IsSplit b (prefix ++ line ∷ later)
+  pub number : n ≡ length prefix + 1
   pub statements : List Statement
-  pub say : LinesSay whole 1 start front statements
+  pub say : LinesSay whole 1 start prefix statements

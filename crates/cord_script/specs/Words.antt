@@ -18,7 +18,7 @@ IsBlank c = (c ≡ 32) ⊎ (c ≡ 9) ⊎ (c ≡ 13)
 
 -- A line of blanks alone, and one whose first other byte is `#`, is no statement.
 abbrev pub IsIdle : List ℕ → Type 0
-IsIdle line = All IsBlank line ⊎ ((front rest : List ℕ) × All IsBlank front × (line ≡ front ++ 35 ∷ rest))
+IsIdle line = All IsBlank line ⊎ ((prefix rest : List ℕ) × All IsBlank prefix × (line ≡ prefix ++ 35 ∷ rest))
 
 -- The value of a hexadecimal digit, of either case.
 abbrev pub HexDigit : ℕ → ℕ → Type 0
@@ -51,14 +51,15 @@ EndsPlain (c ∷ rest) = ¬ IsPlain c
 
 -- One word stands after blanks, before the rest: a plain word as its bytes, a quoted one as the text that it spells.
 abbrev pub HasWord : List ℕ → Word → List ℕ → Type 0
-HasWord line (Plain p) rest = (front : List ℕ) × All IsBlank front × (line ≡ front ++ p ++ rest) × (p ≢ []) × All IsPlain p × EndsPlain rest
-HasWord line (Quoted text) rest = (front w : List ℕ) × All IsBlank front × (line ≡ front ++ 34 ∷ w ++ 34 ∷ rest) × Spells w text ×
+HasWord line (Plain p) rest = (prefix : List ℕ) × All IsBlank prefix × (line ≡ prefix ++ p ++ rest) × (p ≢ []) × All IsPlain p × EndsPlain
+    rest
+HasWord line (Quoted text) rest = (prefix w : List ℕ) × All IsBlank prefix × (line ≡ prefix ++ 34 ∷ w ++ 34 ∷ rest) × Spells w text ×
     (length text ≤ MAX_TEXT)
 
--- These words stand at the front of a line, before the rest.
+-- These words stand at the prefix of a line, before the rest.
 abbrev pub StartsWith : List ℕ → List Word → List ℕ → Type 0
 StartsWith line [] rest = line ≡ rest
-StartsWith line (word ∷ words) rest = (behind : List ℕ) × HasWord line word behind × StartsWith behind words rest
+StartsWith line (word ∷ words) rest = (suffix : List ℕ) × HasWord line word suffix × StartsWith suffix words rest
 
 -- These are the words of a line.
 abbrev pub HasWords : List ℕ → List Word → Type 0
@@ -68,7 +69,7 @@ HasWords line words = (rest : List ℕ) × StartsWith line words rest × All IsB
 -- that begins none of the escapes; at the 65,536th byte of the word; at the end of the line.
 abbrev pub IsBadEnd : List ℕ → List ℕ → RefusalKind → Type 0
 IsBadEnd text rest kind =
-    ((kind ≡ BadEscape) × ((behind : List ℕ) × (rest ≡ 92 ∷ behind)) × ((u v : List ℕ) (b : ℕ) → rest ≡ u ++ v → ¬ Stands u b))
+    ((kind ≡ BadEscape) × ((suffix : List ℕ) × (rest ≡ 92 ∷ suffix)) × ((u v : List ℕ) (b : ℕ) → rest ≡ u ++ v → ¬ Stands u b))
     ⊎ ((kind ≡ LiteralTooLong) × (length text ≡ MAX_TEXT) × ((u v : List ℕ) × (b : ℕ) × (rest ≡ u ++ v) × Stands u b))
     ⊎ ((kind ≡ Unterminated) × (rest ≡ []))
 
@@ -78,8 +79,8 @@ IsBadText inner kind = (w rest text : List ℕ) × (inner ≡ w ++ rest) × Spel
 
 -- The next word is a quoted word that is none.
 abbrev pub BeginsBadText : List ℕ → RefusalKind → Type 0
-BeginsBadText rest kind = (front inner : List ℕ) × All IsBlank front × (rest ≡ front ++ 34 ∷ inner) × IsBadText inner kind
+BeginsBadText rest kind = (prefix inner : List ℕ) × All IsBlank prefix × (rest ≡ prefix ++ 34 ∷ inner) × IsBadText inner kind
 
--- The bytes of a line have a flaw: after whole words a quoted word begins that is none.
+-- The bytes of a line have an error: after whole words a quoted word begins that is none.
 abbrev pub HasBadBytes : List ℕ → RefusalKind → Type 0
 HasBadBytes line kind = (words : List Word) × (rest : List ℕ) × StartsWith line words rest × BeginsBadText rest kind

@@ -1,7 +1,7 @@
 // The open blocks.
 ghost use Rattle.std.specs.Prelude.{◌≡◌, ◌∷◌, [], map, IfErr, OnOk, MatchOption};
 ghost use Rattle.cord_script.specs.Script.{blocks_after, turned};
-ghost use Rattle.cord_script.specs.Flaws.{block_flaw, else_flaw};
+ghost use Rattle.cord_script.specs.FirstErrors.{block_error, else_error};
 ghost use Rattle.cord_script.specs.inner.ContextViews.{block_of, IsInnermostOpen};
 ghost use Rattle.cord_script.specs.inner.Verbal.{control_effect, verb_effect};
 
@@ -19,8 +19,8 @@ pub enum Open {
 }
 
 // What is wrong with an `else`.
-fn else_flaw(blocks: &VecDeque<Open>) -> Option<RefusalKind>
-    ensures { result ≡ else_flaw (map block_of blocks.now.items) }
+fn else_error(blocks: &VecDeque<Open>) -> Option<RefusalKind>
+    ensures { result ≡ else_error (map block_of blocks.now.items) }
 {
     match blocks.front() {
         Some(Open::If(_)) => None,
@@ -29,24 +29,24 @@ fn else_flaw(blocks: &VecDeque<Open>) -> Option<RefusalKind>
 }
 
 // What is wrong with a statement that leads the run.
-fn control_flaw(control: Control, blocks: &VecDeque<Open>) -> Option<RefusalKind>
-    ensures { result ≡ block_flaw (control_effect control) (map block_of blocks.now.items) }
+fn control_error(control: Control, blocks: &VecDeque<Open>) -> Option<RefusalKind>
+    ensures { result ≡ block_error (control_effect control) (map block_of blocks.now.items) }
 {
     match control {
         Control::Repeat | Control::If if blocks.len() >= MAX_BLOCKS => Some(RefusalKind::TooDeep),
         Control::Repeat | Control::If => None,
-        Control::Else => else_flaw(blocks),
+        Control::Else => else_error(blocks),
         Control::End if blocks.is_empty() => Some(RefusalKind::EndAlone),
         Control::End => None,
     }
 }
 
 /// What is wrong with a statement after these open blocks.
-pub fn block_flaw(verb: Verb, blocks: &VecDeque<Open>) -> Option<RefusalKind>
-    ensures { result ≡ block_flaw (verb_effect verb) (map block_of blocks.now.items) }
+pub fn block_error(verb: Verb, blocks: &VecDeque<Open>) -> Option<RefusalKind>
+    ensures { result ≡ block_error (verb_effect verb) (map block_of blocks.now.items) }
 {
     match verb {
-        Verb::Fixed(FixedVerb::Control(control)) => control_flaw(control, blocks),
+        Verb::Fixed(FixedVerb::Control(control)) => control_error(control, blocks),
         _ => None,
     }
 }
@@ -54,7 +54,7 @@ pub fn block_flaw(verb: Verb, blocks: &VecDeque<Open>) -> Option<RefusalKind>
 // Opens a block inside the others.
 fn add_block(blocks: &mut VecDeque<Open>, block: Open) -> Result<(), RefusalKind>
     ensures blocks { OnOk result (map block_of blocks.new.items ≡ block_of block ∷ map block_of blocks.old.items) }
-    ensures flaw { IfErr result (λ kind. kind ≡ RefusalKind.NoMemory) }
+    ensures first_error { IfErr result (λ kind. kind ≡ RefusalKind.NoMemory) }
 {
     blocks.push_front(block)?;
     Ok(())
@@ -63,7 +63,7 @@ fn add_block(blocks: &mut VecDeque<Open>, block: Open) -> Result<(), RefusalKind
 // Turns the innermost `if` to its `else`.
 fn turn(blocks: &mut VecDeque<Open>) -> Result<(), RefusalKind>
     ensures blocks { OnOk result (map block_of blocks.new.items ≡ turned (map block_of blocks.old.items)) }
-    ensures flaw { IfErr result (λ kind. kind ≡ RefusalKind.NoMemory) }
+    ensures first_error { IfErr result (λ kind. kind ≡ RefusalKind.NoMemory) }
 {
     match blocks.pop_front() {
         None => Ok(()),
@@ -76,7 +76,7 @@ fn turn(blocks: &mut VecDeque<Open>) -> Result<(), RefusalKind>
 fn set_control(control: Control, line: u32, blocks: &mut VecDeque<Open>) -> Result<(), RefusalKind>
     ensures blocks { OnOk result (map block_of blocks.new.items
         ≡ blocks_after (control_effect control) line (map block_of blocks.old.items)) }
-    ensures flaw { IfErr result (λ kind. kind ≡ RefusalKind.NoMemory) }
+    ensures first_error { IfErr result (λ kind. kind ≡ RefusalKind.NoMemory) }
 {
     match control {
         Control::Repeat => add_block(blocks, Open::Repeat(line)),
@@ -93,7 +93,7 @@ fn set_control(control: Control, line: u32, blocks: &mut VecDeque<Open>) -> Resu
 pub fn set_blocks(verb: Verb, line: u32, blocks: &mut VecDeque<Open>) -> Result<(), RefusalKind>
     ensures blocks { OnOk result (map block_of blocks.new.items
         ≡ blocks_after (verb_effect verb) line (map block_of blocks.old.items)) }
-    ensures flaw { IfErr result (λ kind. kind ≡ RefusalKind.NoMemory) }
+    ensures first_error { IfErr result (λ kind. kind ≡ RefusalKind.NoMemory) }
 {
     match verb {
         Verb::Fixed(FixedVerb::Control(control)) => set_control(control, line, blocks),
@@ -102,7 +102,7 @@ pub fn set_blocks(verb: Verb, line: u32, blocks: &mut VecDeque<Open>) -> Result<
 }
 
 /// What is wrong at the end of a script after these open blocks.
-pub fn open_flaw(blocks: &VecDeque<Open>) -> Option<Refusal>
+pub fn open_error(blocks: &VecDeque<Open>) -> Option<Refusal>
     ensures { MatchOption result (map block_of blocks.now.items ≡ [])
         (λ r. IsInnermostOpen (map block_of blocks.now.items) r.line r.kind) }
 {

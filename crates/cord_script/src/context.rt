@@ -39,7 +39,7 @@ fn is_among(paths: &[Path], path: &[u8]) -> bool
 // Adds a path that is new.
 fn add_path(paths: &mut Vec<Path>, path: Path) -> Result<(), RefusalKind>
     ensures paths { OnOk result (paths.new.items ≡ with_path paths.old.items path) }
-    ensures flaw { IfErr result (λ kind. kind ≡ RefusalKind.NoMemory) }
+    ensures first_error { IfErr result (λ kind. kind ≡ RefusalKind.NoMemory) }
 {
     if is_among(paths, path.as_str().as_bytes()) {
         return Ok(());
@@ -80,7 +80,7 @@ impl Context {
     pub fn leave(&mut self, verb: Verb, line: u32, added: Added) -> Result<(), RefusalKind>
         ensures left { OnOk result (scope_of self.new
             ≡ left_after (verb_effect verb) line (name_added added) added.path (scope_of self.old)) }
-        ensures flaw { IfErr result (λ kind. kind ≡ RefusalKind.NoMemory) }
+        ensures first_error { IfErr result (λ kind. kind ≡ RefusalKind.NoMemory) }
     {
         let Added { name, path } = added;
         if let Some(new) = name {

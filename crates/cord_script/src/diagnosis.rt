@@ -5,14 +5,14 @@ ghost use Rattle.cord_script.specs.Words.{IsIdle};
 ghost use Rattle.cord_script.specs.Forms.{form_of};
 ghost use Rattle.cord_script.specs.Forms.Shape.{Joined, Printed};
 ghost use Rattle.cord_script.specs.Forms.Effect.{Stays};
-ghost use Rattle.cord_script.specs.Flaws.{HasFormat, HasFormFlaw, HasBadWords};
+ghost use Rattle.cord_script.specs.FirstErrors.{HasFormat, HasFormError, HasBadWords};
 ghost use Rattle.cord_script.specs.Script.{whole};
 ghost use Rattle.cord_script.specs.inner.ContextViews.{scope_of};
 ghost use Rattle.cord_script.specs.inner.Steps.{HasWrong};
 ghost use Rattle.cord_script.specs.inner.Verbal.{fixed_word, verb_word};
 
 use crate::context::Context;
-use crate::flaws::{Pass, first_flaw, wanted_flaw};
+use crate::errors::{Pass, earliest_error, wanted_error};
 use crate::formats::wants_of_pieces;
 use crate::grammar::{verb_of, wants_of};
 use crate::kinds::{Kind, Want};
@@ -35,28 +35,28 @@ const JOINED: [Want; 1 + MAX_PARTS] = [
 // The target and the format of a `sprintf`.
 const PRINTED: [Want; 2] = [TARGET, Want::Format];
 
-// The flaw that there is, if there is one.
-fn none_of(flaw: Option<RefusalKind>) -> Result<(), RefusalKind>
-    ensures { IfErr result (λ kind. flaw ≡ Some kind) }
+// The error that there is, if there is one.
+fn none_of(first_error: Option<RefusalKind>) -> Result<(), RefusalKind>
+    ensures { IfErr result (λ kind. first_error ≡ Some kind) }
 {
-    match flaw {
+    match first_error {
         None => Ok(()),
         Some(kind) => Err(kind),
     }
 }
 
 // What is wrong with words whose number the verb fixes.
-fn fixed_flaw(context: &Context, verb: FixedVerb, words: &[Word]) -> Result<(), RefusalKind>
+fn fixed_error(context: &Context, verb: FixedVerb, words: &[Word]) -> Result<(), RefusalKind>
     ensures { IfErr result (λ kind. kind ≢ RefusalKind.NoMemory →
-        HasFormFlaw (scope_of context.now) (form_of (fixed_word verb)) words.now kind) }
+        HasFormError (scope_of context.now) (form_of (fixed_word verb)) words.now kind) }
 {
-    none_of(wanted_flaw(context, Verb::Fixed(verb), wants_of(verb), words))
+    none_of(wanted_error(context, Verb::Fixed(verb), wants_of(verb), words))
 }
 
 // What is wrong with the words after `catn`.
-fn joined_flaw(context: &Context, words: &[Word]) -> Result<(), RefusalKind>
+fn joined_error(context: &Context, words: &[Word]) -> Result<(), RefusalKind>
     ensures { IfErr result (λ kind. kind ≢ RefusalKind.NoMemory →
-        HasFormFlaw (scope_of context.now) (Some (record { shape = Joined; effect = Stays })) words.now kind) }
+        HasFormError (scope_of context.now) (Some (record { shape = Joined; effect = Stays })) words.now kind) }
 {
     let count = words.len();
     if count < 1 + MIN_PARTS {
@@ -65,13 +65,13 @@ fn joined_flaw(context: &Context, words: &[Word]) -> Result<(), RefusalKind>
     if count > 1 + MAX_PARTS {
         return Err(RefusalKind::WrongCount);
     }
-    none_of(wanted_flaw(context, Verb::Catn, &JOINED[..count], words))
+    none_of(wanted_error(context, Verb::Catn, &JOINED[..count], words))
 }
 
 // What is wanted of all words after `sprintf`, by the format among them; none where there is none.
 fn printed_wants(alloc: Global, words: &[Word]) -> Result<Option<Vec<Want>>, RefusalKind>
     ensures wants { IfOk result (λ wants. HasFormat Printed words.now (option_map (λ w. w.items) wants)) }
-    ensures flaw { IfErr result (λ kind. kind ≡ RefusalKind.NoMemory) }
+    ensures first_error { IfErr result (λ kind. kind ≡ RefusalKind.NoMemory) }
 {
     let [_, format, ..] = words else {
         return Ok(None);
@@ -88,15 +88,15 @@ fn printed_wants(alloc: Global, words: &[Word]) -> Result<Option<Vec<Want>>, Ref
 }
 
 // What is wrong with the words after `sprintf`.
-fn printed_flaw(alloc: Global, context: &Context, words: &[Word]) -> Result<(), RefusalKind>
+fn printed_error(alloc: Global, context: &Context, words: &[Word]) -> Result<(), RefusalKind>
     ensures { IfErr result (λ kind. kind ≢ RefusalKind.NoMemory →
-        HasFormFlaw (scope_of context.now) (Some (record { shape = Printed; effect = Stays })) words.now kind) }
+        HasFormError (scope_of context.now) (Some (record { shape = Printed; effect = Stays })) words.now kind) }
 {
     if words.len() < PRINTED.len() {
         return Err(RefusalKind::WrongCount);
     }
     let arguments = printed_wants(alloc, words)?;
-    if let Some(kind) = first_flaw(Pass::Words, context, &PRINTED, words) {
+    if let Some(kind) = earliest_error(Pass::Words, context, &PRINTED, words) {
         return Err(kind);
     }
     let Some(arguments) = arguments else {
@@ -104,28 +104,28 @@ fn printed_flaw(alloc: Global, context: &Context, words: &[Word]) -> Result<(), 
     };
     let mut wants = Vec::from_slice(alloc, &PRINTED)?;
     wants.extend_from_slice(&arguments)?;
-    none_of(wanted_flaw(context, Verb::Sprintf, &wants, words))
+    none_of(wanted_error(context, Verb::Sprintf, &wants, words))
 }
 
 // What is wrong with the words after a verb.
-fn form_flaw(
+fn form_error(
     alloc: Global,
     context: &Context,
     verb: Verb,
     words: &[Word],
 ) -> Result<(), RefusalKind>
     ensures { IfErr result (λ kind. kind ≢ RefusalKind.NoMemory →
-        HasFormFlaw (scope_of context.now) (form_of (verb_word verb)) words.now kind) }
+        HasFormError (scope_of context.now) (form_of (verb_word verb)) words.now kind) }
 {
     match verb {
-        Verb::Fixed(fixed) => fixed_flaw(context, fixed, words),
-        Verb::Catn => joined_flaw(context, words),
-        Verb::Sprintf => printed_flaw(alloc, context, words),
+        Verb::Fixed(fixed) => fixed_error(context, fixed, words),
+        Verb::Catn => joined_error(context, words),
+        Verb::Sprintf => printed_error(alloc, context, words),
     }
 }
 
 // What is wrong with the words of a line.
-fn words_flaw(alloc: Global, context: &Context, words: &[Word]) -> Result<(), RefusalKind>
+fn words_error(alloc: Global, context: &Context, words: &[Word]) -> Result<(), RefusalKind>
     requires { words.now ≢ [] }
     ensures { IfErr result (λ kind. kind ≢ RefusalKind.NoMemory →
         HasBadWords whole (scope_of context.now) words.now kind) }
@@ -138,7 +138,7 @@ fn words_flaw(alloc: Global, context: &Context, words: &[Word]) -> Result<(), Re
     };
     match verb_of(word.as_slice()) {
         None => Err(RefusalKind::UnknownStatement),
-        Some(verb) => form_flaw(alloc, context, verb, others),
+        Some(verb) => form_error(alloc, context, verb, others),
     }
 }
 
@@ -148,7 +148,7 @@ fn first_wrong(alloc: Global, context: &Context, line: &[u8]) -> Result<(), Refu
     ensures { IfErr result (λ kind. kind ≢ RefusalKind.NoMemory → HasWrong line.now (scope_of context.now) kind) }
 {
     let words = words_of(alloc, line)?;
-    words_flaw(alloc, context, &words)
+    words_error(alloc, context, &words)
 }
 
 /// What is wrong first with a line for which no statement was built. Where nothing is wrong with it, memory was refused.

@@ -2,7 +2,7 @@
 ghost use Rattle.std.specs.Prelude.{◌≡◌, ◌≢◌, true, false, Some, IfOk, IfErr, IfSome, IfNone, ℕ, List};
 ghost use Rattle.std.specs.Str.{is_utf8};
 ghost use Rattle.cord_script.specs.Tests.{each, is_path, begins_numeral, function_word, relation_word};
-ghost use Rattle.cord_script.specs.Flaws.{path_misfit, function_misfit, relation_misfit};
+ghost use Rattle.cord_script.specs.FirstErrors.{path_misfit, function_misfit, relation_misfit};
 ghost use Rattle.cord_script.specs.inner.Fields.{is_path_text, is_no_zero};
 
 use crate::numerals::is_digit;
@@ -53,7 +53,7 @@ fn is_utf8(bytes: &[u8]) -> bool
 }
 
 /// Whether bytes are a path.
-#[tactic(auto, using(crate::proofs::Paths::path_told))]
+#[tactic(auto, using(crate::proofs::Paths::path_reported))]
 pub fn is_path(bytes: &[u8]) -> bool
     ensures { result ≡ is_path bytes.now }
 {
@@ -63,7 +63,7 @@ pub fn is_path(bytes: &[u8]) -> bool
 /// Where a path is wanted.
 pub fn path_of(word: Word) -> Result<Path, RefusalKind>
     ensures path { IfOk result (λ path. (word.entry ≡ Word.Quoted path) × (is_path path ≡ true)) }
-    ensures flaw { IfErr result (λ kind. path_misfit word.entry ≡ Some kind) }
+    ensures first_error { IfErr result (λ kind. path_misfit word.entry ≡ Some kind) }
 {
     let Word::Quoted(text) = word else {
         return Err(RefusalKind::WrongKind);
@@ -80,7 +80,7 @@ pub fn path_of(word: Word) -> Result<Path, RefusalKind>
 /// Where a function is wanted.
 pub fn function_of(word: &Word) -> Result<Function, RefusalKind>
     ensures function { IfOk result (λ function. word.now ≡ Word.Plain (function_word function)) }
-    ensures flaw { IfErr result (λ kind. function_misfit word.now ≡ Some kind) }
+    ensures first_error { IfErr result (λ kind. function_misfit word.now ≡ Some kind) }
 {
     let Word::Plain(name) = word else {
         return Err(RefusalKind::BadName);
@@ -97,7 +97,7 @@ pub fn function_of(word: &Word) -> Result<Function, RefusalKind>
 /// Where a relation is wanted.
 pub fn relation_of(word: &Word) -> Result<Relation, RefusalKind>
     ensures relation { IfOk result (λ relation. word.now ≡ Word.Plain (relation_word relation)) }
-    ensures flaw { IfErr result (λ kind. relation_misfit word.now ≡ Some kind) }
+    ensures first_error { IfErr result (λ kind. relation_misfit word.now ≡ Some kind) }
 {
     let Word::Plain(name) = word else {
         return Err(RefusalKind::BadName);

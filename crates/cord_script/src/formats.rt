@@ -20,7 +20,7 @@ fn want_of_kind(kind: ArgKind) -> Want
 /// What the conversions of a format want.
 pub fn wants_of_pieces(alloc: Global, pieces: &[Piece]) -> Result<Vec<Want>, RefusalKind>
     ensures wants { IfOk result (λ wants. wants.items ≡ wants_of_pieces pieces.now) }
-    ensures flaw { IfErr result (λ kind. kind ≡ RefusalKind.NoMemory) }
+    ensures first_error { IfErr result (λ kind. kind ≡ RefusalKind.NoMemory) }
 {
     let mut wants = Vec::new(alloc);
     for piece in pieces {

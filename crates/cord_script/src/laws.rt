@@ -1,20 +1,20 @@
 // Laws of scripts: each function's contract is the law.
-ghost use Rattle.cord_script.specs.Laws.{ReadHasNoFlaw, ReadOrFlawed, OneScript, OneFlaw, BranchesKeep};
-ghost use Rattle.cord_script.specs.Rows.{Rows};
+ghost use Rattle.cord_script.specs.Laws.{ReadHasNoError, ReadOrError, OneScript, OneError, BranchesKeep};
+ghost use Rattle.cord_script.specs.Examples.{Examples};
 
 use cord_printf::{bytes_are_format_or_bad, formats_have_one_reading, refused_formats_are_none};
 
-/// A script that is read has no flaw.
-pub fn read_scripts_have_no_flaw()
-    ensures { ReadHasNoFlaw }
+/// A script that is read has no error.
+pub fn read_scripts_have_no_error()
+    ensures { ReadHasNoError }
 {
     formats_have_one_reading();
     refused_formats_are_none();
 }
 
-/// All bytes are read as a script or have a flaw.
-pub fn bytes_are_read_or_flawed()
-    ensures { ReadOrFlawed }
+/// All bytes are read as a script or have an error.
+pub fn bytes_are_read_or_have_an_error()
+    ensures { ReadOrError }
 {
     bytes_are_format_or_bad();
 }
@@ -27,9 +27,9 @@ pub fn bytes_are_one_script()
     refused_formats_are_none();
 }
 
-/// Bytes have at most one first flaw.
-pub fn bytes_have_one_flaw()
-    ensures { OneFlaw }
+/// Bytes have at most one first error.
+pub fn bytes_have_one_error()
+    ensures { OneError }
 {
     formats_have_one_reading();
     refused_formats_are_none();
@@ -40,7 +40,7 @@ pub fn branches_change_no_script()
     ensures { BranchesKeep }
 {}
 
-/// The worked rows: what is read in small texts, and what is wrong with them first.
-pub fn worked_rows_hold()
-    ensures { Rows }
+/// The worked examples: what is read in small texts, and what is wrong with them first.
+pub fn worked_examples_hold()
+    ensures { Examples }
 {}

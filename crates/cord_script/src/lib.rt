@@ -5,34 +5,34 @@ mod added;
 mod blocks;
 mod context;
 mod diagnosis;
-mod field_groups;
+mod errors;
 mod fields;
-mod flaws;
 mod formats;
 mod grammar;
 mod kinds;
 mod laws;
 mod limits;
 mod line;
-mod line_words;
 mod names;
+mod no_statement;
 mod numerals;
 mod parser;
 mod refusals;
+mod remaining_words;
+mod shared_fields;
 mod statements;
 mod table;
-mod unread;
 mod verbs;
 mod words;
 
 pub use cord_operands::{
-    Argument, Arguments, Function, Name, Names, Number, Path, Relation, Shared, Text, key_of,
-    slot_of,
+    Argument, Arguments, Function, Name, Names, Number, Path, Relation, Shared, Text, bucket_of,
+    key_of,
 };
 pub use cord_syntax::{Script, Statement};
 pub use laws::{
-    branches_change_no_script, bytes_are_one_script, bytes_are_read_or_flawed, bytes_have_one_flaw,
-    read_scripts_have_no_flaw, worked_rows_hold,
+    branches_change_no_script, bytes_are_one_script, bytes_are_read_or_have_an_error,
+    bytes_have_one_error, read_scripts_have_no_error, worked_examples_hold,
 };
 pub use limits::limits_are;
 pub use parser::parse;

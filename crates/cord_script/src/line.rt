@@ -7,12 +7,12 @@ ghost use Rattle.cord_script.specs.inner.LineReading.{IsFresh, SaysLine};
 ghost use Rattle.cord_script.specs.inner.Steps.{Adds};
 ghost use Rattle.cord_script.specs.inner.Verbal.{verb_word};
 
-use crate::blocks::block_flaw;
+use crate::blocks::block_error;
 use crate::context::Context;
 use crate::grammar::verb_of;
-use crate::line_words::LineWords;
+use crate::no_statement::NoStatement;
+use crate::remaining_words::LineWords;
 use crate::statements::statement_of;
-use crate::unread::Unread;
 use crate::verbs::Verb;
 use crate::words::plain_word;
 use crate::{RefusalKind, Statement};
@@ -20,7 +20,7 @@ use std::alloc::Global;
 
 // The verb of a line's first word, and what follows that word.
 #[inline(always)]
-fn front_verb(line: &[u8]) -> Option<(Verb, &[u8])>
+fn prefix_verb(line: &[u8]) -> Option<(Verb, &[u8])>
     ensures { IfSome result (λ r. HasWord line.now (Plain (verb_word r.0)) r.1.now) }
 {
     let (word, rest) = plain_word(line)?;
@@ -30,10 +30,10 @@ fn front_verb(line: &[u8]) -> Option<(Verb, &[u8])>
 
 // What was built, if it was built of all words.
 #[inline(always)]
-fn built_of_all<T: Drop>(is_done: bool, built: Result<T, Unread>) -> Result<T, Unread>
+fn built_of_all<T: Drop>(is_done: bool, built: Result<T, NoStatement>) -> Result<T, NoStatement>
     ensures { IfOk result (λ it. (is_done ≡ true) × (built ≡ Ok it)) }
 {
-    if is_done { built } else { Err(Unread) }
+    if is_done { built } else { Err(NoStatement) }
 }
 
 // The statement of a verb and of all words that are left in its line.
@@ -43,7 +43,7 @@ fn whole_statement(
     verb: Verb,
     number: u32,
     words: &mut LineWords,
-) -> Result<Statement, Unread>
+) -> Result<Statement, NoStatement>
     requires { IsFresh words.old }
     ensures { IfOk result (SaysLine verb number words.old words.new) }
 {
@@ -65,12 +65,12 @@ pub fn take_statement(
         (scope_of context.new) statements.old.items statements.new.items) }
     ensures keeps { IfOk result (λ taken. taken ≡ false → (scope_of context.new ≡ scope_of context.old) ×
         (statements.new.items ≡ statements.old.items)) }
-    ensures flaw { IfErr result (λ kind. kind ≡ RefusalKind.NoMemory) }
+    ensures first_error { IfErr result (λ kind. kind ≡ RefusalKind.NoMemory) }
 {
-    let Some((verb, rest)) = front_verb(line) else {
+    let Some((verb, rest)) = prefix_verb(line) else {
         return Ok(false);
     };
-    if block_flaw(verb, &context.blocks).is_some() {
+    if block_error(verb, &context.blocks).is_some() {
         return Ok(false);
     }
     let mut words = LineWords::of(alloc, context, rest);

@@ -1,7 +1,7 @@
 // Whether a word is a name, and what is wrong with the kind of a name.
 ghost use Rattle.std.specs.Prelude.{◌≡◌, true, Some};
 ghost use Rattle.cord_script.specs.Tests.{is_letter, is_name, each};
-ghost use Rattle.cord_script.specs.Flaws.{kind_flaw, assigned_flaw, same_kind};
+ghost use Rattle.cord_script.specs.FirstErrors.{kind_error, assigned_error, same_kind};
 ghost use Rattle.cord_script.specs.inner.Fields.{is_inner};
 
 use crate::kinds::Kind;
@@ -55,8 +55,8 @@ pub fn is_same(a: Kind, b: Kind) -> bool
 }
 
 /// What is wrong with an operand of this kind.
-pub fn kind_flaw(has: Option<Kind>, kind: Kind) -> Option<RefusalKind>
-    ensures { result ≡ kind_flaw has kind }
+pub fn kind_error(has: Option<Kind>, kind: Kind) -> Option<RefusalKind>
+    ensures { result ≡ kind_error has kind }
 {
     match has {
         None => Some(RefusalKind::UnknownName),
@@ -66,8 +66,8 @@ pub fn kind_flaw(has: Option<Kind>, kind: Kind) -> Option<RefusalKind>
 }
 
 /// What is wrong with a target of this kind, where so many names are known.
-pub fn assigned_flaw(has: Option<Kind>, kind: Kind, count: usize) -> Option<RefusalKind>
-    ensures { result ≡ assigned_flaw has kind count }
+pub fn assigned_error(has: Option<Kind>, kind: Kind, count: usize) -> Option<RefusalKind>
+    ensures { result ≡ assigned_error has kind count }
 {
     match has {
         None if count < MAX_NAMES => None,

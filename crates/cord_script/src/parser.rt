@@ -4,11 +4,11 @@ ghost use Rattle.std.specs.Prelude.{length};
 ghost use Rattle.cord_script.specs.Words.{IsIdle, IsSplit};
 ghost use Rattle.cord_syntax.specs.Lines.{line_of};
 ghost use Rattle.cord_script.specs.Script.{Reads, ReadsUpTo};
-ghost use Rattle.cord_script.specs.Flaws.{Flaw};
+ghost use Rattle.cord_script.specs.FirstErrors.{FirstError};
 ghost use Rattle.cord_script.specs.inner.ContextViews.{scope_of};
-ghost use Rattle.cord_script.specs.inner.Steps.{Takes, HasWrong};
+ghost use Rattle.cord_script.specs.inner.Steps.{TakesLine, HasWrong};
 
-use crate::blocks::open_flaw;
+use crate::blocks::open_error;
 use crate::context::Context;
 use crate::diagnosis::refusal_of;
 use crate::line::take_statement;
@@ -48,9 +48,10 @@ fn take_line(
     statements: &mut Vec<Statement>,
 ) -> Result<(), RefusalKind>
     ensures takes { OnOk result
-        (Takes number line.now (scope_of context.old) (scope_of context.new) statements.old.items
+        (TakesLine number line.now (scope_of context.old) (scope_of context.new) statements.old.items
         statements.new.items) }
-    ensures flaw { IfErr result (λ kind. kind ≢ RefusalKind.NoMemory → HasWrong line.now (scope_of context.old) kind) }
+    ensures first_error { IfErr result (λ kind. kind ≢ RefusalKind.NoMemory → HasWrong line.now (scope_of context.old)
+        kind) }
 {
     if take_statement(alloc, number, line, context, statements)? {
         return Ok(());
@@ -64,14 +65,14 @@ fn take_line(
 /// Reads a script: lines that end with byte 10, or with the script, and on each one statement, a comment or nothing.
 /// docs/GRAMMAR.md gives the grammar.
 ///
-/// Refused with the line of the first flaw, counted from 1, and what it is: the bytes of a line come first, then its
+/// Refused with the line of the first error, counted from 1, and what it is: the bytes of a line come first, then its
 /// verb, the number of its words, the words, and the names. Line 0 is the script as a whole. `NoMemory` comes at the
 /// line that was being read, and says nothing of the script but that the lines before are read.
 pub fn parse(alloc: Global, script: &[u8]) -> Result<Script, Refusal>
     // The bytes are these statements.
     ensures reads { IfOk result (λ s. Reads script.now s) }
     // Unless memory was refused, this is the first thing wrong with the bytes.
-    ensures flaw { IfErr result (λ r. r.kind ≢ RefusalKind.NoMemory → Flaw script.now r.line r.kind) }
+    ensures first_error { IfErr result (λ r. r.kind ≢ RefusalKind.NoMemory → FirstError script.now r.line r.kind) }
     // Where memory was refused, the line is the one that was being read.
     ensures no_memory { IfErr result (λ r. r.kind ≡ RefusalKind.NoMemory → ReadsUpTo script.now r.line) }
     // Lines are numbered from 1.
@@ -102,7 +103,7 @@ pub fn parse(alloc: Global, script: &[u8]) -> Result<Script, Refusal>
         rest = after;
         number += 1;
     }
-    if let Some(refusal) = open_flaw(&context.blocks) {
+    if let Some(refusal) = open_error(&context.blocks) {
         return Err(refusal);
     }
     Ok(Script::of(statements))

@@ -3,15 +3,15 @@ ghost use Rattle.std.specs.Prelude.{◌≡◌, IfOk};
 ghost use Rattle.cord_script.specs.declared.verbs.Verb.{Verb};
 ghost use Rattle.cord_script.specs.inner.LineReading.{IsFresh, IsBuilt};
 
-use crate::field_groups::{
+use crate::formats::wants_of_pieces;
+use crate::kinds::Kind;
+use crate::no_statement::NoStatement;
+use crate::remaining_words::LineWords;
+use crate::shared_fields::{
     paired, target_and_number, target_and_numbers, target_and_operand, target_and_operands,
     target_and_path, target_operand_number, target_operand_number_operand, target_operand_numbers,
     target_operand_shared_operand,
 };
-use crate::formats::wants_of_pieces;
-use crate::kinds::Kind;
-use crate::line_words::LineWords;
-use crate::unread::Unread;
 use crate::verbs::{
     Composition, Computation, Control, Derivation, FixedVerb, Growth, Look, Origin, Search, Verb,
 };
@@ -38,7 +38,7 @@ macro_rules! statement {
 
 // A statement that makes a cord of no other name's value.
 #[inline(always)]
-fn origin_of(verb: Origin, line: u32, words: &mut LineWords) -> Result<Statement, Unread>
+fn origin_of(verb: Origin, line: u32, words: &mut LineWords) -> Result<Statement, NoStatement>
     requires { IsFresh words.old }
     ensures { IfOk result (IsBuilt (Verb.Fixed (FixedVerb.Origin verb)) line words.old words.new) }
 {
@@ -64,7 +64,11 @@ fn origin_of(verb: Origin, line: u32, words: &mut LineWords) -> Result<Statement
 
 // A statement that makes a cord that an expression gives.
 #[inline(always)]
-fn composition_of(verb: Composition, line: u32, words: &mut LineWords) -> Result<Statement, Unread>
+fn composition_of(
+    verb: Composition,
+    line: u32,
+    words: &mut LineWords,
+) -> Result<Statement, NoStatement>
     requires { IsFresh words.old }
     ensures { IfOk result (IsBuilt (Verb.Fixed (FixedVerb.Composition verb)) line words.old words.new) }
 {
@@ -99,7 +103,11 @@ fn composition_of(verb: Composition, line: u32, words: &mut LineWords) -> Result
 
 // A statement that makes a cord anew of a cord or an extensible cord.
 #[inline(always)]
-fn derivation_of(verb: Derivation, line: u32, words: &mut LineWords) -> Result<Statement, Unread>
+fn derivation_of(
+    verb: Derivation,
+    line: u32,
+    words: &mut LineWords,
+) -> Result<Statement, NoStatement>
     requires { IsFresh words.old }
     ensures { IfOk result (IsBuilt (Verb.Fixed (FixedVerb.Derivation verb)) line words.old words.new) }
 {
@@ -119,7 +127,11 @@ fn derivation_of(verb: Derivation, line: u32, words: &mut LineWords) -> Result<S
 
 // A statement that computes a number, which needs no byte.
 #[inline(always)]
-fn computation_of(verb: Computation, line: u32, words: &mut LineWords) -> Result<Statement, Unread>
+fn computation_of(
+    verb: Computation,
+    line: u32,
+    words: &mut LineWords,
+) -> Result<Statement, NoStatement>
     requires { IsFresh words.old }
     ensures { IfOk result (IsBuilt (Verb.Fixed (FixedVerb.Computation verb)) line words.old words.new) }
 {
@@ -149,7 +161,7 @@ fn computation_of(verb: Computation, line: u32, words: &mut LineWords) -> Result
 
 // A statement that looks at bytes.
 #[inline(always)]
-fn look_of(verb: Look, line: u32, words: &mut LineWords) -> Result<Statement, Unread>
+fn look_of(verb: Look, line: u32, words: &mut LineWords) -> Result<Statement, NoStatement>
     requires { IsFresh words.old }
     ensures { IfOk result (IsBuilt (Verb.Fixed (FixedVerb.Look verb)) line words.old words.new) }
 {
@@ -180,7 +192,7 @@ fn look_of(verb: Look, line: u32, words: &mut LineWords) -> Result<Statement, Un
 
 // A statement that searches a cord.
 #[inline(always)]
-fn search_of(verb: Search, line: u32, words: &mut LineWords) -> Result<Statement, Unread>
+fn search_of(verb: Search, line: u32, words: &mut LineWords) -> Result<Statement, NoStatement>
     requires { IsFresh words.old }
     ensures { IfOk result (IsBuilt (Verb.Fixed (FixedVerb.Search verb)) line words.old words.new) }
 {
@@ -205,7 +217,7 @@ fn search_of(verb: Search, line: u32, words: &mut LineWords) -> Result<Statement
 
 // A statement that makes an extensible cord, or one that grows.
 #[inline(always)]
-fn growth_of(verb: Growth, line: u32, words: &mut LineWords) -> Result<Statement, Unread>
+fn growth_of(verb: Growth, line: u32, words: &mut LineWords) -> Result<Statement, NoStatement>
     requires { IsFresh words.old }
     ensures { IfOk result (IsBuilt (Verb.Fixed (FixedVerb.Growth verb)) line words.old words.new) }
 {
@@ -234,7 +246,7 @@ fn growth_of(verb: Growth, line: u32, words: &mut LineWords) -> Result<Statement
 
 // A statement that says which lines run next.
 #[inline(always)]
-fn control_of(verb: Control, line: u32, words: &mut LineWords) -> Result<Statement, Unread>
+fn control_of(verb: Control, line: u32, words: &mut LineWords) -> Result<Statement, NoStatement>
     requires { IsFresh words.old }
     ensures { IfOk result (IsBuilt (Verb.Fixed (FixedVerb.Control verb)) line words.old words.new) }
 {
@@ -255,7 +267,7 @@ fn control_of(verb: Control, line: u32, words: &mut LineWords) -> Result<Stateme
 
 // A `put`.
 #[inline(always)]
-fn put_of(line: u32, words: &mut LineWords) -> Result<Statement, Unread>
+fn put_of(line: u32, words: &mut LineWords) -> Result<Statement, NoStatement>
     requires { IsFresh words.old }
     ensures { IfOk result (IsBuilt (Verb.Fixed FixedVerb.Put) line words.old words.new) }
 {
@@ -268,7 +280,7 @@ fn fixed_statement_of(
     verb: FixedVerb,
     line: u32,
     words: &mut LineWords,
-) -> Result<Statement, Unread>
+) -> Result<Statement, NoStatement>
     requires { IsFresh words.old }
     ensures { IfOk result (IsBuilt (Verb.Fixed verb) line words.old words.new) }
 {
@@ -286,7 +298,7 @@ fn fixed_statement_of(
 }
 
 // A `catn`.
-fn catn_of(line: u32, words: &mut LineWords) -> Result<Statement, Unread>
+fn catn_of(line: u32, words: &mut LineWords) -> Result<Statement, NoStatement>
     requires { IsFresh words.old }
     ensures { IfOk result (IsBuilt Verb.Catn line words.old words.new) }
 {
@@ -302,7 +314,7 @@ fn catn_of(line: u32, words: &mut LineWords) -> Result<Statement, Unread>
 // A `sprintf`.
 #[cold]
 #[inline(never)]
-fn sprintf_of(alloc: Global, line: u32, words: &mut LineWords) -> Result<Statement, Unread>
+fn sprintf_of(alloc: Global, line: u32, words: &mut LineWords) -> Result<Statement, NoStatement>
     requires { IsFresh words.old }
     ensures { IfOk result (IsBuilt Verb.Sprintf line words.old words.new) }
 {
@@ -326,7 +338,7 @@ pub fn statement_of(
     verb: Verb,
     line: u32,
     words: &mut LineWords,
-) -> Result<Statement, Unread>
+) -> Result<Statement, NoStatement>
     requires { IsFresh words.old }
     ensures { IfOk result (IsBuilt verb line words.old words.new) }
 {

@@ -3,13 +3,13 @@ ghost use Rattle.std.specs.Prelude.{◌≡◌, ◌≢◌, ◌<◌, [], ◌∷◌
 ghost use Rattle.std.specs.Prelude.{MatchOption, OnOk};
 ghost use Rattle.cord_script.specs.Tests.{is_name};
 ghost use Rattle.cord_script.specs.Script.{kind_of, with_name};
-ghost use Rattle.cord_script.specs.Flaws.{unless};
+ghost use Rattle.cord_script.specs.FirstErrors.{unless};
 ghost use Rattle.cord_operands.specs.Keys.{key_of};
 
 use crate::kinds::Kind;
 use crate::names::{is_name, is_same};
-use crate::unread::Unread;
-use crate::{MAX_NAMES, Name, RefusalKind, key_of, slot_of};
+use crate::no_statement::NoStatement;
+use crate::{MAX_NAMES, Name, RefusalKind, bucket_of, key_of};
 use std::alloc::Global;
 use std::marker::Model;
 
@@ -106,7 +106,7 @@ impl Table {
         ensures { IfSome result (λ found. (found.now.name ≡ name.now) ×
             (kind_of self.now name.now ≡ Some found.now.kind)) }
     {
-        let slot = slot_of(key);
+        let slot = bucket_of(key);
         for probe in 0..PROBES {
             let place = self.guesses[(slot + probe) % SLOTS];
             if place == FREE {
@@ -144,14 +144,14 @@ impl Table {
     }
 
     /// The name of these bytes, where they are a name that isn't known, and one more may be.
-    pub fn new_name(&self, alloc: Global, bytes: &[u8]) -> Result<Name, Unread>
+    pub fn new_name(&self, alloc: Global, bytes: &[u8]) -> Result<Name, NoStatement>
         ensures name { IfOk result (λ name. name ≡ bytes.now) }
         ensures is_name { IfOk result (λ name. is_name name ≡ true) }
         ensures new { IfOk result (λ name. kind_of self.now name ≡ None) }
         ensures room { OnOk result (length self.now < MAX_NAMES) }
     {
         if self.known.len() >= MAX_NAMES || !is_name(bytes) || self.kind_of(bytes).is_some() {
-            return Err(Unread);
+            return Err(NoStatement);
         }
         Ok(Name::of(alloc, bytes, self.next_hint())?)
     }
@@ -180,7 +180,7 @@ impl Table {
         let Ok(place) = u16::try_from(place) else {
             return;
         };
-        let slot = slot_of(key);
+        let slot = bucket_of(key);
         for probe in 0..PROBES {
             let probed = (slot + probe) % SLOTS;
             if self.guesses[probed] == FREE {
@@ -194,7 +194,7 @@ impl Table {
     pub fn assign(&mut self, known: Known) -> Result<(), RefusalKind>
         requires { is_name known.name ≡ true }
         ensures names { OnOk result (self.new ≡ with_name self.old known.name known.kind) }
-        ensures flaw { IfErr result (λ e. e ≡ RefusalKind.NoMemory) }
+        ensures first_error { IfErr result (λ e. e ≡ RefusalKind.NoMemory) }
     {
         if self.kind_of(known.name.as_slice()).is_some() {
             return Ok(());
@@ -207,7 +207,7 @@ impl Table {
         requires new { kind_of self.old known.name ≡ None }
         requires is_name { is_name known.name ≡ true }
         ensures names { OnOk result (self.new ≡ self.old ++ known ∷ []) }
-        ensures flaw { IfErr result (λ e. e ≡ RefusalKind.NoMemory) }
+        ensures first_error { IfErr result (λ e. e ≡ RefusalKind.NoMemory) }
     {
         let place = self.known.len();
         let key = known.name.key();

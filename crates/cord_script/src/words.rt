@@ -163,7 +163,7 @@ fn escape(bytes: &[u8]) -> Option<(u8, &[u8])>
     }
 }
 
-// The byte that the front of a quoted word stands for, and what follows that front.
+// The byte that the prefix of a quoted word stands for, and what follows that front.
 fn unit(bytes: &[u8]) -> Option<(u8, &[u8])>
     ensures { option_map (λ r. (r.0, r.1.now)) result ≡ unit_of bytes.now }
 {
@@ -179,7 +179,7 @@ fn unit(bytes: &[u8]) -> Option<(u8, &[u8])>
 fn quoted(alloc: Global, inner: &[u8]) -> Result<(Text, &[u8]), RefusalKind>
     ensures text { IfOk result (λ r. (w : List ℕ) × (inner.now ≡ w ++ 34 ∷ r.1.now) × Spells w r.0 ×
         (length r.0 ≤ MAX_TEXT)) }
-    ensures flaw { IfErr result (λ kind. kind ≢ RefusalKind.NoMemory → IsBadText inner.now kind) }
+    ensures first_error { IfErr result (λ kind. kind ≢ RefusalKind.NoMemory → IsBadText inner.now kind) }
 {
     let mut text = Vec::new(alloc);
     let mut rest = inner;
@@ -187,14 +187,14 @@ fn quoted(alloc: Global, inner: &[u8]) -> Result<(Text, &[u8]), RefusalKind>
         if first == b'"' {
             return Ok((Text::of(text), after));
         }
-        let Some((byte, behind)) = unit(rest) else {
+        let Some((byte, suffix)) = unit(rest) else {
             return Err(RefusalKind::BadEscape);
         };
         if text.len() == MAX_TEXT {
             return Err(RefusalKind::LiteralTooLong);
         }
         text.push(byte)?;
-        rest = behind;
+        rest = suffix;
     }
     Err(RefusalKind::Unterminated)
 }
@@ -219,7 +219,7 @@ pub fn plain_word(line: &[u8]) -> Option<(&[u8], &[u8])>
 #[inline(always)]
 pub fn next_word(alloc: Global, line: &[u8]) -> Result<Option<(Word<'_>, &[u8])>, RefusalKind>
     ensures word { IfOk result (λ o. HasNext line.now (option_map (λ r. (r.0, r.1.now)) o)) }
-    ensures flaw { IfErr result (λ kind. kind ≢ RefusalKind.NoMemory → BeginsBadText line.now kind) }
+    ensures first_error { IfErr result (λ kind. kind ≢ RefusalKind.NoMemory → BeginsBadText line.now kind) }
 {
     let rest = tail(line, blanks(line));
     let Some((first, inner)) = uncons(rest) else {
@@ -237,16 +237,16 @@ pub fn next_word(alloc: Global, line: &[u8]) -> Result<Option<(Word<'_>, &[u8])>
 /// The words of a line, in order.
 pub fn words_of(alloc: Global, line: &[u8]) -> Result<Vec<Word<'_>>, RefusalKind>
     ensures words { IfOk result (λ words. HasWords line.now words.items) }
-    ensures flaw { IfErr result (λ kind. kind ≢ RefusalKind.NoMemory → HasBadBytes line.now kind) }
+    ensures first_error { IfErr result (λ kind. kind ≢ RefusalKind.NoMemory → HasBadBytes line.now kind) }
 {
     let mut words = Vec::new(alloc);
     let mut rest = line;
     'words: loop {
         match next_word(alloc, rest)? {
             None => return Ok(words),
-            Some((word, behind)) => {
+            Some((word, suffix)) => {
                 words.push(word)?;
-                rest = behind;
+                rest = suffix;
             }
         }
     }

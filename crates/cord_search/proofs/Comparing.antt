@@ -33,20 +33,20 @@ nat_cmp_suc a b = nat_cmp_is (suc a) (suc b) (nat_cmp a b) (up (nat_cmp a b) (ra
     up Greater h = omega arith
 
 -- the same bytes in front
-cmp_front : (f u v : List ℕ) → slice_cmp nat_cmp (f ++ u) (f ++ v) ≡ slice_cmp nat_cmp u v
-cmp_front [] u v = refl
-cmp_front (b ∷ f) u v = ap (λ (r : Ordering). ordering_then r (slice_cmp nat_cmp (f ++ u) (f ++ v))) (same_byte b) ∙ cmp_front f u v
+cmp_prefix : (f u v : List ℕ) → slice_cmp nat_cmp (f ++ u) (f ++ v) ≡ slice_cmp nat_cmp u v
+cmp_prefix [] u v = refl
+cmp_prefix (b ∷ f) u v = ap (λ (r : Ordering). ordering_then r (slice_cmp nat_cmp (f ++ u) (f ++ v))) (same_byte b) ∙ cmp_prefix f u v
 
 -- the order of two texts is that of what comes after a front that both have
 pub cmp_behind : (xs ys : List ℕ) (n : ℕ) → take n xs ≡ take n ys →
     slice_cmp nat_cmp (take (length xs - n) (drop n xs)) (take (length ys - n) (drop n ys)) ≡ slice_cmp nat_cmp xs ys
-cmp_behind xs ys n front =
+cmp_behind xs ys n prefix =
     let left = take_all (length xs - n) (drop n xs) (omega (arith, length-drop n xs)) in
     let right = take_all (length ys - n) (drop n ys) (omega (arith, length-drop n ys)) in
     ap (λ (zs : List ℕ). slice_cmp nat_cmp zs (take (length ys - n) (drop n ys))) left ∙ ap (slice_cmp nat_cmp (drop n xs)) right
-    ∙ sym (cmp_front (take n xs) (drop n xs) (drop n ys))
+    ∙ sym (cmp_prefix (take n xs) (drop n xs) (drop n ys))
     ∙ ap (λ (zs : List ℕ). slice_cmp nat_cmp zs (take n xs ++ drop n ys)) (take-append-drop n xs)
-    ∙ ap (λ (zs : List ℕ). slice_cmp nat_cmp xs (zs ++ drop n ys)) front ∙ ap (slice_cmp nat_cmp xs) (take-append-drop n ys)
+    ∙ ap (λ (zs : List ℕ). slice_cmp nat_cmp xs (zs ++ drop n ys)) prefix ∙ ap (slice_cmp nat_cmp xs) (take-append-drop n ys)
 
 -- a difference in front
 cmp_decided : (u v u' v' : List ℕ) (r : Ordering) → length u ≡ length v → slice_cmp nat_cmp u v ≡ r → (r ≡ Equal → ⊥) →
@@ -95,10 +95,10 @@ cmp_lengths (b ∷ xs) (c ∷ ys) (suc m) h e =
     sym (nat_cmp_suc (length xs) (length ys)) ∙ cmp_lengths xs ys m (omega arith) two
     ∙ sym (ap (λ (r : Ordering). ordering_then r (slice_cmp nat_cmp xs ys)) (ap (λ (k : ℕ). nat_cmp k c) one ∙ same_byte c))
 
--- the front of a piece, as a range of what is compared
-pub piece_front : (x piece : List ℕ) (i done n : ℕ) → piece ≡ take (length piece) (drop (i + done) x) → n ≤ length piece →
+-- the prefix of a piece, as a range of what is compared
+pub piece_prefix : (x piece : List ℕ) (i done n : ℕ) → piece ≡ take (length piece) (drop (i + done) x) → n ≤ length piece →
     take n piece ≡ take n (drop done (drop i x))
-piece_front x piece i done n e h = ap (λ (ys : List ℕ). take n ys) e ∙ take-take n (length piece) (drop (i + done) x) h
+piece_prefix x piece i done n e h = ap (λ (ys : List ℕ). take n ys) e ∙ take-take n (length piece) (drop (i + done) x) h
     ∙ ap (λ (ys : List ℕ). take n ys) (sym (drop-drop done i x))
 
 -- the next bytes are the same too
@@ -109,7 +109,7 @@ common_on t x i y j done n piece other p q e f h s =
     let u = drop i (bytes_of t x) in
     let v = drop j (bytes_of t y) in
     let next : take n (drop done u) ≡ take n (drop done v) =
-    sym (piece_front (bytes_of t x) piece i done n e p) ∙ h ∙ piece_front (bytes_of t y) other j done n f q in
+    sym (piece_prefix (bytes_of t x) piece i done n e p) ∙ h ∙ piece_prefix (bytes_of t y) other j done n f q in
     take-add done n u ∙ ap (λ (zs : List ℕ). zs ++ take n (drop done u)) s ∙ ap (λ (zs : List ℕ). take done v ++ zs) next
     ∙ sym (take-add done n v)
 
@@ -128,13 +128,13 @@ different t x i a y j b done n piece other r k m p q e f h not s =
     let u = drop i (bytes_of t x) in
     let v = drop j (bytes_of t y) in
     let l : length (take n piece) ≡ length (take n other) = length-take-le n piece p ∙ sym (length-take-le n other q) in
-    let left = split u a k (take n piece) (piece_front (bytes_of t x) piece i done n e p) in
-    let right = split v b m (take n other) (piece_front (bytes_of t y) other j done n f q) in
+    let left = split u a k (take n piece) (piece_prefix (bytes_of t x) piece i done n e p) in
+    let right = split v b m (take n other) (piece_prefix (bytes_of t y) other j done n f q) in
     sym (ap (λ (zs : List ℕ). slice_cmp nat_cmp zs (take b v)) left
     ∙ ap (λ (zs : List ℕ). slice_cmp nat_cmp (take done u ++ (take n piece ++ take (a - (done + n)) (drop (done + n) u))) zs) right
     ∙ ap (λ (zs : List ℕ). slice_cmp nat_cmp (zs ++ (take n piece ++ take (a - (done + n)) (drop (done + n) u)))
     (take done v ++ (take n other ++ take (b - (done + n)) (drop (done + n) v)))) s
-    ∙ cmp_front (take done v) (take n piece ++ take (a - (done + n)) (drop (done + n) u))
+    ∙ cmp_prefix (take done v) (take n piece ++ take (a - (done + n)) (drop (done + n) u))
     (take n other ++ take (b - (done + n)) (drop (done + n) v))
     ∙ cmp_decided (take n piece) (take n other) (take (a - (done + n)) (drop (done + n) u))
     (take (b - (done + n)) (drop (done + n) v)) r l (sym h) not)

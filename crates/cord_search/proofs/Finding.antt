@@ -14,10 +14,10 @@ use Rattle.cord_core.specs.Texts.{StandsAt, first, IsFirst, last, IsLast}
 use Rattle.cord_core.proofs.Places.{at_here, some_here}
 use Rattle.cord_core.proofs.Searches.{first_is_least, last_is_greatest}
 use Rattle.cord_search.specs.inner.Pieces.{IsPieceOf, StandsNot, HasNot}
-use Rattle.cord_pos.specs.Stretches.{stretch_len, stretch_bytes, IsStretchOf}
-use Rattle.cord_search.specs.inner.Stretches.{IsWithout}
-use Rattle.cord_search.proofs.Ranges.{cord_told}
-use Rattle.cord_pos.specs.declared.stretch.Stretch.{Stretch}
+use Rattle.cord_pos.specs.Spans.{span_len, span_bytes, IsSpanOf}
+use Rattle.cord_search.specs.inner.Spans.{IsWithout}
+use Rattle.cord_search.proofs.Ranges.{cord_reported}
+use Rattle.cord_pos.specs.declared.span.Span.{Span}
 
 -- there is one first place
 same_first : (x s : List ℕ) (i : ℕ) (a b : Option ℕ) → IsFirst x i s a → IsFirst x i s b → a ≡ b
@@ -143,15 +143,15 @@ last_found t x xs c at p k end r is h seam high e none =
 pub last_none : (t : Table) (x : Option Node) (c at end : ℕ) → end ≤ 0 → HasNot t x c end (at + 1) → None ≡ last (bytes_of t x) at c
 last_none t x c at end low none = last_only (bytes_of t x) at c None (λ q to there. none q (omega arith) (omega arith) there)
 
--- a byte of the text is one of the stretch that holds its place
-in_stretch : (t : Table) (x : Option Node) (p : ℕ) (s : Stretch) (c q : ℕ) → CordFits t x → IsCord x → IsStretchOf x p s → p ≤ q →
-    q < p + stretch_len s → slice_get (bytes_of t x) q ≡ Some c → slice_get (stretch_bytes t s) (q - p) ≡ Some c
-in_stretch t x p s c q fits sound h from to there =
+-- a byte of the text is one of the span that holds its place
+in_span : (t : Table) (x : Option Node) (p : ℕ) (s : Span) (c q : ℕ) → CordFits t x → IsCord x → IsSpanOf x p s → p ≤ q →
+    q < p + span_len s → slice_get (bytes_of t x) q ≡ Some c → slice_get (span_bytes t s) (q - p) ≡ Some c
+in_span t x p s c q fits sound h from to there =
     let text = bytes_of t x in
-    let xs = stretch_bytes t s in
+    let xs = span_bytes t s in
     let len : length text ≡ text_len x = sym (length-bytes t x sound fits) in
-    let long : length xs ≡ stretch_len s =
-    ap (λ (ys : List ℕ). length ys) (h.text t fits) ∙ length-take-le (stretch_len s) (drop p text)
+    let long : length xs ≡ span_len s =
+    ap (λ (ys : List ℕ). length ys) (h.text t fits) ∙ length-take-le (span_len s) (drop p text)
     (omega (arith, len, h.inside, length-drop p text)) in
     let range : xs ≡ take (length xs) (drop p text) = h.text t fits ∙ ap (λ (k : ℕ). take k (drop p text)) (sym long) in
     let m : p + (q - p) ≡ q = omega arith in
@@ -159,16 +159,16 @@ in_stretch t x p s c q fits sound h from to there =
     ∙ ap (λ (b : ℕ). Some b) (range_at text xs p (q - p) range (omega (arith, long, from, to)) ∙ ap (λ (k : ℕ). get_or text k 0) m
     ∙ get_or_from_slice_get text q c 0 there)
 
--- a search goes on after a stretch that hasn't the byte
-pub first_past : (ls : Lengths) (t : Table) (x : Option Node) (s : Stretch) (c from p : ℕ) → HasLengths ls t → CordFitsIn ls x → IsCord x →
-    IsStretchOf x p s → IsWithout s c → StandsNot t x (c ∷ []) from p → StandsNot t x (c ∷ []) from (p + stretch_len s)
-first_past ls t x s c from p told f sound h not none =
+-- a search goes on after a span that hasn't the byte
+pub first_past : (ls : Lengths) (t : Table) (x : Option Node) (s : Span) (c from p : ℕ) → HasLengths ls t → CordFitsIn ls x → IsCord x →
+    IsSpanOf x p s → IsWithout s c → StandsNot t x (c ∷ []) from p → StandsNot t x (c ∷ []) from (p + span_len s)
+first_past ls t x s c from p reported f sound h not none =
     λ q low to at. ⊎_elim (λ (lt : q < p). none q low lt at) (λ (le : p ≤ q).
-    not t (q - p) (in_stretch t x p s c q (cord_told ls t x told f) sound h le to (byte_there (bytes_of t x) c q at))) (cases_lt q p)
+    not t (q - p) (in_span t x p s c q (cord_reported ls t x reported f) sound h le to (byte_there (bytes_of t x) c q at))) (cases_lt q p)
 
-pub last_past : (ls : Lengths) (t : Table) (x : Option Node) (s : Stretch) (c at p end : ℕ) → HasLengths ls t → CordFitsIn ls x →
-    IsCord x → p + stretch_len s ≡ end → IsStretchOf x p s → IsWithout s c → HasNot t x c end (at + 1) → HasNot t x c p (at + 1)
-last_past ls t x s c at p end told f sound seam h not none =
+pub last_past : (ls : Lengths) (t : Table) (x : Option Node) (s : Span) (c at p end : ℕ) → HasLengths ls t → CordFitsIn ls x →
+    IsCord x → p + span_len s ≡ end → IsSpanOf x p s → IsWithout s c → HasNot t x c end (at + 1) → HasNot t x c p (at + 1)
+last_past ls t x s c at p end reported f sound seam h not none =
     λ q low to here. ⊎_elim
-    (λ (lt : q < end). not t (q - p) (in_stretch t x p s c q (cord_told ls t x told f) sound h low (omega arith) here))
+    (λ (lt : q < end). not t (q - p) (in_span t x p s c q (cord_reported ls t x reported f) sound h low (omega arith) here))
     (λ (le : end ≤ q). none q le to here) (cases_lt q end)

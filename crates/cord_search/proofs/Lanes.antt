@@ -36,5 +36,5 @@ same_bytes xs ys l k h =
 -- and so are those before them
 pub same_further : (xs ys : List ℕ) (done n : ℕ) → take done xs ≡ take done ys → take n (drop done xs) ≡ take n (drop done ys) →
     take (done + n) xs ≡ take (done + n) ys
-same_further xs ys done n front next = take-add done n xs ∙ ap (λ (zs : List ℕ). zs ++ take n (drop done xs)) front
+same_further xs ys done n prefix next = take-add done n xs ∙ ap (λ (zs : List ℕ). zs ++ take n (drop done xs)) prefix
     ∙ ap (λ (zs : List ℕ). take done ys ++ zs) next ∙ sym (take-add done n ys)

@@ -4,8 +4,8 @@ use Rattle.std.specs.Prelude.{Option, IsSome}
 use Rattle.cord_node.specs.declared.Node.{Node}
 use Rattle.cord_core.specs.Cord.{text_len}
 use Rattle.cord_pos.specs.Position.{index_at, moved_index}
-use Rattle.cord_pos.specs.Stretches.{stretch_len, IsStretchOf, IsAheadOf, IsBehindOf, EndsAt}
-use Rattle.cord_pos.specs.declared.stretch.Stretch.{Stretch}
+use Rattle.cord_pos.specs.Spans.{span_len, IsSpanOf, IsAheadOf, IsBehindOf, EndsAt}
+use Rattle.cord_pos.specs.declared.span.Span.{Span}
 use Rattle.cord_pos.proofs.Standings.{index_inside}
 
 -- an index of the cord is one
@@ -18,30 +18,30 @@ moved_valid c None j valid h = let bad : false ≡ true = valid in cc
 moved_valid c (Some i) j valid h = set_valid c j h
 
 -- and something lies ahead of it
-pub ahead_some : (c : Option Node) (i : Option ℕ) (j : ℕ) (r : Option Stretch) → IsSome i → j < text_len c →
-    ((s : Stretch) → r ≡ Some s → ⊥) → IsAheadOf c (moved_index c i j) r → ⊥
+pub ahead_some : (c : Option Node) (i : Option ℕ) (j : ℕ) (r : Option Span) → IsSome i → j < text_len c →
+    ((s : Span) → r ≡ Some s → ⊥) → IsAheadOf c (moved_index c i j) r → ⊥
 ahead_some c i j (Some s) valid h never a = never s refl
 ahead_some c None j None valid h never a = let bad : false ≡ true = valid in cc
 ahead_some c (Some i) j None valid h never a = rw (index_inside c j h) at a
 
 -- which is what the cord has there
-pub ahead_there : (c : Option Node) (i : Option ℕ) (j : ℕ) (s : Stretch) → IsSome i → j < text_len c →
-    IsAheadOf c (moved_index c i j) (Some s) → IsStretchOf c j s
+pub ahead_there : (c : Option Node) (i : Option ℕ) (j : ℕ) (s : Span) → IsSome i → j < text_len c →
+    IsAheadOf c (moved_index c i j) (Some s) → IsSpanOf c j s
 ahead_there c None j s valid h a = let bad : false ≡ true = valid in cc
 ahead_there c (Some i) j s valid h a = rw (index_inside c j h) at a
 
 -- the same of what lies behind it
-pub behind_some : (c : Option Node) (i : Option ℕ) (j : ℕ) (r : Option Stretch) → IsSome i → j < text_len c →
-    ((s : Stretch) → r ≡ Some s → ⊥) → IsBehindOf c (moved_index c i j) r → ⊥
+pub behind_some : (c : Option Node) (i : Option ℕ) (j : ℕ) (r : Option Span) → IsSome i → j < text_len c →
+    ((s : Span) → r ≡ Some s → ⊥) → IsBehindOf c (moved_index c i j) r → ⊥
 behind_some c i j (Some s) valid h never a = never s refl
 behind_some c None j None valid h never a = let bad : false ≡ true = valid in cc
 behind_some c (Some i) j None valid h never a = rw (index_inside c j h) at a
 
-pub behind_there : (c : Option Node) (i : Option ℕ) (j : ℕ) (s : Stretch) → IsSome i → j < text_len c →
+pub behind_there : (c : Option Node) (i : Option ℕ) (j : ℕ) (s : Span) → IsSome i → j < text_len c →
     IsBehindOf c (moved_index c i j) (Some s) → EndsAt c j s
 behind_there c None j s valid h a = let bad : false ≡ true = valid in cc
 behind_there c (Some i) j s valid h a = rw (index_inside c j h) at a
 
--- a stretch that ends before a place
-pub ends_there : (c : Option Node) (end : ℕ) (s : Stretch) → 0 < end → EndsAt c (end - 1) s → IsStretchOf c (end - stretch_len s) s
-ends_there c end s some h = let e : end - 1 + 1 ≡ end = omega arith in rw e at h.stretch
+-- a span that ends before a place
+pub ends_there : (c : Option Node) (end : ℕ) (s : Span) → 0 < end → EndsAt c (end - 1) s → IsSpanOf c (end - span_len s) s
+ends_there c end s some h = let e : end - 1 + 1 ≡ end = omega arith in rw e at h.span

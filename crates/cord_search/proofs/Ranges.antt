@@ -1,67 +1,68 @@
--- Where stretches and pieces stand in the text of a cord.
+-- Where spans and pieces stand in the text of a cord.
 use Rattle.std.proofs.Common.{◌≡◌, ℕ, ◌+◌, ◌-◌, ◌≤◌, List, length, take, drop, None, Some, sym, ◌∙◌, ap, arith}
 use Rattle.std.specs.Prelude.{Option, replicate}
 use Rattle.std.proofs.lemmas.List.{take_min, drop-replicate, take-replicate, length-take, take_all}
 use Rattle.cord_io.specs.Table.{Table, Lengths, HasLengths}
 use Rattle.cord_node.specs.declared.Node.{Node}
 use Rattle.cord_node.proofs.Ranges.{range_of_range}
-use Rattle.cord_node.proofs.TableLemmas.{Fits-told}
+use Rattle.cord_node.proofs.TableLemmas.{Fits-reported}
 use Rattle.cord_core.specs.Cord.{text_len, bytes_of, IsCord, CordFitsIn, CordFits}
 use Rattle.cord_core.proofs.OverLemmas.{length-bytes}
-use Rattle.cord_pos.specs.Stretches.{stretch_len, stretch_bytes, IsStretchOf}
-use Rattle.cord_pos.specs.declared.stretch.Stretch.{Stretch}
+use Rattle.cord_pos.specs.Spans.{span_len, span_bytes, IsSpanOf}
+use Rattle.cord_pos.specs.declared.span.Span.{Span}
 use Rattle.cord_search.specs.inner.Pieces.{IsPieceOf}
-use Rattle.cord_search.specs.inner.Stretches.{IsPartOf}
+use Rattle.cord_search.specs.inner.Spans.{IsPartOf}
 
 -- a range is its own first bytes
 own_range : (xs ys : List ℕ) (k : ℕ) → xs ≡ take k ys → xs ≡ take (length xs) ys
 own_range xs ys k e = e ∙ sym (take_min k ys) ∙ ap (λ (m : ℕ). take m ys) (sym (ap (λ (zs : List ℕ). length zs) e ∙ length-take k ys))
 
 -- so many times the byte of a run
-pub run_part : (t : Table) (s : Stretch) (xs : List ℕ) (byte len i k : ℕ) → ((t : Table) → stretch_bytes t s ≡ replicate len byte) →
+pub run_part : (t : Table) (s : Span) (xs : List ℕ) (byte len i k : ℕ) → ((t : Table) → span_bytes t s ≡ replicate len byte) →
     i + k ≤ len → xs ≡ replicate k byte → IsPartOf t s i xs
 run_part t s xs byte len i k e h is =
     let inside : k ≤ len - i = omega arith in
-    own_range xs (drop i (stretch_bytes t s)) k (is ∙ sym (take-replicate k (len - i) byte inside)
+    own_range xs (drop i (span_bytes t s)) k (is ∙ sym (take-replicate k (len - i) byte inside)
     ∙ ap (λ (ys : List ℕ). take k ys) (sym (drop-replicate i len byte)) ∙ ap (λ (ys : List ℕ). take k (drop i ys)) (sym (e t)))
 
 -- bytes that were read of an entry
-pub func_part : (t : Table) (s : Stretch) (xs : List ℕ) (id start len from i : ℕ) →
-    ((t : Table) → stretch_bytes t s ≡ take len (drop start (t id))) → from ≡ start + i → i + length xs ≤ len →
+pub func_part : (t : Table) (s : Span) (xs : List ℕ) (id start len from i : ℕ) →
+    ((t : Table) → span_bytes t s ≡ take len (drop start (t id))) → from ≡ start + i → i + length xs ≤ len →
     xs ≡ take (length xs) (drop from (t id)) → IsPartOf t s i xs
 func_part t s xs id start len from i e f h is =
     is ∙ ap (λ (m : ℕ). take (length xs) (drop m (t id))) f ∙ sym (range_of_range (t id) i (length xs) start len h)
     ∙ ap (λ (ys : List ℕ). take (length xs) (drop i ys)) (sym (e t))
 
 -- the first bytes of a leaf
-pub leaf_part : (t : Table) (s : Stretch) (xs ys : List ℕ) (n : ℕ) → ((t : Table) → stretch_bytes t s ≡ ys) → xs ≡ take n ys →
+pub leaf_part : (t : Table) (s : Span) (xs ys : List ℕ) (n : ℕ) → ((t : Table) → span_bytes t s ≡ ys) → xs ≡ take n ys →
     IsPartOf t s 0 xs
-leaf_part t s xs ys n e is = own_range xs (stretch_bytes t s) n (is ∙ ap (λ (zs : List ℕ). take n zs) (sym (e t)))
+leaf_part t s xs ys n e is = own_range xs (span_bytes t s) n (is ∙ ap (λ (zs : List ℕ). take n zs) (sym (e t)))
 
--- the whole of a stretch
-pub whole_part : (t : Table) (s : Stretch) (xs : List ℕ) (i : ℕ) → ((t : Table) → stretch_bytes t s ≡ xs) → i ≡ 0 → IsPartOf t s i xs
+-- the whole of a span
+pub whole_part : (t : Table) (s : Span) (xs : List ℕ) (i : ℕ) → ((t : Table) → span_bytes t s ≡ xs) → i ≡ 0 → IsPartOf t s i xs
 whole_part t s xs i e z = sym (take_all (length xs) xs (omega arith)) ∙ ap (λ (j : ℕ). take (length xs) (drop j xs)) (sym z)
     ∙ ap (λ (ys : List ℕ). take (length xs) (drop i ys)) (sym (e t))
 
 -- a cord that fits the lengths of a table fits the table
-pub cord_told : (ls : Lengths) (t : Table) (c : Option Node) → HasLengths ls t → CordFitsIn ls c → CordFits t c
-cord_told ls t None told f = tt
-cord_told ls t (Some n) told f = Fits-told ls t n told f
+pub cord_reported : (ls : Lengths) (t : Table) (c : Option Node) → HasLengths ls t → CordFitsIn ls c → CordFits t c
+cord_reported ls t None reported f = tt
+cord_reported ls t (Some n) reported f = Fits-reported ls t n reported f
 
 -- and has as long a text there as it stores
 pub cord_len : (ls : Lengths) (t : Table) (c : Option Node) → HasLengths ls t → IsCord c → CordFitsIn ls c →
     length (bytes_of t c) ≡ text_len c
-cord_len ls t c told sound f = sym (length-bytes t c sound (cord_told ls t c told f))
+cord_len ls t c reported sound f = sym (length-bytes t c sound (cord_reported ls t c reported f))
 
--- a part of a stretch is a piece of the text
-pub piece_within : (ls : Lengths) (t : Table) (c : Option Node) (place : ℕ) (s : Stretch) (i j : ℕ) (xs : List ℕ) → HasLengths ls t →
-    CordFitsIn ls c → IsStretchOf c place s → i + length xs ≤ stretch_len s → j ≡ place + i → IsPartOf t s i xs → IsPieceOf t c j xs
-piece_within ls t c place s i j xs told f h inside e p =
-    p ∙ ap (λ (ys : List ℕ). take (length xs) (drop i ys)) (h.text t (cord_told ls t c told f))
-    ∙ range_of_range (bytes_of t c) i (length xs) place (stretch_len s) inside
+-- a part of a span is a piece of the text
+pub piece_within : (ls : Lengths) (t : Table) (c : Option Node) (place : ℕ) (s : Span) (i j : ℕ) (xs : List ℕ) → HasLengths ls t →
+    CordFitsIn ls c → IsSpanOf c place s → i + length xs ≤ span_len s → j ≡ place + i → IsPartOf t s i xs → IsPieceOf t c j xs
+piece_within ls t c place s i j xs reported f h inside e p =
+    p ∙ ap (λ (ys : List ℕ). take (length xs) (drop i ys)) (h.text t (cord_reported ls t c reported f))
+    ∙ range_of_range (bytes_of t c) i (length xs) place (span_len s) inside
     ∙ ap (λ (m : ℕ). take (length xs) (drop m (bytes_of t c))) (sym e)
 
 -- and so is what stands at its beginning
-pub front_within : (ls : Lengths) (t : Table) (c : Option Node) (place : ℕ) (s : Stretch) (xs : List ℕ) → HasLengths ls t →
-    CordFitsIn ls c → IsStretchOf c place s → length xs ≤ stretch_len s → IsPartOf t s 0 xs → IsPieceOf t c place xs
-front_within ls t c place s xs told f h inside p = piece_within ls t c place s 0 place xs told f h (omega (arith, inside)) (omega arith) p
+pub prefix_within : (ls : Lengths) (t : Table) (c : Option Node) (place : ℕ) (s : Span) (xs : List ℕ) → HasLengths ls t →
+    CordFitsIn ls c → IsSpanOf c place s → length xs ≤ span_len s → IsPartOf t s 0 xs → IsPieceOf t c place xs
+prefix_within ls t c place s xs reported f h inside p = piece_within ls t c place s 0 place xs reported f h (omega (arith, inside))
+    (omega arith) p

@@ -9,13 +9,13 @@ use Rattle.cord_node.specs.Tree.{Cell, cells, len_of}
 use Rattle.cord_node.specs.Tables.{bytes_over, lengths_of, Fits, byte_at}
 use Rattle.cord_node.proofs.TableLemmas.{bytes-cells}
 use Rattle.cord_core.specs.Cord.{bytes_of, CordFitsIn, CordFits}
-use Rattle.cord_pos.specs.Stretches.{stretch_len, stretch_bytes, IsStretchOf, IsFrontOf}
-use Rattle.cord_pos.specs.inner.Stretches.{IsWithin}
+use Rattle.cord_pos.specs.Spans.{span_len, span_bytes, IsSpanOf, IsSpanPrefix}
+use Rattle.cord_pos.specs.inner.Spans.{IsWithin}
 use Rattle.cord_search.specs.inner.Ahead.{AreAlike}
 use Rattle.cord_search.specs.inner.Pieces.{AreSame, IsPieceOf}
-use Rattle.cord_search.specs.inner.Stretches.{BeginAlike, IsPartOf}
-use Rattle.cord_pos.specs.declared.stretch.Stretch.{Stretch}
-use Rattle.cord_search.proofs.Ranges.{cord_told, front_within}
+use Rattle.cord_search.specs.inner.Spans.{BeginAlike, IsPartOf}
+use Rattle.cord_pos.specs.declared.span.Span.{Span}
+use Rattle.cord_search.proofs.Ranges.{cord_reported, prefix_within}
 
 -- the bytes from a place of a node are those of what is within
 within_bytes : (n : Node) (place : ℕ) (m : Node) (at k : ℕ) (t : Table) → (w : IsWithin n place m at) → Fits t n → at + k ≤ len_of m →
@@ -31,43 +31,44 @@ spots_alike n i m a o j l b k v w here long one h = λ t f g.
     within_bytes n i m a k t v f h ∙ ap (λ (xs : List ℕ). take k (drop a xs)) same ∙ ap (λ (q : ℕ). take k (drop q (bytes_over t l))) here
     ∙ sym (within_bytes o j l b k t w g (omega (arith, here, long, h)))
 
--- the first bytes of a stretch
-front : (t : Table) (c : Option Node) (place : ℕ) (s : Stretch) (k : ℕ) → CordFits t c → IsStretchOf c place s → k ≤ stretch_len s →
-    take k (drop place (bytes_of t c)) ≡ take k (stretch_bytes t s)
-front t c place s k f h le = sym (take-take k (stretch_len s) (drop place (bytes_of t c)) le)
+-- the first bytes of a span
+prefix : (t : Table) (c : Option Node) (place : ℕ) (s : Span) (k : ℕ) → CordFits t c → IsSpanOf c place s → k ≤ span_len s →
+    take k (drop place (bytes_of t c)) ≡ take k (span_bytes t s)
+prefix t c place s k f h le = sym (take-take k (span_len s) (drop place (bytes_of t c)) le)
     ∙ ap (λ (ys : List ℕ). take k ys) (sym (h.text t f))
 
--- stretches that begin alike
-pub stretches_alike : (c : Option Node) (i : ℕ) (d : Option Node) (j : ℕ) (s other : Stretch) (k : ℕ) → IsStretchOf c i s →
-    IsStretchOf d j other → BeginAlike s other → k ≤ stretch_len s → k ≤ stretch_len other → AreAlike c i d j k
-stretches_alike c i d j s other k h g alike le more = λ t f e.
-    front t c i s k f h le ∙ alike t k le more ∙ sym (front t d j other k e g more)
+-- spans that begin alike
+pub spans_alike : (c : Option Node) (i : ℕ) (d : Option Node) (j : ℕ) (s other : Span) (k : ℕ) → IsSpanOf c i s →
+    IsSpanOf d j other → BeginAlike s other → k ≤ span_len s → k ≤ span_len other → AreAlike c i d j k
+spans_alike c i d j s other k h g alike le more = λ t f e.
+    prefix t c i s k f h le ∙ alike t k le more ∙ sym (prefix t d j other k e g more)
 
--- the front of a stretch is one
-pub front_stretch : (c : Option Node) (place : ℕ) (s first : Stretch) (k : ℕ) → 0 < k → k ≤ stretch_len s → IsStretchOf c place s →
-    IsFrontOf s k first → IsStretchOf c place first
-front_stretch c place s first k some le h f = record {
+-- the prefix of a span is one
+pub prefix_span : (c : Option Node) (place : ℕ) (s first : Span) (k : ℕ) → 0 < k → k ≤ span_len s → IsSpanOf c place s →
+    IsSpanPrefix s k first → IsSpanOf c place first
+prefix_span c place s first k some le h f = record {
   some = omega (arith, some, f.len);
   inside = omega (arith, le, f.len, h.inside);
   fits = λ lengths held. f.fits lengths (h.fits lengths held);
-  text = λ t held. f.text t ∙ sym (front t c place s k held h le) ∙ ap (λ (m : ℕ). take m (drop place (bytes_of t c))) (sym f.len);
+  text = λ t held. f.text t ∙ sym (prefix t c place s k held h le) ∙ ap (λ (m : ℕ). take m (drop place (bytes_of t c))) (sym f.len);
 }
 
--- what stands at the front of a stretch's block stands in the text
-pub block_piece : (ls : Lengths) (t : Table) (c : Option Node) (place : ℕ) (s block : Stretch) (xs : List ℕ) → HasLengths ls t →
-    CordFitsIn ls c → IsStretchOf c place s → 0 < stretch_len block → stretch_len block ≤ stretch_len s →
-    IsFrontOf s (stretch_len block) block → length xs ≤ stretch_len block → IsPartOf t block 0 xs → IsPieceOf t c place xs
-block_piece ls t c place s block xs told f h some few first inside e =
-    front_within ls t c place block xs told f (front_stretch c place s block (stretch_len block) some few h first) inside e
+-- what stands at the prefix of a span's block stands in the text
+pub block_piece : (ls : Lengths) (t : Table) (c : Option Node) (place : ℕ) (s block : Span) (xs : List ℕ) → HasLengths ls t →
+    CordFitsIn ls c → IsSpanOf c place s → 0 < span_len block → span_len block ≤ span_len s →
+    IsSpanPrefix s (span_len block) block → length xs ≤ span_len block → IsPartOf t block 0 xs → IsPieceOf t c place xs
+block_piece ls t c place s block xs reported f h some few first inside e =
+    prefix_within ls t c place block xs reported f (prefix_span c place s block (span_len block) some few h first) inside e
 
 -- the next bytes are the same too
 pub alike_on : (ls : Lengths) (t : Table) (x : Option Node) (i : ℕ) (y : Option Node) (j done n : ℕ) → HasLengths ls t → CordFitsIn ls x →
     CordFitsIn ls y → AreAlike x (i + done) y (j + done) n → AreSame t x i y j done → AreSame t x i y j (done + n)
-alike_on ls t x i y j done n told f g alike same =
+alike_on ls t x i y j done n reported f g alike same =
     let u = drop i (bytes_of t x) in
     let v = drop j (bytes_of t y) in
     let next : take n (drop done u) ≡ take n (drop done v) =
-    ap (λ (ys : List ℕ). take n ys) (drop-drop done i (bytes_of t x)) ∙ alike t (cord_told ls t x told f) (cord_told ls t y told g)
+    ap (λ (ys : List ℕ). take n ys) (drop-drop done i (bytes_of t x)) ∙ alike t (cord_reported ls t x reported f)
+    (cord_reported ls t y reported g)
     ∙ ap (λ (ys : List ℕ). take n ys) (sym (drop-drop done j (bytes_of t y))) in
     take-add done n u ∙ ap (λ (zs : List ℕ). zs ++ take n (drop done u)) same ∙ ap (λ (zs : List ℕ). take done v ++ zs) next
     ∙ sym (take-add done n v)

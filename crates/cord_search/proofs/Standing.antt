@@ -19,12 +19,12 @@ use Rattle.cord_core.specs.Cord.{text_len, bytes_of, IsCord, CordFitsIn}
 use Rattle.cord_core.specs.Texts.{StandsAt, first, IsFirst}
 use Rattle.cord_core.proofs.Searches.{first_is_least}
 use Rattle.cord_search.specs.inner.Pieces.{IsPieceOf, IsFilled, IsOrderOf, IsStanding, StandsNot}
-use Rattle.cord_pos.specs.Stretches.{stretch_len, stretch_bytes, IsStretchOf}
-use Rattle.cord_search.specs.inner.Stretches.{IsMisfit, DoesNotFit}
-use Rattle.cord_pos.specs.declared.stretch.Stretch.{Stretch}
-use Rattle.cord_search.proofs.Ranges.{cord_told, cord_len}
+use Rattle.cord_pos.specs.Spans.{span_len, span_bytes, IsSpanOf}
+use Rattle.cord_search.specs.inner.Spans.{IsMisfit, DoesNotFit}
+use Rattle.cord_pos.specs.declared.span.Span.{Span}
+use Rattle.cord_search.proofs.Ranges.{cord_reported, cord_len}
 use Rattle.cord_search.proofs.Finding.{range_at, range_inside, first_only}
-use Rattle.cord_search.proofs.Comparing.{cmp_same, cmp_equal, piece_front}
+use Rattle.cord_search.proofs.Comparing.{cmp_same, cmp_equal, piece_prefix}
 
 -- bytes were copied after what was filled
 pub filled_on : (t : Table) (c : Option Node) (place done k n : ℕ) (out part : List ℕ) → IsFilled t c place done out →
@@ -32,15 +32,15 @@ pub filled_on : (t : Table) (c : Option Node) (place done k n : ℕ) (out part :
 filled_on t c place done k n out part h e long q =
     let x = drop place (bytes_of t c) in
     let next : part ≡ take n (drop done x) =
-    sym (take_all n part (omega (arith, long))) ∙ piece_front (bytes_of t c) part place done n e (omega (arith, long)) in
+    sym (take_all n part (omega (arith, long))) ∙ piece_prefix (bytes_of t c) part place done n e (omega (arith, long)) in
     take-put_mid done k out part (done + n) (omega (arith, long)) q ∙ ap (λ (ys : List ℕ). ys ++ part) h
     ∙ ap (λ (ys : List ℕ). take done x ++ ys) next ∙ sym (take-add done n x)
 
 -- and lie inside
 pub filled_inside : (done k n : ℕ) (out part : List ℕ) → length part ≡ n → done ≤ length out → done + n ≤ length (put_mid done k out part)
 filled_inside done k n out part long q =
-    let front : length (take done out) ≡ done = length-take-le done out q in
-    omega (arith, long, front, length-append (take done out) (part ++ post_of done k out), length-append part (post_of done k out))
+    let prefix : length (take done out) ≡ done = length-take-le done out q in
+    omega (arith, long, prefix, length-append (take done out) (part ++ post_of done k out), length-append part (post_of done k out))
 
 -- a text that stands in another ends inside
 pub stands_inside : (x s : List ℕ) (q : ℕ) → StandsAt x s q → q + length s ≤ length x
@@ -106,24 +106,24 @@ window_some t x start place k window head r is some h low e none =
     )
 
 -- they stand at none of the places that do not fit
-pub misfit_on : (ls : Lengths) (t : Table) (x : Option Node) (start place n : ℕ) (stretch : Stretch) (head : List ℕ) → HasLengths ls t →
-    IsCord x → CordFitsIn ls x → IsStretchOf x place stretch → IsMisfit stretch head n → StandsNot t x head start place →
+pub misfit_on : (ls : Lengths) (t : Table) (x : Option Node) (start place n : ℕ) (span : Span) (head : List ℕ) → HasLengths ls t →
+    IsCord x → CordFitsIn ls x → IsSpanOf x place span → IsMisfit span head n → StandsNot t x head start place →
     StandsNot t x head start (place + n)
-misfit_on ls t x start place n stretch head told sound fits h misfit none =
+misfit_on ls t x start place n span head reported sound fits h misfit none =
     λ q low to at. ⊎_elim (λ (lt : q < place). none q low lt at) (λ (le : place ≤ q). differ q at le (misfit t (q - place) (omega arith)))
     (cases_lt q place)
   where
-    differ : (q : ℕ) → StandsAt (bytes_of t x) head q → place ≤ q → DoesNotFit t stretch head (q - place) → ⊥
+    differ : (q : ℕ) → StandsAt (bytes_of t x) head q → place ≤ q → DoesNotFit t span head (q - place) → ⊥
     differ q at le d =
         let xs = bytes_of t x in
-        let text = h.text t (cord_told ls t x told fits) in
-        let long : length (stretch_bytes t stretch) ≡ stretch_len stretch =
-        ap (λ (ys : List ℕ). length ys) text ∙ length-take-le (stretch_len stretch) (drop place xs)
-        (omega (arith, h.inside, cord_len ls t x told sound fits, length-drop place xs)) in
-        let range : stretch_bytes t stretch ≡ take (length (stretch_bytes t stretch)) (drop place xs) =
+        let text = h.text t (cord_reported ls t x reported fits) in
+        let long : length (span_bytes t span) ≡ span_len span =
+        ap (λ (ys : List ℕ). length ys) text ∙ length-take-le (span_len span) (drop place xs)
+        (omega (arith, h.inside, cord_len ls t x reported sound fits, length-drop place xs)) in
+        let range : span_bytes t span ≡ take (length (span_bytes t span)) (drop place xs) =
         text ∙ ap (λ (k : ℕ). take k (drop place xs)) (sym long) in
         let here : place + (q - place + d.at) ≡ q + d.at = omega (arith, le) in
-        d.differs (range_at xs (stretch_bytes t stretch) place (q - place + d.at) range (omega (arith, long, d.within))
+        d.differs (range_at xs (span_bytes t span) place (q - place + d.at) range (omega (arith, long, d.within))
         ∙ ap (λ (k : ℕ). get_or xs k 0) here ∙ stands_get xs head q d.at at d.inside)
 
 -- a place where they don't stand
@@ -145,9 +145,9 @@ stands_none t x s start place past p none =
     first_only (bytes_of t x) s start None (λ k low at. ⊎_elim (λ (lt : k < place). none k low lt at)
     (λ (le : place ≤ k). omega (arith, past, p, stands_inside (bytes_of t x) s k at)) (cases_lt k place))
 
--- the front of a text stands where the text stands
-front_stands : (x s head : List ℕ) (q : ℕ) → head ≡ take (length head) s → StandsAt x s q → StandsAt x head q
-front_stands x s head q f at = record {
+-- the prefix of a text stands where the text stands
+prefix_stands : (x s head : List ℕ) (q : ℕ) → head ≡ take (length head) s → StandsAt x s q → StandsAt x head q
+prefix_stands x s head q f at = record {
   within = at.within;
   rest = drop (length head) s ++ at.rest;
   here = at.here ∙ ap (λ (ys : List ℕ). ys ++ at.rest) (sym (take-append-drop (length head) s))
@@ -156,22 +156,22 @@ front_stands x s head q f at = record {
 }
 
 -- a text stands at no place at which its front doesn't
-pub front_on : (t : Table) (x s : Option Node) (start place q : ℕ) (head : List ℕ) → Some q ≡ first (bytes_of t x) place head →
+pub prefix_on : (t : Table) (x s : Option Node) (start place q : ℕ) (head : List ℕ) → Some q ≡ first (bytes_of t x) place head →
     IsPieceOf t s 0 head → StandsNot t x (bytes_of t s) start place → StandsNot t x (bytes_of t s) start q
-front_on t x s start place q head is f none =
+prefix_on t x s start place q head is f none =
     let least : IsFirst (bytes_of t x) place head (Some q) =
     subst (λ (r : Option ℕ). IsFirst (bytes_of t x) place head r) (sym is) (first_is_least (bytes_of t x) head place) in
     λ k low to at. ⊎_elim (λ (lt : k < place). none k low lt at)
-    (λ (le : place ≤ k). least.2 k le to (front_stands (bytes_of t x) (bytes_of t s) head k f at)) (cases_lt k place)
+    (λ (le : place ≤ k). least.2 k le to (prefix_stands (bytes_of t x) (bytes_of t s) head k f at)) (cases_lt k place)
 
-pub front_none : (t : Table) (x s : Option Node) (start place : ℕ) (head : List ℕ) → None ≡ first (bytes_of t x) place head →
+pub prefix_none : (t : Table) (x s : Option Node) (start place : ℕ) (head : List ℕ) → None ≡ first (bytes_of t x) place head →
     IsPieceOf t s 0 head → StandsNot t x (bytes_of t s) start place → None ≡ first (bytes_of t x) start (bytes_of t s)
-front_none t x s start place head is f none =
+prefix_none t x s start place head is f none =
     let least : IsFirst (bytes_of t x) place head None =
     subst (λ (r : Option ℕ). IsFirst (bytes_of t x) place head r) (sym is) (first_is_least (bytes_of t x) head place) in
     first_only (bytes_of t x) (bytes_of t s) start None (λ k low at.
     ⊎_elim (λ (lt : k < place). none k low lt at) (λ (le : place ≤ k).
-    least k le (front_stands (bytes_of t x) (bytes_of t s) head k f at)) (cases_lt k place))
+    least k le (prefix_stands (bytes_of t x) (bytes_of t s) head k f at)) (cases_lt k place))
 
 -- a text that was copied whole
 pub whole_text : (t : Table) (s : Option Node) (xs : List ℕ) → IsPieceOf t s 0 xs → length xs ≡ text_len s →

@@ -4,10 +4,10 @@ use Rattle.std.specs.Prelude.{Option, IfSome, slice_get}
 use Rattle.cord_io.specs.declared.TheConstants.{MAX_DEPTH}
 use Rattle.cord_node.specs.declared.Node.{Node}
 use Rattle.cord_node.specs.Tree.{len_of, depth_of}
-use Rattle.cord_pos.specs.Stretches.{stretch_len, IsStretchOf, IsStretchAt, EndsAt}
-use Rattle.cord_pos.specs.inner.Stretches.{IsWithin}
-use Rattle.cord_pos.specs.declared.stretch.Stretch.{Stretch}
-use Rattle.cord_pos.proofs.Within.{within_on, within_end, stretch_on, stretch_back}
+use Rattle.cord_pos.specs.Spans.{span_len, IsSpanOf, IsSpanAt, EndsAt}
+use Rattle.cord_pos.specs.inner.Spans.{IsWithin}
+use Rattle.cord_pos.specs.declared.span.Span.{Span}
+use Rattle.cord_pos.proofs.Within.{within_on, within_end, span_on, span_back}
 use Rattle.cord_search.specs.inner.Ahead.{IsSpot, AreOneSpot, IsSpotOf, IsStop, AreAlike}
 use Rattle.cord_search.specs.declared.ahead.Spot.{Spot}
 use Rattle.cord_search.specs.declared.ahead.Stop.{Stop}
@@ -46,14 +46,14 @@ module _ (c : Option Node) (at : ℕ) (s : Spot) where
   }
 
   -- what a part has is what the cord has
-  pub stretch_of : (x : Stretch) → IsSpotOf c at s → IsStretchAt s.node.now s.place x → IsStretchOf c at x
-  stretch_of x h e = rw h.is (stretch_on h.root at s.node.now s.place x h.within e)
+  pub span_of : (x : Span) → IsSpotOf c at s → IsSpanAt s.node.now s.place x → IsSpanOf c at x
+  span_of x h e = rw h.is (span_on h.root at s.node.now s.place x h.within e)
 
   -- up to a place
-  pub stretch_to : (x : Stretch) → IsSpotOf c at s → stretch_len x ≡ s.place + 1 → IsStretchAt s.node.now 0 x → EndsAt c at x
-  stretch_to x h len e = record {
+  pub span_to : (x : Span) → IsSpotOf c at s → span_len x ≡ s.place + 1 → IsSpanAt s.node.now 0 x → EndsAt c at x
+  span_to x h len e = record {
     inside = omega (arith, len, h.within.here);
-    stretch = rw h.is (stretch_back h.root (at + 1) s.node.now (s.place + 1) 0 x (omega (arith, len))
+    span = rw h.is (span_back h.root (at + 1) s.node.now (s.place + 1) 0 x (omega (arith, len))
         (within_end h.root at s.node.now s.place h.within) e);
   }
 

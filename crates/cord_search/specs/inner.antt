@@ -1,4 +1,4 @@
-pub mod Stretches
+pub mod Spans
 pub mod Ahead
 pub mod Pieces
 pub mod Periods

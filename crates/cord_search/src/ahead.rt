@@ -1,18 +1,18 @@
-// What two texts have at two places: bytes that both share, or a stretch of each.
+// What two texts have at two places: bytes that both share, or a span of each.
 ghost use Rattle.std.specs.Prelude.{◌≡◌, ◌+◌, ◌-◌, ◌<◌, ◌≤◌, true, Option, None, IfSome, IfNone};
 ghost use Rattle.arrayvec.specs.ArrayVec.{array_vec_len};
 ghost use Rattle.cord_core.specs.Cord.{text_len};
 ghost use Rattle.cord_node.specs.declared.Node.{Node as Tree};
 ghost use Rattle.cord_node.specs.Tree.{len_of, depth_of, IsSound};
-ghost use Rattle.cord_pos.specs.Stretches.{is_part, stretch_len, IsStretchAt};
-ghost use Rattle.cord_pos.specs.inner.Stretches.{IsWithin};
+ghost use Rattle.cord_pos.specs.Spans.{is_part, span_len, IsSpanAt};
+ghost use Rattle.cord_pos.specs.inner.Spans.{IsWithin};
 ghost use Rattle.cord_search.specs.inner.Ahead.{IsSpot, AreOneSpot, IsSpotOf, IsWay, IsAhead};
 
-use crate::stretches::begin_alike;
+use crate::spans::begin_alike;
 use arrayvec::ArrayVec;
 use cord_core::{Cord, Node};
 use cord_io::MAX_DEPTH;
-use cord_pos::Stretch;
+use cord_pos::Span;
 
 // The most nodes on a way: a root, and a step for each level below it.
 const WAY_LEN: usize = MAX_DEPTH as usize + 1;
@@ -41,8 +41,8 @@ pub(crate) struct Way<'a> {
 pub(crate) enum Ahead<'a> {
     /// So many bytes of both are the same.
     Same(u64),
-    /// Stretches of one length, nothing of which was compared.
-    Apart(Stretch<'a>, Stretch<'a>),
+    /// Spans of one length, nothing of which was compared.
+    Apart(Span<'a>, Span<'a>),
 }
 
 impl<'a> Spot<'a> {
@@ -75,18 +75,18 @@ impl<'a> Spot<'a> {
     }
 
     /// What a part has from one place on, up to another.
-    pub(crate) fn stretch(self, from: u64, to: u64) -> Stretch<'a>
+    pub(crate) fn span(self, from: u64, to: u64) -> Span<'a>
         requires part { is_part self.node.now ≡ true }
         requires sound { IsSound self.node.now }
         requires some { from < to }
         requires inside { to ≤ len_of self.node.now }
-        ensures stretch { IsStretchAt self.entry.node.now from result }
-        ensures len { stretch_len result ≡ to - from }
+        ensures span { IsSpanAt self.entry.node.now from result }
+        ensures len { span_len result ≡ to - from }
     {
-        let Some(stretch) = Stretch::of_part(self.node, from, to) else {
+        let Some(span) = Span::of_part(self.node, from, to) else {
             unreachable!()
         };
-        stretch
+        span
     }
 
     // Whether the two are one place of one node.
@@ -187,18 +187,18 @@ impl<'a> Way<'a> {
     }
 
     // What the part that holds the place `at` of the cord has from there on: the way goes down to it.
-    fn stretch(&mut self, last: Spot<'a>, at: u64) -> Stretch<'a>
+    fn span(&mut self, last: Spot<'a>, at: u64) -> Span<'a>
         requires spot { IsSpot last }
         requires low { last.place ≤ at }
         requires room { array_vec_len self.old.stops + depth_of last.node.now ≤ WAY_LEN }
         ensures way { (c : Option Tree) → IsSpotOf c at last.entry → IsWay c self.old → IsWay c self.new }
-        ensures stretch { IsStretchAt last.entry.node.now last.entry.place result }
+        ensures span { IsSpanAt last.entry.node.now last.entry.place result }
     {
         let mut spot = last;
         while let Some(side) = self.step(spot, at) {
             spot = side;
         }
-        spot.stretch(spot.place, spot.node.len())
+        spot.span(spot.place, spot.node.len())
     }
 }
 
@@ -241,7 +241,7 @@ fn meet<'a>(
 }
 
 /// What two cords' texts have at two places, at most `most` bytes: bytes that are known to be the same, since they
-/// are of one node, runs of one byte or one range of an entry, or else a stretch of each. Each way leads to the place
+/// are of one node, runs of one byte or one range of an entry, or else a span of each. Each way leads to the place
 /// before, and then to this one: from part to part, in order, that takes constant time, taken over all of them. No
 /// node that both share is missed by that. It begins at the two places, or the ways had met in it before them.
 pub(crate) fn look_ahead<'a>(
@@ -266,11 +266,11 @@ pub(crate) fn look_ahead<'a>(
     if spot.is_same(other) {
         return Ahead::Same(most.min(spot.node.len() - spot.place));
     }
-    let stretch = way.stretch(spot, i);
-    let next = other_way.stretch(other, j);
-    let count = most.min(stretch.len()).min(next.len());
-    if begin_alike(stretch, next) {
+    let span = way.span(spot, i);
+    let next = other_way.span(other, j);
+    let count = most.min(span.len()).min(next.len());
+    if begin_alike(span, next) {
         return Ahead::Same(count);
     }
-    Ahead::Apart(stretch.up_to(count), next.up_to(count))
+    Ahead::Apart(span.up_to(count), next.up_to(count))
 }

@@ -1,6 +1,6 @@
 // The byte at a place, and the places of a byte.
 ghost use Rattle.std.specs.Prelude.{◌≡◌, ◌+◌, ◌<◌, ◌≤◌, [], ◌∷◌, Some, slice_get, is_err, IsOk, IfOk, IfErr, IfSome};
-ghost use Rattle.cord_io.specs.Device.{Folder, count_after};
+ghost use Rattle.cord_io.specs.Device.{FileSystem, count_after};
 ghost use Rattle.cord_io.specs.Frames.{LeavesSource};
 ghost use Rattle.cord_core.specs.Cord.{text_len, bytes_of, CordFitsIn};
 ghost use Rattle.cord_core.specs.Texts.{first, last};
@@ -8,10 +8,8 @@ ghost use Rattle.cord_search.specs.inner.Pieces.{StandsNot, HasNot};
 ghost use Rattle.cord_search.specs.inner.Searches.{FindsBytes, FindsLast, HasRead};
 
 use crate::PIECE_LEN;
-use crate::pieces::{copy_front, first_piece, last_piece};
-use crate::stretches::{
-    cord_stretch_at, cord_stretch_to, in_block, run_without, stretch_from, stretch_up_to,
-};
+use crate::pieces::{copy_prefix, first_piece, last_piece};
+use crate::spans::{cord_span_at, cord_span_to, in_block, run_without, span_from, span_up_to};
 use cord_core::Cord;
 use cord_io::{CordError, ReadFault, Source};
 use cord_pos::Position;
@@ -22,15 +20,15 @@ use memchr::{memchr, memrchr};
 pub fn fetch<S: Source>(x: &Cord, i: u64, src: &mut S) -> Result<u8, CordError>
     requires inside { i < text_len x.now }
     requires fits { CordFitsIn (S.lengths src.old) x.now }
-    ensures byte { (folder : Folder) → S.keeps src.new folder →
-        IfOk result (λ b. slice_get (bytes_of (S.table src.old folder) x.now) i ≡ Some b) }
+    ensures byte { (file_system : FileSystem) → S.consistent src.new file_system →
+        IfOk result (λ b. slice_get (bytes_of (S.table src.old file_system) x.now) i ≡ Some b) }
     ensures refused { IfErr result (λ e. e ≡ CordError.ReadFailed) }
     ensures count { S.failures src.new ≡ count_after (is_err result) (S.failures src.old) }
     ensures steady { S.failures src.old < u64.MAX → S.failures src.new ≡ S.failures src.old → IsOk result }
     ensures source { LeavesSource ⟦<S as Source>⟧ src.old src.new }
 {
     let mut byte = [0];
-    copy_front(cord_stretch_at(x, i), &mut byte, src)?;
+    copy_prefix(cord_span_at(x, i), &mut byte, src)?;
     Ok(byte[0])
 }
 
@@ -40,8 +38,8 @@ pub fn fetch<S: Source>(x: &Cord, i: u64, src: &mut S) -> Result<u8, CordError>
 pub fn chr<S: Source>(x: &Cord, i: u64, c: u8, src: &mut S) -> Result<Option<u64>, CordError>
     requires inside { i < text_len x.now }
     requires fits { CordFitsIn (S.lengths src.old) x.now }
-    ensures first { (folder : Folder) → S.keeps src.new folder →
-        IfOk result (λ place. place ≡ first (bytes_of (S.table src.old folder) x.now) i (c ∷ [])) }
+    ensures first { (file_system : FileSystem) → S.consistent src.new file_system →
+        IfOk result (λ place. place ≡ first (bytes_of (S.table src.old file_system) x.now) i (c ∷ [])) }
     ensures from { IfOk result (λ found. IfSome found (λ place. i ≤ place)) }
     ensures within { IfOk result (λ found. IfSome found (λ place. place < text_len x.now)) }
     ensures refused { IfErr result (λ e. e ≡ CordError.ReadFailed) }
@@ -59,8 +57,8 @@ pub fn chr<S: Source>(x: &Cord, i: u64, c: u8, src: &mut S) -> Result<Option<u64
 pub fn rchr<S: Source>(x: &Cord, i: u64, c: u8, src: &mut S) -> Result<Option<u64>, CordError>
     requires inside { i < text_len x.now }
     requires fits { CordFitsIn (S.lengths src.old) x.now }
-    ensures last { (folder : Folder) → S.keeps src.new folder →
-        IfOk result (λ place. place ≡ last (bytes_of (S.table src.old folder) x.now) i c) }
+    ensures last { (file_system : FileSystem) → S.consistent src.new file_system →
+        IfOk result (λ place. place ≡ last (bytes_of (S.table src.old file_system) x.now) i c) }
     ensures up_to { IfOk result (λ found. IfSome found (λ place. place ≤ i)) }
     ensures within { IfOk result (λ found. IfSome found (λ place. place < text_len x.now)) }
     ensures refused { IfErr result (λ e. e ≡ CordError.ReadFailed) }
@@ -88,8 +86,8 @@ fn first_byte<S: Source>(
 {
     let mut buffer = [0; PIECE_LEN];
     let len = x.len();
-    let stretch = in_block(cord_stretch_at(x, from));
-    let piece = first_piece(stretch, &mut buffer, src)?;
+    let span = in_block(cord_span_at(x, from));
+    let piece = first_piece(span, &mut buffer, src)?;
     match memchr(byte, piece) {
         Some(found) => Ok(Some(from + found as u64)),
         None => {
@@ -115,8 +113,8 @@ fn first_after<S: Source>(
     requires low { from ≤ after }
     requires start { from < text_len x.now }
     requires inside { after ≤ text_len x.now }
-    requires none { (folder : Folder) → S.keeps src.old folder →
-        StandsNot (S.table src.old folder) x.now (byte ∷ []) from after }
+    requires none { (file_system : FileSystem) → S.consistent src.old file_system →
+        StandsNot (S.table src.old file_system) x.now (byte ∷ []) from after }
     requires fits { CordFitsIn (S.lengths src.old) x.now }
     ensures first { FindsBytes ⟦<S as Source>⟧ src.old src.new x.now from (byte ∷ []) result }
     ensures from { IfOk result (λ found. IfSome found (λ place. from ≤ place)) }
@@ -128,12 +126,12 @@ fn first_after<S: Source>(
     let mut place = after;
     let mut position = Position::set(x, from);
     while place < len {
-        let stretch = stretch_from(&mut position, place);
-        if let Some(count) = run_without(stretch, byte) {
+        let span = span_from(&mut position, place);
+        if let Some(count) = run_without(span, byte) {
             place += count;
             continue;
         }
-        let block = in_block(stretch);
+        let block = in_block(span);
         let piece = first_piece(block, &mut buffer, src)?;
         match memchr(byte, piece) {
             Some(found) => return Ok(Some(place + found as u64)),
@@ -152,8 +150,8 @@ fn last_byte<S: Source>(x: &Cord, at: u64, byte: u8, src: &mut S) -> Result<Opti
     ensures read { HasRead ⟦<S as Source>⟧ src.old src.new result }
 {
     let mut buffer = [0; PIECE_LEN];
-    let stretch = cord_stretch_to(x, at);
-    let piece = last_piece(stretch, &mut buffer, src)?;
+    let span = cord_span_to(x, at);
+    let piece = last_piece(span, &mut buffer, src)?;
     let start = at - (piece.len() as u64 - 1);
     match memrchr(byte, piece) {
         Some(found) => Ok(Some(start + found as u64)),
@@ -177,8 +175,8 @@ fn last_before<S: Source>(
 ) -> Result<Option<u64>, ReadFault>
     requires inside { at < text_len x.now }
     requires high { before ≤ at + 1 }
-    requires none { (folder : Folder) → S.keeps src.old folder →
-        HasNot (S.table src.old folder) x.now byte before (at + 1) }
+    requires none { (file_system : FileSystem) → S.consistent src.old file_system →
+        HasNot (S.table src.old file_system) x.now byte before (at + 1) }
     requires fits { CordFitsIn (S.lengths src.old) x.now }
     ensures last { FindsLast ⟦<S as Source>⟧ src.old src.new x.now at byte result }
     ensures up_to { IfOk result (λ found. IfSome found (λ place. place ≤ at)) }
@@ -188,12 +186,12 @@ fn last_before<S: Source>(
     let mut end = before;
     let mut position = Position::set(x, at);
     while 0 < end {
-        let stretch = stretch_up_to(&mut position, end);
-        if let Some(count) = run_without(stretch, byte) {
+        let span = span_up_to(&mut position, end);
+        if let Some(count) = run_without(span, byte) {
             end -= count;
             continue;
         }
-        let piece = last_piece(stretch, &mut buffer, src)?;
+        let piece = last_piece(span, &mut buffer, src)?;
         let start = end - piece.len() as u64;
         match memrchr(byte, piece) {
             Some(found) => return Ok(Some(start + found as u64)),

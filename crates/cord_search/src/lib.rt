@@ -9,7 +9,7 @@ mod order;
 mod periods;
 mod pieces;
 mod slices;
-mod stretches;
+mod spans;
 mod substring;
 
 pub use bytes::{chr, fetch, rchr};

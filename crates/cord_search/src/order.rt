@@ -1,6 +1,6 @@
 // The order of texts.
 ghost use Rattle.std.specs.Prelude.{◌≡◌, ◌+◌, ◌<◌, ◌≤◌, take, drop, is_err, IsOk, IfOk, IfErr};
-ghost use Rattle.cord_io.specs.Device.{Folder, count_after};
+ghost use Rattle.cord_io.specs.Device.{FileSystem, count_after};
 ghost use Rattle.cord_io.specs.Frames.{LeavesSource};
 ghost use Rattle.cord_core.specs.Cord.{text_len, bytes_of, IsCord, CordFitsIn};
 ghost use Rattle.cord_core.specs.Texts.{order};
@@ -21,8 +21,8 @@ use std::cmp::Ordering;
 pub fn cmp<S: Source>(x: &Cord, y: &Cord, src: &mut S) -> Result<i8, CordError>
     requires left_fits { CordFitsIn (S.lengths src.old) x.now }
     requires right_fits { CordFitsIn (S.lengths src.old) y.now }
-    ensures order { (folder : Folder) → S.keeps src.new folder → IfOk result (λ sign.
-        sign ≡ order (bytes_of (S.table src.old folder) x.now) (bytes_of (S.table src.old folder) y.now)) }
+    ensures order { (file_system : FileSystem) → S.consistent src.new file_system → IfOk result (λ sign.
+        sign ≡ order (bytes_of (S.table src.old file_system) x.now) (bytes_of (S.table src.old file_system) y.now)) }
     ensures refused { IfErr result (λ e. e ≡ CordError.ReadFailed) }
     ensures count { S.failures src.new ≡ count_after (is_err result) (S.failures src.old) }
     ensures steady { S.failures src.old < u64.MAX → S.failures src.new ≡ S.failures src.old → IsOk result }
@@ -44,9 +44,9 @@ pub fn ncmp<S: Source>(
 ) -> Result<i8, CordError>
     requires left_fits { CordFitsIn (S.lengths src.old) x.now }
     requires right_fits { CordFitsIn (S.lengths src.old) y.now }
-    ensures order { (folder : Folder) → S.keeps src.new folder → IfOk result (λ sign.
-        sign ≡ order (take k (drop i (bytes_of (S.table src.old folder) x.now)))
-        (take k (drop j (bytes_of (S.table src.old folder) y.now)))) }
+    ensures order { (file_system : FileSystem) → S.consistent src.new file_system → IfOk result (λ sign.
+        sign ≡ order (take k (drop i (bytes_of (S.table src.old file_system) x.now)))
+        (take k (drop j (bytes_of (S.table src.old file_system) y.now)))) }
     ensures refused { IfErr result (λ e. e ≡ CordError.ReadFailed) }
     ensures count { S.failures src.new ≡ count_after (is_err result) (S.failures src.old) }
     ensures steady { S.failures src.old < u64.MAX → S.failures src.new ≡ S.failures src.old → IsOk result }
@@ -75,8 +75,8 @@ pub(crate) fn compare<'a, S: Source>(
     requires right_inside { 0 < right → j + right ≤ text_len y.now }
     requires left_fits { CordFitsIn (S.lengths src.old) x.now }
     requires right_fits { CordFitsIn (S.lengths src.old) y.now }
-    ensures order { (folder : Folder) → S.keeps src.new folder →
-        IfOk result (IsOrderOf (S.table src.old folder) x.now i left y.now j right) }
+    ensures order { (file_system : FileSystem) → S.consistent src.new file_system →
+        IfOk result (IsOrderOf (S.table src.old file_system) x.now i left y.now j right) }
     ensures read { HasRead ⟦<S as Source>⟧ src.old src.new result }
 {
     let (mut buffer, mut other_buffer) = ([0; PIECE_LEN], [0; PIECE_LEN]);
@@ -94,8 +94,8 @@ pub(crate) fn compare<'a, S: Source>(
             both - done,
         ) {
             Ahead::Same(count) => done += count,
-            Ahead::Apart(stretch, other) => {
-                let piece = first_piece(stretch, &mut buffer, src)?;
+            Ahead::Apart(span, other) => {
+                let piece = first_piece(span, &mut buffer, src)?;
                 let other = first_piece(other, &mut other_buffer, src)?;
                 let count = piece.len().min(other.len());
                 match order_of(&piece[..count], &other[..count]) {

@@ -1,9 +1,9 @@
 // Texts that repeat themselves, and the places that a search passes over by that.
 ghost use Rattle.std.specs.Prelude.{◌≡◌, ◌≢◌, ◌+◌, ◌<◌, ◌≤◌, length, take, slice_index, IfOk, IfSome};
-ghost use Rattle.cord_io.specs.Device.{Folder};
+ghost use Rattle.cord_io.specs.Device.{FileSystem};
 ghost use Rattle.cord_core.specs.Cord.{text_len, bytes_of, IsCord, CordFitsIn};
 ghost use Rattle.cord_search.specs.inner.Pieces.{StandsNot};
-ghost use Rattle.cord_search.specs.inner.Periods.{IsCommon, IsRepeated};
+ghost use Rattle.cord_search.specs.inner.Periods.{IsCommon, HasPeriods};
 ghost use Rattle.cord_search.specs.inner.Searches.{HasRead};
 
 use crate::PIECE_LEN;
@@ -24,19 +24,19 @@ pub(crate) struct Repeats {
 /// once, so that they stand nowhere twice within half their length.
 pub(crate) fn repeats_of<S: Source>(
     s: &Cord,
-    front: &[u8],
+    prefix: &[u8],
     src: &mut S,
 ) -> Result<Option<Repeats>, ReadFault>
     requires sound { IsCord s.now }
-    requires some { 0 < length front.now }
-    requires inside { length front.now ≤ text_len s.now }
+    requires some { 0 < length prefix.now }
+    requires inside { length prefix.now ≤ text_len s.now }
     requires fits { CordFitsIn (S.lengths src.old) s.now }
     ensures period { IfOk result (λ found. IfSome found (λ repeats. repeats.period ≤ text_len s.now)) }
-    ensures repeats { (folder : Folder) → S.keeps src.new folder →
-        IfOk result (λ found. IfSome found (IsRepeated (S.table src.old folder) s.now)) }
+    ensures repeats { (file_system : FileSystem) → S.consistent src.new file_system →
+        IfOk result (λ found. IfSome found (HasPeriods (S.table src.old file_system) s.now)) }
     ensures read { HasRead ⟦<S as Source>⟧ src.old src.new result }
 {
-    let Some(found) = memmem::find(&front[1..], &front[..front.len() / 2]) else {
+    let Some(found) = memmem::find(&prefix[1..], &prefix[..prefix.len() / 2]) else {
         return Ok(None);
     };
     let period = found as u64 + 1;
@@ -60,12 +60,13 @@ pub(crate) fn passed<S: Source>(
     requires fits { CordFitsIn (S.lengths src.old) x.now }
     requires pattern_fits { CordFitsIn (S.lengths src.old) s.now }
     requires period { IfSome repeats (λ r. r.period ≤ text_len s.now) }
-    requires repeats { (folder : Folder) → S.keeps src.old folder →
-        IfSome repeats (IsRepeated (S.table src.old folder) s.now) }
+    requires repeats { (file_system : FileSystem) → S.consistent src.old file_system →
+        IfSome repeats (HasPeriods (S.table src.old file_system) s.now) }
     ensures some { IfOk result (λ n. 0 < n) }
     ensures most { IfOk result (λ n. n ≤ text_len x.now + 1) }
-    ensures none { (folder : Folder) → S.keeps src.new folder → IfOk result (λ n.
-        StandsNot (S.table src.old folder) x.now (bytes_of (S.table src.old folder) s.now) (place + 1) (place + n)) }
+    ensures none { (file_system : FileSystem) → S.consistent src.new file_system → IfOk result (λ n.
+        StandsNot (S.table src.old file_system) x.now (bytes_of (S.table src.old file_system) s.now) (place + 1)
+        (place + n)) }
     ensures read { HasRead ⟦<S as Source>⟧ src.old src.new result }
 {
     let (len, pattern_len) = (x.len(), s.len());
@@ -102,8 +103,8 @@ fn common_len<'a, S: Source>(
     requires left_fits { CordFitsIn (S.lengths src.old) x.now }
     requires right_fits { CordFitsIn (S.lengths src.old) y.now }
     ensures most { IfOk result (λ n. n ≤ most) }
-    ensures common { (folder : Folder) → S.keeps src.new folder →
-        IfOk result (IsCommon (S.table src.old folder) x.now i y.now j most) }
+    ensures common { (file_system : FileSystem) → S.consistent src.new file_system →
+        IfOk result (IsCommon (S.table src.old file_system) x.now i y.now j most) }
     ensures read { HasRead ⟦<S as Source>⟧ src.old src.new result }
 {
     let (mut buffer, mut other_buffer) = ([0; PIECE_LEN], [0; PIECE_LEN]);
@@ -120,8 +121,8 @@ fn common_len<'a, S: Source>(
             most - done,
         ) {
             Ahead::Same(count) => done += count,
-            Ahead::Apart(stretch, other) => {
-                let piece = first_piece(stretch, &mut buffer, src)?;
+            Ahead::Apart(span, other) => {
+                let piece = first_piece(span, &mut buffer, src)?;
                 let other = first_piece(other, &mut other_buffer, src)?;
                 let both = piece.len().min(other.len());
                 let count = agreeing(piece, other);

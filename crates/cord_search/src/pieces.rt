@@ -1,44 +1,44 @@
 // Texts in pieces: slices of leaves as they are, runs and function parts through a buffer.
 ghost use Rattle.std.specs.Prelude.{◌≡◌, ◌+◌, ◌-◌, ◌<◌, ◌≤◌, length, IfOk, IsSome, OnOk};
-ghost use Rattle.cord_io.specs.Device.{Folder};
+ghost use Rattle.cord_io.specs.Device.{FileSystem};
 ghost use Rattle.cord_core.specs.Cord.{text_len, IsCord, CordFitsIn};
 ghost use Rattle.cord_search.specs.inner.Pieces.{IsPieceOf};
-ghost use Rattle.cord_pos.specs.Stretches.{stretch_len, StretchFitsIn, IsStretchOf};
-ghost use Rattle.cord_search.specs.inner.Stretches.{IsPartOf};
+ghost use Rattle.cord_pos.specs.Spans.{span_len, SpanFitsIn, IsSpanOf};
+ghost use Rattle.cord_search.specs.inner.Spans.{IsPartOf};
 ghost use Rattle.cord_search.specs.inner.Searches.{HasRead};
 
 use crate::PIECE_LEN;
-use crate::stretches::{cord_stretch_at, stretch_from};
+use crate::spans::{cord_span_at, span_from};
 use cord_core::Cord;
 use cord_io::{ReadFault, Source};
-use cord_pos::{Position, Stretch};
+use cord_pos::{Position, Span};
 
-// At least `count` bytes of a position's cord from a place on, which it has, where this stretch begins: the rest of a
+// At least `count` bytes of a position's cord from a place on, which it has, where this span begins: the rest of a
 // leaf where that is enough. Else they are copied, some times as many where there are, so that a search which goes on
 // after them copies no byte often. The position is moved on over the parts that are copied.
 pub(crate) fn window_at<'a, S: Source>(
     position: &mut Position,
     place: u64,
-    stretch: Stretch<'a>,
+    span: Span<'a>,
     count: usize,
     room: &'a mut [u8],
     src: &mut S,
 ) -> Result<&'a [u8], ReadFault>
     requires sound { IsCord position.old.cord }
-    requires stretch { IsStretchOf position.old.cord place stretch }
+    requires span { IsSpanOf position.old.cord place span }
     requires valid { IsSome position.old.index }
     requires most { count ≤ length room.old }
     requires inside { place + count ≤ text_len position.old.cord }
     requires fits { CordFitsIn (S.lengths src.old) position.old.cord }
     ensures enough { IfOk result (λ window. count ≤ length window.now) }
     ensures inside { IfOk result (λ window. place + length window.now ≤ text_len position.old.cord) }
-    ensures text { (folder : Folder) → S.keeps src.new folder →
-        IfOk result (λ window. IsPieceOf (S.table src.old folder) position.old.cord place window.now) }
+    ensures text { (file_system : FileSystem) → S.consistent src.new file_system →
+        IfOk result (λ window. IsPieceOf (S.table src.old file_system) position.old.cord place window.now) }
     ensures cord { position.new.cord ≡ position.old.cord }
     ensures valid { IsSome position.new.index }
     ensures read { HasRead ⟦<S as Source>⟧ src.old src.new result }
 {
-    if let Stretch::Bytes(bytes) = stretch {
+    if let Span::Bytes(bytes) = span {
         if count <= bytes.len() {
             return Ok(bytes);
         }
@@ -60,13 +60,13 @@ pub(crate) fn gather<S: Source>(
     requires some { 0 < length out.old }
     requires inside { place + length out.old ≤ text_len cord.now }
     requires fits { CordFitsIn (S.lengths src.old) cord.now }
-    ensures text { (folder : Folder) → S.keeps src.new folder →
-        OnOk result (IsPieceOf (S.table src.old folder) cord.now place out.new) }
+    ensures text { (file_system : FileSystem) → S.consistent src.new file_system →
+        OnOk result (IsPieceOf (S.table src.old file_system) cord.now place out.new) }
     ensures read { HasRead ⟦<S as Source>⟧ src.old src.new result }
 {
-    let stretch = cord_stretch_at(cord, place);
-    if out.len() as u64 <= stretch.len() {
-        copy_front(stretch, out, src)?;
+    let span = cord_span_at(cord, place);
+    if out.len() as u64 <= span.len() {
+        copy_prefix(span, out, src)?;
         return Ok(());
     }
     let mut position = Position::set(cord, place);
@@ -85,71 +85,71 @@ fn gather_by<S: Source>(
     requires valid { IsSome position.old.index }
     requires inside { place + length out.old ≤ text_len position.old.cord }
     requires fits { CordFitsIn (S.lengths src.old) position.old.cord }
-    ensures text { (folder : Folder) → S.keeps src.new folder →
-        OnOk result (IsPieceOf (S.table src.old folder) position.old.cord place out.new) }
+    ensures text { (file_system : FileSystem) → S.consistent src.new file_system →
+        OnOk result (IsPieceOf (S.table src.old file_system) position.old.cord place out.new) }
     ensures cord { position.new.cord ≡ position.old.cord }
     ensures valid { IsSome position.new.index }
     ensures read { HasRead ⟦<S as Source>⟧ src.old src.new result }
 {
     let mut done = 0;
     while done < out.len() {
-        let stretch = stretch_from(position, place + done as u64);
-        let count = stretch.len().min((out.len() - done) as u64) as usize;
-        copy_front(stretch, &mut out[done..done + count], src)?;
+        let span = span_from(position, place + done as u64);
+        let count = span.len().min((out.len() - done) as u64) as usize;
+        copy_prefix(span, &mut out[done..done + count], src)?;
         done += count;
     }
     Ok(())
 }
 
-// Copies the first bytes of a stretch, which has as many.
-pub(crate) fn copy_front<S: Source>(
-    stretch: Stretch,
+// Copies the first bytes of a span, which has as many.
+pub(crate) fn copy_prefix<S: Source>(
+    span: Span,
     out: &mut [u8],
     src: &mut S,
 ) -> Result<(), ReadFault>
     requires some { 0 < length out.old }
-    requires inside { length out.old ≤ stretch_len stretch }
-    requires fits { StretchFitsIn (S.lengths src.old) stretch }
-    ensures text { (folder : Folder) → S.keeps src.new folder →
-        OnOk result (IsPartOf (S.table src.old folder) stretch.entry 0 out.new) }
+    requires inside { length out.old ≤ span_len span }
+    requires fits { SpanFitsIn (S.lengths src.old) span }
+    ensures text { (file_system : FileSystem) → S.consistent src.new file_system →
+        OnOk result (IsPartOf (S.table src.old file_system) span.entry 0 out.new) }
     ensures read { HasRead ⟦<S as Source>⟧ src.old src.new result }
 {
-    match stretch {
-        Stretch::Bytes(bytes) => {
+    match span {
+        Span::Bytes(bytes) => {
             let count = out.len();
             out.copy_from_slice(&bytes[..count]);
             Ok(())
         }
-        Stretch::Run { byte, .. } => {
+        Span::Run { byte, .. } => {
             out.fill(byte);
             Ok(())
         }
-        Stretch::Func { id, start, .. } => src.read(id, start, out),
+        Span::Func { id, start, .. } => src.read(id, start, out),
     }
 }
 
-// The first bytes of a stretch: all of a leaf's, or at most `PIECE_LEN` of another part's.
+// The first bytes of a span: all of a leaf's, or at most `PIECE_LEN` of another part's.
 pub(crate) fn first_piece<'a, S: Source>(
-    stretch: Stretch<'a>,
+    span: Span<'a>,
     buffer: &'a mut [u8; PIECE_LEN],
     src: &mut S,
 ) -> Result<&'a [u8], ReadFault>
-    requires some { 0 < stretch_len stretch }
-    requires fits { StretchFitsIn (S.lengths src.old) stretch }
+    requires some { 0 < span_len span }
+    requires fits { SpanFitsIn (S.lengths src.old) span }
     ensures some { IfOk result (λ piece. 0 < length piece.now) }
-    ensures inside { IfOk result (λ piece. length piece.now ≤ stretch_len stretch.entry) }
-    ensures text { (folder : Folder) → S.keeps src.new folder →
-        IfOk result (λ piece. IsPartOf (S.table src.old folder) stretch.entry 0 piece.now) }
+    ensures inside { IfOk result (λ piece. length piece.now ≤ span_len span.entry) }
+    ensures text { (file_system : FileSystem) → S.consistent src.new file_system →
+        IfOk result (λ piece. IsPartOf (S.table src.old file_system) span.entry 0 piece.now) }
     ensures read { HasRead ⟦<S as Source>⟧ src.old src.new result }
 {
-    match stretch {
-        Stretch::Bytes(bytes) => Ok(bytes),
-        Stretch::Run { byte, len } => {
+    match span {
+        Span::Bytes(bytes) => Ok(bytes),
+        Span::Run { byte, len } => {
             let piece = &mut buffer[..piece_len(len)];
             piece.fill(byte);
             Ok(piece)
         }
-        Stretch::Func { id, start, len } => {
+        Span::Func { id, start, len } => {
             let piece = &mut buffer[..piece_len(len)];
             src.read(id, start, piece)?;
             Ok(piece)
@@ -157,29 +157,29 @@ pub(crate) fn first_piece<'a, S: Source>(
     }
 }
 
-// The last bytes of a stretch: all of a leaf's, or at most `PIECE_LEN` of another part's.
+// The last bytes of a span: all of a leaf's, or at most `PIECE_LEN` of another part's.
 pub(crate) fn last_piece<'a, S: Source>(
-    stretch: Stretch<'a>,
+    span: Span<'a>,
     buffer: &'a mut [u8; PIECE_LEN],
     src: &mut S,
 ) -> Result<&'a [u8], ReadFault>
-    requires some { 0 < stretch_len stretch }
-    requires fits { StretchFitsIn (S.lengths src.old) stretch }
+    requires some { 0 < span_len span }
+    requires fits { SpanFitsIn (S.lengths src.old) span }
     ensures some { IfOk result (λ piece. 0 < length piece.now) }
-    ensures inside { IfOk result (λ piece. length piece.now ≤ stretch_len stretch.entry) }
-    ensures text { (folder : Folder) → S.keeps src.new folder →
-        IfOk result (λ piece. IsPartOf (S.table src.old folder) stretch.entry
-        (stretch_len stretch.entry - length piece.now) piece.now) }
+    ensures inside { IfOk result (λ piece. length piece.now ≤ span_len span.entry) }
+    ensures text { (file_system : FileSystem) → S.consistent src.new file_system →
+        IfOk result (λ piece. IsPartOf (S.table src.old file_system) span.entry
+        (span_len span.entry - length piece.now) piece.now) }
     ensures read { HasRead ⟦<S as Source>⟧ src.old src.new result }
 {
-    match stretch {
-        Stretch::Bytes(bytes) => Ok(bytes),
-        Stretch::Run { byte, len } => {
+    match span {
+        Span::Bytes(bytes) => Ok(bytes),
+        Span::Run { byte, len } => {
             let piece = &mut buffer[..piece_len(len)];
             piece.fill(byte);
             Ok(piece)
         }
-        Stretch::Func { id, start, len } => {
+        Span::Func { id, start, len } => {
             let count = piece_len(len);
             let piece = &mut buffer[..count];
             src.read(id, start + (len - count as u64), piece)?;

@@ -13,12 +13,12 @@ const LANES: usize = 64;
 pub(crate) fn order_of(left: &[u8], right: &[u8]) -> Ordering
     ensures { result ≡ slice_cmp nat_cmp left.now right.now }
 {
-    let same = common_front(left, right);
+    let same = common_prefix(left, right);
     left[same..].cmp(&right[same..])
 }
 
 // A number of bytes with which both slices begin: the last ones that they have in common may be missing.
-fn common_front(left: &[u8], right: &[u8]) -> usize
+fn common_prefix(left: &[u8], right: &[u8]) -> usize
     ensures left { result ≤ length left.now }
     ensures right { result ≤ length right.now }
     ensures same { take result left.now ≡ take result right.now }

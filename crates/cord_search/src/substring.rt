@@ -1,21 +1,21 @@
 // The places of a text in another.
 ghost use Rattle.std.specs.Prelude.{◌≡◌, ◌+◌, ◌<◌, ◌≤◌, length, true, false, is_err, IsOk, IfOk, IfErr, IfSome};
-ghost use Rattle.cord_io.specs.Device.{Folder, count_after};
+ghost use Rattle.cord_io.specs.Device.{FileSystem, count_after};
 ghost use Rattle.cord_io.specs.Frames.{LeavesSource};
 ghost use Rattle.cord_core.specs.Cord.{text_len, bytes_of, IsCord, CordFitsIn};
 ghost use Rattle.cord_core.specs.Texts.{first};
 ghost use Rattle.cord_search.specs.inner.Pieces.{IsPieceOf, IsStanding, StandsNot};
-ghost use Rattle.cord_search.specs.inner.Periods.{IsRepeated};
+ghost use Rattle.cord_search.specs.inner.Periods.{HasPeriods};
 ghost use Rattle.cord_search.specs.inner.Searches.{FindsBytes, FindsText, HasRead};
 
 use crate::PIECE_LEN;
 use crate::order::compare;
 use crate::periods::{Repeats, passed, repeats_of};
 use crate::pieces::{gather, window_at};
-use crate::stretches::{cord_stretch_at, misfits, stretch_from};
+use crate::spans::{cord_span_at, misfits, span_from};
 use cord_core::Cord;
 use cord_io::{CordError, ReadFault, Source};
-use cord_pos::{Position, Stretch};
+use cord_pos::{Position, Span};
 use memchr::memmem::Finder;
 use std::cmp::Ordering;
 
@@ -23,9 +23,9 @@ use std::cmp::Ordering;
 const ROOM_LEN: usize = 4 * PIECE_LEN;
 
 // A longer text is looked for by at most so many bytes, its first ones, in windows of `WINDOW_LEN`.
-const FRONT_LEN: usize = 16_384;
+const PREFIX_LEN: usize = 16_384;
 
-const WINDOW_LEN: usize = 4 * FRONT_LEN;
+const WINDOW_LEN: usize = 4 * PREFIX_LEN;
 
 /// The first place of `x` at `start` or later where `s` stands, after `CORD_str` of `cord.h`. An empty `s` stands at
 /// each place up to the length of `x`. Refused with `ReadFailed` where a read failed.
@@ -55,8 +55,9 @@ const WINDOW_LEN: usize = 4 * FRONT_LEN;
 pub fn str<S: Source>(x: &Cord, start: u64, s: &Cord, src: &mut S) -> Result<Option<u64>, CordError>
     requires fits { CordFitsIn (S.lengths src.old) x.now }
     requires pattern_fits { CordFitsIn (S.lengths src.old) s.now }
-    ensures first { (folder : Folder) → S.keeps src.new folder → IfOk result (λ place.
-        place ≡ first (bytes_of (S.table src.old folder) x.now) start (bytes_of (S.table src.old folder) s.now)) }
+    ensures first { (file_system : FileSystem) → S.consistent src.new file_system → IfOk result (λ place.
+        place ≡ first (bytes_of (S.table src.old file_system) x.now) start
+        (bytes_of (S.table src.old file_system) s.now)) }
     ensures from { IfOk result (λ found. IfSome found (λ place. start ≤ place)) }
     ensures within { IfOk result (λ found. IfSome found (λ place. place + text_len s.now ≤ text_len x.now)) }
     ensures refused { IfErr result (λ e. e ≡ CordError.ReadFailed) }
@@ -76,7 +77,7 @@ pub fn str<S: Source>(x: &Cord, start: u64, s: &Cord, src: &mut S) -> Result<Opt
 }
 
 /// The most bytes that `find_bytes` looks for.
-pub const MOST_BYTES: usize = FRONT_LEN;
+pub const MOST_BYTES: usize = PREFIX_LEN;
 
 /// The first place of `x` at `start` or later where these bytes stand, as `str` finds those of a cord: at least one
 /// byte and at most `MOST_BYTES`. Refused with `ReadFailed` where a read failed.
@@ -89,8 +90,8 @@ pub fn find_bytes<S: Source>(
     requires some { 0 < length bytes.now }
     requires few { length bytes.now ≤ MOST_BYTES }
     requires fits { CordFitsIn (S.lengths src.old) x.now }
-    ensures first { (folder : Folder) → S.keeps src.new folder → IfOk result (λ place.
-        place ≡ first (bytes_of (S.table src.old folder) x.now) start bytes.now) }
+    ensures first { (file_system : FileSystem) → S.consistent src.new file_system → IfOk result (λ place.
+        place ≡ first (bytes_of (S.table src.old file_system) x.now) start bytes.now) }
     ensures from { IfOk result (λ found. IfSome found (λ place. start ≤ place)) }
     ensures within { IfOk result (λ found. IfSome found (λ place. place + length bytes.now ≤ text_len x.now)) }
     ensures refused { IfErr result (λ e. e ≡ CordError.ReadFailed) }
@@ -138,8 +139,8 @@ fn first_place<S: Source>(
     let len = s.len();
     if len <= PIECE_LEN as u64 {
         place_of_short::<PIECE_LEN, ROOM_LEN, S>(x, start, s, src)
-    } else if len <= FRONT_LEN as u64 {
-        place_of_short::<FRONT_LEN, WINDOW_LEN, S>(x, start, s, src)
+    } else if len <= PREFIX_LEN as u64 {
+        place_of_short::<PREFIX_LEN, WINDOW_LEN, S>(x, start, s, src)
     } else {
         place_of_long(x, start, s, src)
     }
@@ -167,8 +168,8 @@ fn place_of_short<const N: usize, const M: usize, S: Source>(
     ensures within { IfOk result (λ found. IfSome found (λ place. place + text_len s.now ≤ text_len x.now)) }
     ensures read { HasRead ⟦<S as Source>⟧ src.old src.new result }
 {
-    let mut front = [0; N];
-    let pattern = &mut front[..s.len() as usize];
+    let mut prefix = [0; N];
+    let pattern = &mut prefix[..s.len() as usize];
     gather(s, 0, pattern, src)?;
     let finder = Finder::new(pattern);
     let mut room = [0; M];
@@ -200,7 +201,7 @@ fn place_of_bytes<const M: usize, S: Source>(
     Ok(place)
 }
 
-// The first place of a text of more than `FRONT_LEN` bytes.
+// The first place of a text of more than `PREFIX_LEN` bytes.
 #[inline(never)]
 fn place_of_long<S: Source>(
     x: &Cord,
@@ -210,7 +211,7 @@ fn place_of_long<S: Source>(
 ) -> Result<Option<u64>, ReadFault>
     requires sound { IsCord x.now }
     requires pattern_sound { IsCord s.now }
-    requires long { FRONT_LEN ≤ text_len s.now }
+    requires long { PREFIX_LEN ≤ text_len s.now }
     requires inside { start + text_len s.now ≤ text_len x.now }
     requires fits { CordFitsIn (S.lengths src.old) x.now }
     requires pattern_fits { CordFitsIn (S.lengths src.old) s.now }
@@ -219,10 +220,10 @@ fn place_of_long<S: Source>(
     ensures within { IfOk result (λ found. IfSome found (λ place. place + text_len s.now ≤ text_len x.now)) }
     ensures read { HasRead ⟦<S as Source>⟧ src.old src.new result }
 {
-    let mut front = [0; FRONT_LEN];
-    gather(s, 0, &mut front, src)?;
-    let repeats = repeats_of(s, &front, src)?;
-    let finder = Finder::new(&front);
+    let mut prefix = [0; PREFIX_LEN];
+    gather(s, 0, &mut prefix, src)?;
+    let repeats = repeats_of(s, &prefix, src)?;
+    let finder = Finder::new(&prefix);
     let mut room = [0; WINDOW_LEN];
     let place = first_confirmed(x, start, s, &finder, repeats, &mut room, src)?;
     Ok(place)
@@ -234,7 +235,7 @@ fn first_confirmed<S: Source>(
     x: &Cord,
     start: u64,
     s: &Cord,
-    front: &Finder,
+    prefix: &Finder,
     repeats: Option<Repeats>,
     room: &mut [u8],
     src: &mut S,
@@ -242,12 +243,13 @@ fn first_confirmed<S: Source>(
     requires sound { IsCord x.now }
     requires pattern_sound { IsCord s.now }
     requires inside { start + text_len s.now ≤ text_len x.now }
-    requires some { 0 < length front.now }
-    requires room { length front.now ≤ length room.old }
-    requires front { (folder : Folder) → S.keeps src.old folder → IsPieceOf (S.table src.old folder) s.now 0 front.now }
+    requires some { 0 < length prefix.now }
+    requires room { length prefix.now ≤ length room.old }
+    requires prefix { (file_system : FileSystem) → S.consistent src.old file_system → IsPieceOf
+        (S.table src.old file_system) s.now 0 prefix.now }
     requires period { IfSome repeats (λ r. r.period ≤ text_len s.now) }
-    requires repeats { (folder : Folder) → S.keeps src.old folder →
-        IfSome repeats (IsRepeated (S.table src.old folder) s.now) }
+    requires repeats { (file_system : FileSystem) → S.consistent src.old file_system →
+        IfSome repeats (HasPeriods (S.table src.old file_system) s.now) }
     requires fits { CordFitsIn (S.lengths src.old) x.now }
     requires pattern_fits { CordFitsIn (S.lengths src.old) s.now }
     ensures first { FindsText ⟦<S as Source>⟧ src.old src.new x.now start s.now result }
@@ -258,7 +260,7 @@ fn first_confirmed<S: Source>(
     let last = x.len() - s.len();
     let mut place = start;
     while place <= last {
-        let Some(found) = first_of(x, place, front, room, src)? else {
+        let Some(found) = first_of(x, place, prefix, room, src)? else {
             return Ok(None);
         };
         if last < found {
@@ -294,7 +296,7 @@ fn first_of<S: Source>(
     if !lies_inside(start, head.len() as u64, x.len()) {
         return Ok(None);
     }
-    let Stretch::Bytes(leaf) = cord_stretch_at(x, start) else {
+    let Span::Bytes(leaf) = cord_span_at(x, start) else {
         return first_behind(x, start, start, finder, room, src);
     };
     if leaf.len() < head.len() {
@@ -325,8 +327,8 @@ fn first_behind<S: Source>(
     requires room { length finder.now ≤ length room.old }
     requires low { start ≤ after }
     requires inside { start < text_len x.now }
-    requires none { (folder : Folder) → S.keeps src.old folder →
-        StandsNot (S.table src.old folder) x.now finder.now start after }
+    requires none { (file_system : FileSystem) → S.consistent src.old file_system →
+        StandsNot (S.table src.old file_system) x.now finder.now start after }
     requires fits { CordFitsIn (S.lengths src.old) x.now }
     ensures first { FindsBytes ⟦<S as Source>⟧ src.old src.new x.now start finder.now result }
     ensures from { IfOk result (λ found. IfSome found (λ place. start ≤ place)) }
@@ -337,13 +339,13 @@ fn first_behind<S: Source>(
     let mut place = after;
     let mut position = Position::set(x, start);
     while lies_inside(place, head.len() as u64, x.len()) {
-        let stretch = stretch_from(&mut position, place);
-        let skipped = misfits(stretch, head);
+        let span = span_from(&mut position, place);
+        let skipped = misfits(span, head);
         if 0 < skipped {
             place += skipped;
             continue;
         }
-        let window = window_at(&mut position, place, stretch, head.len(), room, src)?;
+        let window = window_at(&mut position, place, span, head.len(), room, src)?;
         match finder.find(window) {
             Some(found) => return Ok(Some(place + found as u64)),
             None => place += (window.len() - head.len() + 1) as u64,
@@ -359,8 +361,8 @@ fn stands_at<S: Source>(x: &Cord, place: u64, s: &Cord, src: &mut S) -> Result<b
     requires inside { place + text_len s.now ≤ text_len x.now }
     requires fits { CordFitsIn (S.lengths src.old) x.now }
     requires pattern_fits { CordFitsIn (S.lengths src.old) s.now }
-    ensures stands { (folder : Folder) → S.keeps src.new folder →
-        IfOk result (IsStanding (S.table src.old folder) x.now place s.now) }
+    ensures stands { (file_system : FileSystem) → S.consistent src.new file_system →
+        IfOk result (IsStanding (S.table src.old file_system) x.now place s.now) }
     ensures read { HasRead ⟦<S as Source>⟧ src.old src.new result }
 {
     match compare(x, place, s.len(), s, 0, s.len(), src)? {

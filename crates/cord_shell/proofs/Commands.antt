@@ -55,8 +55,8 @@ asked app words m (Some q) is faults matches script unplanned show_plan =
 -- clap's error is one of those that the words have
 pub not_asked : (app : App) (words : List (List ℕ)) (e : Error) (why : NoRequest) → app ≡ command
     → (is_simple_and_free app ≡ true → HasKind (fault_of app words) e) → IsKindOf (kind_of e) why → IsNoRequest words why
-not_asked app words e why is faults told =
-    go why told (subst (λ (a : App). is_simple_and_free a ≡ true → HasKind (fault_of a words) e) is faults free)
+not_asked app words e why is faults reported =
+    go why reported (subst (λ (a : App). is_simple_and_free a ≡ true → HasKind (fault_of a words) e) is faults free)
   where
     go : (w : NoRequest) → IsKindOf (kind_of e) w → HasKind (fault_of command words) e → IsNoRequest words w
     go (Help text) k (inl memory) =

@@ -1,4 +1,4 @@
-pub mod Said
+pub mod Messages
 pub mod Commands
 pub mod Served
 pub mod Pieces

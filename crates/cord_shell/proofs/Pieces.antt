@@ -10,14 +10,15 @@ pub more_read : (text old new : List ℕ) (k : ℕ) → old ≡ take (length old
 more_read text old new k before more size =
     more ∙ ap (λ xs. xs ++ take k (drop (length old) text)) before ∙ sym (take-add (length old) k text) ∙ ap (λ n. take n text) (sym size)
 
--- the same, of a text at a path that was told
-pub more_of_told : (text : List ℕ → List ℕ) (told : Option (List ℕ × ℕ)) (old new piece rest : List ℕ) (k : ℕ)
-    → IsSomeAnd told (λ t. old ≡ take (length old) (text t.0)) → IsSomeAnd told (λ t. take k piece ≡ take k (drop (length old) (text t.0)))
+-- the same, of a text at a path that was reported
+pub more_of_reported : (text : List ℕ → List ℕ) (reported : Option (List ℕ × ℕ)) (old new piece rest : List ℕ) (k : ℕ)
+    → IsSomeAnd reported (λ t. old ≡ take (length old) (text t.0)) → IsSomeAnd reported
+    (λ t. take k piece ≡ take k (drop (length old) (text t.0)))
     → k ≤ length piece → new ≡ old ++ take k (piece ++ rest)
-    → IsSomeAnd told (λ t. new ≡ take (length new) (text t.0))
-more_of_told text None old new piece rest k before read inside more = before
-more_of_told text (Some t) old new piece rest k before read inside more =
-    let front = take-append-le k piece rest inside in
+    → IsSomeAnd reported (λ t. new ≡ take (length new) (text t.0))
+more_of_reported text None old new piece rest k before read inside more = before
+more_of_reported text (Some t) old new piece rest k before read inside more =
+    let prefix = take-append-le k piece rest inside in
     let size = ap (λ (xs : List ℕ). length xs) more ∙ length-append old (take k (piece ++ rest)) in
-    more_read (text t.0) old new k before (more ∙ ap (λ xs. old ++ xs) (front ∙ read))
-    (omega (arith, size, ap (λ (xs : List ℕ). length xs) front, length-take k piece, inside))
+    more_read (text t.0) old new k before (more ∙ ap (λ xs. old ++ xs) (prefix ∙ read))
+    (omega (arith, size, ap (λ (xs : List ℕ). length xs) prefix, length-take k piece, inside))

@@ -1,6 +1,6 @@
 pub mod CommandLine
 pub mod Outcomes
-pub mod Tells
+pub mod Reports
 pub mod Drives
 pub mod Headline
 pub mod Drove

@@ -18,7 +18,7 @@ status_of_end (NoMemory line) = 3
 status_of_end (ReadFailed line) = 4
 status_of_end (WriteFailed line) = 5
 
--- the status of a refusal: want of memory is none of the script
+-- the status of a refusal: out of memory is none of the script
 abbrev pub status_of_refusal : RefusalKind → ℕ
 status_of_refusal refusals.NoMemory = 3
 status_of_refusal _ = 2
@@ -30,9 +30,9 @@ status_of_outcome (outcomes.Refused refusal) = status_of_refusal refusal.kind
 status_of_outcome outcomes.NoScript = 2
 status_of_outcome outcomes.Unreadable = 4
 status_of_outcome outcomes.NoMemory = 3
-status_of_outcome outcomes.PlanShown = 0
+status_of_outcome outcomes.PlanPrinted = 0
 status_of_outcome outcomes.PlanUnwritten = 5
-status_of_outcome outcomes.HelpShown = 0
+status_of_outcome outcomes.HelpPrinted = 0
 status_of_outcome outcomes.HelpUnwritten = 5
 status_of_outcome outcomes.BadCommandLine = 2
 
@@ -55,8 +55,8 @@ message_of (outcomes.Refused refusal) = line_text refusal.line (text_of refusal.
 message_of outcomes.NoScript = line_text 0 (fault_text NoFile)
 message_of outcomes.Unreadable = line_text 0 (codes "read failed")
 message_of outcomes.NoMemory = line_text 0 (codes "no memory")
-message_of outcomes.PlanShown = []
+message_of outcomes.PlanPrinted = []
 message_of outcomes.PlanUnwritten = line_text 0 (codes "write failed")
-message_of outcomes.HelpShown = []
+message_of outcomes.HelpPrinted = []
 message_of outcomes.HelpUnwritten = line_text 0 (codes "write failed")
 message_of outcomes.BadCommandLine = codes "cordsh: bad command line\n"

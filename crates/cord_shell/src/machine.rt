@@ -1,9 +1,9 @@
 //! The program over the machine's devices.
 ghost use Rattle.std.specs.Prelude.{◌≡◌, ℕ, List, Bool, true, false, Some, None, map};
 ghost use Rattle.std.specs.String.{string_bytes};
-ghost use Rattle.cord_io.specs.Device.{Folder, file_at};
-ghost use Rattle.cord_io.specs.DiskTold.{told_by};
-ghost use Rattle.cord_io.specs.Told.{Agrees};
+ghost use Rattle.cord_io.specs.Device.{FileSystem, file_at};
+ghost use Rattle.cord_io.specs.DiskReported.{reported_by};
+ghost use Rattle.cord_io.specs.Reported.{Agrees};
 ghost use Rattle.cord_script.specs.Script.{Reads};
 ghost use Rattle.cord_syntax.specs.declared.statements.Statement.{Statement};
 ghost use Rattle.cord_shell.specs.CommandLine.{AsksFor};
@@ -12,13 +12,13 @@ ghost use Rattle.cord_shell.specs.Headline.{MissesOver, RefusesOver, RunsOver, S
 
 use crate::program::drive;
 use cord_io::{DiskFiles, Files, Sink, StdSink};
-use cord_script::{bytes_are_one_script, read_scripts_have_no_flaw};
+use cord_script::{bytes_are_one_script, read_scripts_have_no_error};
 use std::alloc::Global;
 use std::io::Write;
 use std::os::unix::fs::FileExt;
 use std::rt;
 
-/// What came of the program: its exit status, and the machine's devices, which have told all that they were asked.
+/// What came of the program: its exit status, and the machine's devices, which have reported all that they were asked.
 #[derive(Drop)]
 pub struct Ran<R: rt::Files, O, E> {
     /// The exit status.
@@ -32,20 +32,20 @@ pub struct Ran<R: rt::Files, O, E> {
 }
 
 /// The program over the machine's files and its two streams, by the words after its name:
-/// `[--unplanned] [--show-plan] SCRIPT`, as clap reads them. It is judged by what the machine told: by each folder with
-/// which all answers of the machine's files agree, and by the bytes that the streams told they took.
+/// `[--unplanned] [--show-plan] SCRIPT`, as clap reads them. It is judged by what the machine reported: by each file
+/// system with which all answers of the machine's files agree, and by the bytes that the streams reported they took.
 ///
-/// `drove`: whatever the words are, and though no folder agrees, the status, the output and the line on standard error
-/// are those of one of the things that the words can come to: help, a refused command line, a script that is run,
-/// shown, refused, missing or can't be read, or want of memory. It is what `drive` says.
+/// `drove`: whatever the words are, and though no file system agrees, the status, the output and the line on standard
+/// error are those of one of the things that the words can come to: help, a refused command line, a script that is run,
+/// shown, refused, missing or can't be read, or out of memory. It is what `drive` says.
 /// `run`: where the bytes at SCRIPT are read as a script, the script is run. Standard output took exactly the bytes
-/// that the script puts over the folder, and the status and the line on standard error are those of the script's end.
-/// Or it took a prefix of those bytes, and they are those of the cause that came: a failed read, a failed write, or
-/// want of memory.
-/// `shown`: with `--show-plan` standard output took the text of its plan, or a prefix where it failed, and nothing
+/// that the script puts over the file system, and the status and the line on standard error are those of the script's
+/// end. Or it took a prefix of those bytes, and they are those of the cause that came: a failed read, a failed write,
+/// or out of memory.
+/// `printed`: with `--show-plan` standard output took the text of its plan, or a prefix where it failed, and nothing
 /// was run.
-/// `refused`: bytes that no script has are refused for their first flaw, and nothing is written.
-/// `missing`: a SCRIPT that isn't in the folder is named as missing, and nothing is written.
+/// `refused`: bytes that no script has are refused for their first error, and nothing is written.
+/// `missing`: a SCRIPT that isn't in the file system is named as missing, and nothing is written.
 pub fn run_on_machine<R: rt::Files, O: Write, E: Write>(
     runtime: R,
     alloc: Global,
@@ -55,37 +55,39 @@ pub fn run_on_machine<R: rt::Files, O: Write, E: Write>(
 ) -> Ran<R, O, E>
 where
     R::File: FileExt,
-    ensures drove { Drove (λ folder. Agrees folder (told_by result.files)) (map string_bytes words.now)
+    ensures drove { Drove (λ file_system. Agrees file_system (reported_by result.files)) (map string_bytes words.now)
         (answer_of ⟦<DiskFiles<R> as Files>⟧ ⟦<StdSink<O> as Sink>⟧ ⟦<StdSink<E> as Sink>⟧
         result.status result.files result.out result.err) }
-    ensures run { (folder : Folder) → Agrees folder (told_by result.files) →
+    ensures run { (file_system : FileSystem) → Agrees file_system (reported_by result.files) →
         (path b : List ℕ) (unplanned : Bool) (statements : List Statement) →
-        AsksFor (map string_bytes words.now) path unplanned false → file_at folder path ≡ Some b → Reads b statements →
-        RunsOver b statements folder
+        AsksFor (map string_bytes words.now) path unplanned false → file_at file_system path ≡ Some b → Reads b
+        statements →
+        RunsOver b statements file_system
         (answer_of ⟦<DiskFiles<R> as Files>⟧ ⟦<StdSink<O> as Sink>⟧ ⟦<StdSink<E> as Sink>⟧
         result.status result.files result.out result.err) }
-    ensures shown { (folder : Folder) → Agrees folder (told_by result.files) →
+    ensures printed { (file_system : FileSystem) → Agrees file_system (reported_by result.files) →
         (path b : List ℕ) (unplanned : Bool) (statements : List Statement) →
-        AsksFor (map string_bytes words.now) path unplanned true → file_at folder path ≡ Some b → Reads b statements →
+        AsksFor (map string_bytes words.now) path unplanned true → file_at file_system path ≡ Some b → Reads b
+        statements →
         ShowsOver unplanned b statements
         (answer_of ⟦<DiskFiles<R> as Files>⟧ ⟦<StdSink<O> as Sink>⟧ ⟦<StdSink<E> as Sink>⟧
         result.status result.files result.out result.err) }
-    ensures refused { (folder : Folder) → Agrees folder (told_by result.files) →
+    ensures refused { (file_system : FileSystem) → Agrees file_system (reported_by result.files) →
         (path b : List ℕ) (unplanned show_plan : Bool) →
-        AsksFor (map string_bytes words.now) path unplanned show_plan → file_at folder path ≡ Some b →
+        AsksFor (map string_bytes words.now) path unplanned show_plan → file_at file_system path ≡ Some b →
         ((statements : List Statement) → Reads b statements → ⊥) →
         RefusesOver b
         (answer_of ⟦<DiskFiles<R> as Files>⟧ ⟦<StdSink<O> as Sink>⟧ ⟦<StdSink<E> as Sink>⟧
         result.status result.files result.out result.err) }
-    ensures missing { (folder : Folder) → Agrees folder (told_by result.files) →
+    ensures missing { (file_system : FileSystem) → Agrees file_system (reported_by result.files) →
         (path : List ℕ) (unplanned show_plan : Bool) →
-        AsksFor (map string_bytes words.now) path unplanned show_plan → file_at folder path ≡ None →
+        AsksFor (map string_bytes words.now) path unplanned show_plan → file_at file_system path ≡ None →
         MissesOver
         (answer_of ⟦<DiskFiles<R> as Files>⟧ ⟦<StdSink<O> as Sink>⟧ ⟦<StdSink<E> as Sink>⟧
         result.status result.files result.out result.err) }
 {
     bytes_are_one_script();
-    read_scripts_have_no_flaw();
+    read_scripts_have_no_error();
     drive_machine(runtime, alloc, words, stdout, stderr)
 }
 
@@ -99,7 +101,7 @@ fn drive_machine<R: rt::Files, O: Write, E: Write>(
 ) -> Ran<R, O, E>
 where
     R::File: FileExt,
-    ensures { Drove (λ folder. Agrees folder (told_by result.files)) (map string_bytes words.now)
+    ensures { Drove (λ file_system. Agrees file_system (reported_by result.files)) (map string_bytes words.now)
         (answer_of ⟦<DiskFiles<R> as Files>⟧ ⟦<StdSink<O> as Sink>⟧ ⟦<StdSink<E> as Sink>⟧
         result.status result.files result.out result.err) }
 {

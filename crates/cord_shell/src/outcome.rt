@@ -4,7 +4,7 @@ ghost use Rattle.cord_io.specs.SinkCounts.{sink_counts};
 ghost use Rattle.cord_shell.specs.Outcomes.{line_text, message_of, message_of_end, status_of_end};
 ghost use Rattle.cord_shell.specs.inner.Outcomes.{outcome_of};
 ghost use Rattle.cord_shell.specs.Outcomes.{status_of_outcome};
-ghost use Rattle.cord_shell.specs.Tells.{IsCut, IsWritten, Says, Tells};
+ghost use Rattle.cord_shell.specs.Reports.{IsCut, IsWritten, Says, Reports};
 
 use arrayvec::ArrayString;
 use cord_io::{Sink, WriteFault};
@@ -27,11 +27,11 @@ pub enum Outcome {
     /// Memory was refused before the run.
     NoMemory,
     /// The script was read, and its plan shown.
-    PlanShown,
+    PlanPrinted,
     /// The plan could not be written.
     PlanUnwritten,
     /// The help was shown.
-    HelpShown,
+    HelpPrinted,
     /// The help could not be written.
     HelpUnwritten,
     /// The words are not the program's.
@@ -62,7 +62,7 @@ impl Outcome {
             Outcome::NoScript => 2,
             Outcome::Unreadable => 4,
             Outcome::NoMemory => 3,
-            Outcome::PlanShown | Outcome::HelpShown => 0,
+            Outcome::PlanPrinted | Outcome::HelpPrinted => 0,
             Outcome::PlanUnwritten | Outcome::HelpUnwritten => 5,
             Outcome::BadCommandLine => 2,
         }
@@ -115,49 +115,49 @@ pub fn write_text<S: Sink>(text: &str, sink: &mut S) -> Result<(), WriteFault>
 }
 
 // Hands a message over. A fault changes nothing else.
-fn tell<T: Sink>(message: &str, err: &mut T)
+fn put_message<T: Sink>(message: &str, err: &mut T)
     ensures { Says (T.taken err.old) (T.taken err.new)
         (sink_counts ⟦<T as Sink>⟧ err.old err.new) message.now }
 {
     let _ = write_text(message, err);
 }
 
-fn tell_at<T: Sink>(line: u32, text: &str, err: &mut T)
+fn put_message_at<T: Sink>(line: u32, text: &str, err: &mut T)
     requires { length text.now ≤ MAX_TEXT }
     ensures { Says (T.taken err.old) (T.taken err.new)
         (sink_counts ⟦<T as Sink>⟧ err.old err.new) (line_text line text.now) }
 {
     let message = message_at(line, text);
-    tell(message.as_str(), err);
+    put_message(message.as_str(), err);
 }
 
 // Tells how a run went wrong.
 fn report_end<T: Sink>(end: &End, err: &mut T)
-    ensures { Tells (T.taken err.old) (T.taken err.new)
+    ensures { Reports (T.taken err.old) (T.taken err.new)
         (sink_counts ⟦<T as Sink>⟧ err.old err.new) (message_of_end end.now) }
 {
     match end {
         End::Done => {}
-        End::Fault(line, kind) => tell_at(*line, kind.text(), err),
-        End::NoMemory(line) => tell_at(*line, "no memory", err),
-        End::ReadFailed(line) => tell_at(*line, "read failed", err),
-        End::WriteFailed(line) => tell_at(*line, "write failed", err),
+        End::Fault(line, kind) => put_message_at(*line, kind.text(), err),
+        End::NoMemory(line) => put_message_at(*line, "no memory", err),
+        End::ReadFailed(line) => put_message_at(*line, "read failed", err),
+        End::WriteFailed(line) => put_message_at(*line, "write failed", err),
     }
 }
 
 /// Tells what went wrong; where nothing did, nothing. A fault of `err` stops the message.
 pub fn report<T: Sink>(outcome: &Outcome, err: &mut T)
-    ensures { Tells (T.taken err.old) (T.taken err.new)
+    ensures { Reports (T.taken err.old) (T.taken err.new)
         (sink_counts ⟦<T as Sink>⟧ err.old err.new) (message_of outcome.now) }
 {
     match outcome {
         Outcome::Ended(end) => report_end(end, err),
-        Outcome::Refused(refusal) => tell_at(refusal.line, refusal.kind.text(), err),
-        Outcome::NoScript => tell_at(0, FaultKind::NoFile.text(), err),
-        Outcome::Unreadable => tell_at(0, "read failed", err),
-        Outcome::NoMemory => tell_at(0, "no memory", err),
-        Outcome::PlanShown | Outcome::HelpShown => {}
-        Outcome::PlanUnwritten | Outcome::HelpUnwritten => tell_at(0, "write failed", err),
-        Outcome::BadCommandLine => tell("cordsh: bad command line\n", err),
+        Outcome::Refused(refusal) => put_message_at(refusal.line, refusal.kind.text(), err),
+        Outcome::NoScript => put_message_at(0, FaultKind::NoFile.text(), err),
+        Outcome::Unreadable => put_message_at(0, "read failed", err),
+        Outcome::NoMemory => put_message_at(0, "no memory", err),
+        Outcome::PlanPrinted | Outcome::HelpPrinted => {}
+        Outcome::PlanUnwritten | Outcome::HelpUnwritten => put_message_at(0, "write failed", err),
+        Outcome::BadCommandLine => put_message("cordsh: bad command line\n", err),
     }
 }

@@ -1,14 +1,14 @@
 //! The program over any devices.
 ghost use Rattle.std.specs.Prelude.{◌≡◌, ◌<◌, ◌-◌, ◌^◌, false, true, map, IfOk, IsOkUnless, OnOk, OnErr};
 ghost use Rattle.std.specs.String.{string_bytes};
-ghost use Rattle.cord_io.specs.Device.{Folder};
+ghost use Rattle.cord_io.specs.Device.{FileSystem};
 ghost use Rattle.cord_io.specs.SinkCounts.{sink_counts};
-ghost use Rattle.cord_plan.specs.Shown.{shown};
+ghost use Rattle.cord_plan.specs.PlanText.{text_of_plan};
 ghost use Rattle.cord_plan.specs.Views.{operation_view};
 ghost use Rattle.cord_run.specs.Runs.{counts_over};
-ghost use Rattle.cord_shell.specs.Drives.{ComesTo, IsHelp, IsPlan, IsRun, IsShown, Serves};
+ghost use Rattle.cord_shell.specs.Drives.{ComesTo, IsHelp, IsPlan, IsRun, IsPrinted, Serves};
 ghost use Rattle.cord_shell.specs.Outcomes.{message_of, status_of_outcome};
-ghost use Rattle.cord_shell.specs.Tells.{IsCut, IsWritten, Tells};
+ghost use Rattle.cord_shell.specs.Reports.{IsCut, IsWritten, Reports};
 ghost use Rattle.cord_shell.specs.declared.outcome.Outcome.{Outcome};
 
 use crate::outcome::{Outcome, report, write_text};
@@ -30,9 +30,9 @@ fn run_script<F: Files, S: Sink>(
 ) -> (Outcome, F)
     requires files_count { F.failures files < 2 ^ 64 - 1 }
     requires out_count { S.failures out.old < 2 ^ 64 - 1 }
-    ensures run { IsRun (F.keeps result.1) script.now (S.taken out.old) (S.taken out.new)
+    ensures run { IsRun (F.consistent result.1) script.now (S.taken out.old) (S.taken out.new)
         (counts_over ⟦<F as Files>⟧ ⟦<S as Sink>⟧ files result.1 out.old out.new) result.0 }
-    ensures earlier { (folder : Folder) → F.keeps result.1 folder → F.keeps files folder }
+    ensures earlier { (file_system : FileSystem) → F.consistent result.1 file_system → F.consistent files file_system }
 {
     if unplanned {
         let (answer, files) = run_unplanned(alloc, script, files, out);
@@ -57,9 +57,9 @@ fn plan_of(alloc: Global, unplanned: bool, script: &Script) -> Result<Plan, Cord
 
 // Writes the plan's text, and ends it.
 fn write_plan<S: Sink>(plan: &Plan, out: &mut S) -> Result<(), WriteFault>
-    ensures ok { OnOk result (IsWritten (shown (map operation_view plan.now)) (S.taken out.old) (S.taken out.new)
+    ensures ok { OnOk result (IsWritten (text_of_plan (map operation_view plan.now)) (S.taken out.old) (S.taken out.new)
         (sink_counts ⟦<S as Sink>⟧ out.old out.new)) }
-    ensures err { OnErr result (IsCut (shown (map operation_view plan.now)) (S.taken out.old) (S.taken out.new)
+    ensures err { OnErr result (IsCut (text_of_plan (map operation_view plan.now)) (S.taken out.old) (S.taken out.new)
         (sink_counts ⟦<S as Sink>⟧ out.old out.new)) }
 {
     match plan.show(out) {
@@ -71,7 +71,7 @@ fn write_plan<S: Sink>(plan: &Plan, out: &mut S) -> Result<(), WriteFault>
 // Shows the plan of a script.
 fn show_script<S: Sink>(alloc: Global, unplanned: bool, script: &[u8], out: &mut S) -> Outcome
     requires out_count { S.failures out.old < 2 ^ 64 - 1 }
-    ensures { IsShown unplanned script.now (S.taken out.old) (S.taken out.new)
+    ensures { IsPrinted unplanned script.now (S.taken out.old) (S.taken out.new)
         (sink_counts ⟦<S as Sink>⟧ out.old out.new) result }
 {
     let read = match parse(alloc, script) {
@@ -82,7 +82,7 @@ fn show_script<S: Sink>(alloc: Global, unplanned: bool, script: &[u8], out: &mut
         return Outcome::NoMemory;
     };
     match write_plan(&plan, out) {
-        Ok(()) => Outcome::PlanShown,
+        Ok(()) => Outcome::PlanPrinted,
         Err(_) => Outcome::PlanUnwritten,
     }
 }
@@ -96,10 +96,10 @@ fn serve<F: Files, S: Sink>(
 ) -> (Outcome, F)
     requires files_count { F.failures files < 2 ^ 64 - 1 }
     requires out_count { S.failures out.old < 2 ^ 64 - 1 }
-    ensures run { Serves (F.keeps result.1) request.now.script.now request.now.unplanned request.now.show_plan
+    ensures run { Serves (F.consistent result.1) request.now.script.now request.now.unplanned request.now.show_plan
         (S.taken out.old) (S.taken out.new)
         (counts_over ⟦<F as Files>⟧ ⟦<S as Sink>⟧ files result.1 out.old out.new) result.0 }
-    ensures earlier { (folder : Folder) → F.keeps result.1 folder → F.keeps files folder }
+    ensures earlier { (file_system : FileSystem) → F.consistent result.1 file_system → F.consistent files file_system }
 {
     match read_whole(alloc, &mut files, request.script, MAX_SCRIPT as u64) {
         Err(Unread::NotFound) => (Outcome::NoScript, files),
@@ -129,7 +129,7 @@ fn show_help<S: Sink>(text: &str, out: &mut S) -> Outcome
         (sink_counts ⟦<S as Sink>⟧ out.old out.new) result }
 {
     match write_text(text, out) {
-        Ok(()) => Outcome::HelpShown,
+        Ok(()) => Outcome::HelpPrinted,
         Err(_) => Outcome::HelpUnwritten,
     }
 }
@@ -138,9 +138,9 @@ fn show_help<S: Sink>(text: &str, out: &mut S) -> Outcome
 fn answer<F: Files, S: Sink>(alloc: Global, words: &[String], files: F, out: &mut S) -> (Outcome, F)
     requires files_count { F.failures files < 2 ^ 64 - 1 }
     requires out_count { S.failures out.old < 2 ^ 64 - 1 }
-    ensures run { ComesTo (F.keeps result.1) (map string_bytes words.now) (S.taken out.old) (S.taken out.new)
+    ensures run { ComesTo (F.consistent result.1) (map string_bytes words.now) (S.taken out.old) (S.taken out.new)
         (counts_over ⟦<F as Files>⟧ ⟦<S as Sink>⟧ files result.1 out.old out.new) result.0 }
-    ensures earlier { (folder : Folder) → F.keeps result.1 folder → F.keeps files folder }
+    ensures earlier { (file_system : FileSystem) → F.consistent result.1 file_system → F.consistent files file_system }
 {
     match read_words(alloc, words) {
         Ok(request) => serve(alloc, &request, files, out),
@@ -163,11 +163,11 @@ pub fn drive<F: Files, S: Sink, T: Sink>(
     requires files_count { F.failures files < 2 ^ 64 - 1 }
     requires out_count { S.failures out.old < 2 ^ 64 - 1 }
     ensures drives { (outcome : Outcome)
-        × ComesTo (F.keeps result.1) (map string_bytes words.now) (S.taken out.old) (S.taken out.new)
+        × ComesTo (F.consistent result.1) (map string_bytes words.now) (S.taken out.old) (S.taken out.new)
         (counts_over ⟦<F as Files>⟧ ⟦<S as Sink>⟧ files result.1 out.old out.new) outcome
         × (result.0 ≡ status_of_outcome outcome)
-        × Tells (T.taken err.old) (T.taken err.new) (sink_counts ⟦<T as Sink>⟧ err.old err.new) (message_of outcome) }
-    ensures earlier { (folder : Folder) → F.keeps result.1 folder → F.keeps files folder }
+        × Reports (T.taken err.old) (T.taken err.new) (sink_counts ⟦<T as Sink>⟧ err.old err.new) (message_of outcome) }
+    ensures earlier { (file_system : FileSystem) → F.consistent result.1 file_system → F.consistent files file_system }
 {
     let (outcome, files) = answer(alloc, words, files, out);
     report(&outcome, err);

@@ -1,6 +1,6 @@
 //! Reads whole files.
 ghost use Rattle.std.specs.Prelude.{◌≡◌, ◌<◌, ◌≤◌, ◌-◌, ◌^◌, ℕ, IfOk, IfErr, Some, IsSomeAnd, length};
-ghost use Rattle.cord_io.specs.Device.{Folder, file_at, bytes_at, count_after};
+ghost use Rattle.cord_io.specs.Device.{FileSystem, file_at, bytes_at, count_after};
 ghost use Rattle.cord_shell.specs.inner.Files.{HasCause, IsFailedOrMemory, read_failed};
 
 use cord_io::{FileNo, Files, OpenFault};
@@ -18,18 +18,19 @@ pub enum Unread {
 // How many bytes are asked for at once.
 const BLOCK: usize = 512;
 
-/// All bytes of a file that is not longer than `most`, as each folder holds them that the files keep then.
+/// All bytes of a file that is not longer than `most`, as each file system holds them that the files keep then.
 pub fn read_whole<F: Files>(
     alloc: Global,
     files: &mut F,
     path: &str,
     most: u64,
 ) -> Result<Vec<u8>, Unread>
-    ensures earlier { (folder : Folder) → F.keeps files.new folder → F.keeps files.old folder }
-    ensures found { (folder : Folder) → F.keeps files.new folder →
-        IfOk result (λ v. file_at folder path.now ≡ Some v.items) }
-    ensures cause { (folder : Folder) → F.keeps files.new folder →
-        IfErr result (λ e. HasCause (file_at folder path.now) most e) }
+    ensures earlier { (file_system : FileSystem) → F.consistent files.new file_system → F.consistent files.old
+        file_system }
+    ensures found { (file_system : FileSystem) → F.consistent files.new file_system →
+        IfOk result (λ v. file_at file_system path.now ≡ Some v.items) }
+    ensures cause { (file_system : FileSystem) → F.consistent files.new file_system →
+        IfErr result (λ e. HasCause (file_at file_system path.now) most e) }
     ensures count { F.failures files.new ≡ count_after (read_failed result) (F.failures files.old) }
 {
     match files.open(path) {
@@ -51,11 +52,12 @@ fn read_opened<F: Files>(
     no: FileNo,
     len: u64,
 ) -> Result<Vec<u8>, Unread>
-    requires opened { IsSomeAnd (F.opened files.old no.0) (λ told. told.1 ≡ len) }
-    ensures earlier { (folder : Folder) → F.keeps files.new folder → F.keeps files.old folder }
-    ensures read { (folder : Folder) → F.keeps files.new folder → IfOk result (λ v.
-        IsSomeAnd (F.opened files.old no.0) (λ told.
-        length (bytes_at folder told.0) ≡ len → v.items ≡ bytes_at folder told.0)) }
+    requires opened { IsSomeAnd (F.opened files.old no.0) (λ reported. reported.1 ≡ len) }
+    ensures earlier { (file_system : FileSystem) → F.consistent files.new file_system → F.consistent files.old
+        file_system }
+    ensures read { (file_system : FileSystem) → F.consistent files.new file_system → IfOk result (λ v.
+        IsSomeAnd (F.opened files.old no.0) (λ reported.
+        length (bytes_at file_system reported.0) ≡ len → v.items ≡ bytes_at file_system reported.0)) }
     ensures count { F.failures files.new ≡ count_after (read_failed result) (F.failures files.old) }
     ensures why { IfErr result IsFailedOrMemory }
 {

@@ -1,4 +1,4 @@
-//! Rows of the program's words: the status, what is written and what is told.
+//! Cases of the program's words: the status, what is written and what is reported.
 
 // The value of a call, which is made again where it was refused memory.
 macro_rules! again {
@@ -10,12 +10,12 @@ macro_rules! again {
     };
 }
 
+mod cases;
 mod devices;
 mod hostile;
 mod machine;
 mod refusals;
 mod refused;
-mod rows;
 mod scripts;
 mod words;
 
@@ -62,7 +62,7 @@ fn words_of(rt: &(impl AllocGlobal + Abort), words: &[&str]) -> Vec<String> {
     all
 }
 
-// What came of the program's words: the status, what is written and what is told.
+// What came of the program's words: the status, what is written and what is reported.
 #[derive(Drop)]
 struct Driven {
     status: u8,
@@ -85,18 +85,18 @@ fn drive_over<F: Files + Drop>(
     Driven { status, out, err }
 }
 
-// Compares what came of a row's words.
+// Compares what came of a case's words.
 fn expect_come(
     rt: &impl Abort,
     name: &str,
     come: &Driven,
     status: u8,
     written: &[u8],
-    told: &[u8],
+    reported: &[u8],
 ) {
     assert!(rt; come.status == status, "{name}: the status");
     assert!(rt; come.out.bytes() == written, "{name}: what is written");
-    assert!(rt; come.err.bytes() == told, "{name}: what is told");
+    assert!(rt; come.err.bytes() == reported, "{name}: what is told");
 }
 
 // Drives a script at "s" both ways, and compares what comes of it.
@@ -106,11 +106,11 @@ fn expect_both(
     script: &[u8],
     status: u8,
     written: &[u8],
-    told: &[u8],
+    reported: &[u8],
 ) {
     for &words in WAYS {
         let come = drive_over(rt, words, files_with(rt, script));
-        expect_come(rt, name, &come, status, written, told);
+        expect_come(rt, name, &come, status, written, reported);
     }
 }
 
@@ -132,8 +132,8 @@ fn numbered(rt: &(impl AllocGlobal + Abort), count: usize) -> Vec<u8> {
 }
 
 // The bytes of a script that is shown with ` ; ` between its lines.
-fn lines(rt: &(impl AllocGlobal + Abort), shown: &str) -> Vec<u8> {
-    let mut script = again!(rt, shown.replace(rt.alloc(), " ; ", "\n")).into_bytes();
+fn lines(rt: &(impl AllocGlobal + Abort), printed: &str) -> Vec<u8> {
+    let mut script = again!(rt, printed.replace(rt.alloc(), " ; ", "\n")).into_bytes();
     add(rt, &mut script, b"\n");
     script
 }

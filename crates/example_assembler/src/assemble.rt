@@ -1,7 +1,7 @@
 //! The text of a template, as a cord.
 ghost use Rattle.std.specs.Prelude.{◌≡◌, ◌++◌, take, drop, IfOk, OnOk};
 ghost use Rattle.std.specs.List.{repeat};
-ghost use Rattle.cord_io.specs.Device.{Folder};
+ghost use Rattle.cord_io.specs.Device.{FileSystem};
 ghost use Rattle.cord.specs.Means.{Means};
 ghost use Rattle.example_assembler.specs.Meaning.{meaning, segment_bytes};
 
@@ -18,8 +18,9 @@ pub fn write_range<S: Source, W: Sink>(
     count: u64,
     out: &mut W,
 ) -> Result<(), CordError>
-    ensures { (folder : Folder) → S.keeps src.new folder → OnOk result
-        (W.taken out.new ≡ W.taken out.old ++ take count (drop from (meaning (S.table src.old folder) segments.now))) }
+    ensures { (file_system : FileSystem) → S.consistent src.new file_system → OnOk result
+        (W.taken out.new ≡ W.taken out.old ++ take count (drop from
+        (meaning (S.table src.old file_system) segments.now))) }
 {
     let mut text = Cord::empty();
     for segment in segments {

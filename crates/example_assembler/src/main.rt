@@ -9,8 +9,8 @@
 //! | `{include PATH}` | the file at PATH |
 //! | `{repeat TIMES PATH}` | the file at PATH, so many times |
 //!
-//! The folder `data` has a template whose text is 560 gigabytes long, and the words in the file `args` ask for the last
-//! lines of it. `rt ci` runs that; by hand it is
+//! The file system `data` has a template whose text is 560 gigabytes long, and the words in the file `args` ask for the
+//! last lines of it. `rt ci` runs that; by hand it is
 //!
 //! ```text
 //! rt try --data letter.txt=data/letter.txt --data line.txt=data/line.txt --data foot.txt=data/foot.txt \

@@ -14,7 +14,7 @@ pub struct Buffer {
 }
 
 impl Buffer {
-    /// The empty text, and no other version. Refused for want of memory alone.
+    /// The empty text, and no other version. Refused only when out of memory.
     pub fn new(alloc: Global) -> Result<Buffer, CordError> {
         let mut versions = Vec::new(alloc);
         versions.push(Text::empty())?;

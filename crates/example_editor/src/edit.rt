@@ -35,8 +35,8 @@ pub fn edited(alloc: Global, text: &Text, edit: &Edit<'_>) -> Result<Text, Refus
 fn with_line(alloc: Global, text: &Text, line: &str) -> Result<Text, Refusal>
     ensures { IfOk result (IsEdited (Append line.entry) text.now) }
 {
-    let front = text.append_bytes(alloc, line.as_bytes())?;
-    Ok(front.append_bytes(alloc, b"\n")?)
+    let prefix = text.append_bytes(alloc, line.as_bytes())?;
+    Ok(prefix.append_bytes(alloc, b"\n")?)
 }
 
 fn inserted(alloc: Global, text: &Text, place: u64, added: &str) -> Result<Text, Refusal>

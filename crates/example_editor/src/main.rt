@@ -21,7 +21,7 @@
 //!
 //! - An edit makes a new text of the old one, which stands. The two share all that the edit leaves alone, so a version
 //!   costs a few nodes and its new bytes, however long the text is, and going back costs nothing.
-//! - Want of memory is an answer like any other.
+//! - Out of memory is an answer like any other.
 //! - Contracts speak of a `Text` as of the list of its bytes. `edited` ensures what each edit means, `undo` and `redo`
 //!   that they lead to the version before and to the one after, and nothing here needed a line of proof.
 #![tactic(auto)]

@@ -17,7 +17,7 @@ pub struct Layout {
 }
 
 impl Layout {
-    /// Reads the formats. Refused for want of memory alone.
+    /// Reads the formats. Refused only when out of memory.
     pub fn new(alloc: Global) -> Result<Layout, FormatError> {
         Ok(Layout {
             head: Format::parse(alloc, b"%-36s page %2u of %2u\n")?,

@@ -14,7 +14,7 @@ pub struct Record<'a> {
 
 /// What is wrong with a line that is no record.
 #[derive(Clone, Copy, Debug, Error)]
-pub enum Flaw {
+pub enum FirstError {
     #[error("NAME,COUNT,PRICE is wanted")]
     Fields,
     #[error("the count is no number")]
@@ -25,13 +25,13 @@ pub enum Flaw {
 
 impl<'a> Record<'a> {
     /// Reads a line `NAME,COUNT,PRICE`.
-    pub fn parse(line: &'a str) -> Result<Record<'a>, Flaw> {
-        let (name, numbers) = line.split_once(',').ok_or(Flaw::Fields)?;
-        let (count, price) = numbers.split_once(',').ok_or(Flaw::Fields)?;
+    pub fn parse(line: &'a str) -> Result<Record<'a>, FirstError> {
+        let (name, numbers) = line.split_once(',').ok_or(FirstError::Fields)?;
+        let (count, price) = numbers.split_once(',').ok_or(FirstError::Fields)?;
         Ok(Record {
             name,
-            count: count.parse().map_err(|_| Flaw::Count)?,
-            price: price.parse().map_err(|_| Flaw::Price)?,
+            count: count.parse().map_err(|_| FirstError::Count)?,
+            price: price.parse().map_err(|_| FirstError::Price)?,
         })
     }
 

@@ -4,7 +4,7 @@ ghost use Rattle.example_report.specs.Records.{amount_of};
 ghost use Rattle.example_report.specs.declared.report.TheConstants.{ROWS_PER_PAGE};
 
 use crate::layout::Layout;
-use crate::record::{Flaw, Record};
+use crate::record::{FirstError, Record};
 use anyhow::{Context, Result};
 use cord::{CordError, Text, TextBuilder};
 use std::alloc::Global;
@@ -31,7 +31,7 @@ pub struct Report {
 }
 
 impl Report {
-    /// The report of no records. Refused for want of memory alone.
+    /// The report of no records. Refused only when out of memory.
     pub fn new(alloc: Global) -> Result<Report> {
         Ok(Report {
             pages: Vec::new(alloc),
@@ -43,11 +43,11 @@ impl Report {
         })
     }
 
-    /// Takes a line: a record becomes a row, and any other line is kept, to be told at the end.
+    /// Takes a line: a record becomes a row, and any other line is kept, to be reported at the end.
     pub fn take(&mut self, alloc: Global, line: &str) -> Result<()> {
         match Record::parse(line) {
             Ok(record) => self.add(alloc, &record)?,
-            Err(flaw) => self.note(alloc, line, &flaw)?,
+            Err(first_error) => self.note(alloc, line, &first_error)?,
         }
         Ok(())
     }
@@ -68,8 +68,13 @@ impl Report {
     }
 
     /// Keeps a line that is no record.
-    fn note(&mut self, alloc: Global, line: &str, flaw: &Flaw) -> Result<(), CordError> {
-        let note = format!(in alloc; "{line}: {flaw}\n")?;
+    fn note(
+        &mut self,
+        alloc: Global,
+        line: &str,
+        first_error: &FirstError,
+    ) -> Result<(), CordError> {
+        let note = format!(in alloc; "{line}: {first_error}\n")?;
         self.notes.push_bytes(alloc, note.as_bytes())
     }
 

@@ -1,5 +1,5 @@
-//! Worked rows of line indices. They stand in a crate of their own, since tests inside a crate have all of it proved a
-//! second time.
+//! Worked examples of line indices. They stand in a crate of their own, since tests inside a crate have all of it
+//! proved a second time.
 #![tactic(auto)]
 
 ghost use Rattle.std.specs.Prelude.{◌≡◌, ◌+◌, ◌≤◌, ◌++◌, IfOk, OnOk, length, take, drop};

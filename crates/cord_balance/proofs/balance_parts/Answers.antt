@@ -1,7 +1,7 @@
 use Rattle.std.proofs.Common.{◌≡◌, List, ◌∷◌, ◌+◌, [], drop, sym, subst, arith}
 use Rattle.std.specs.List.{All}
 use Rattle.std.proofs.lemmas.List.Elements.{All-nil}
-use Rattle.cord_balance.specs.declared.forest.known.Known.{Known}
+use Rattle.cord_balance.specs.declared.forest.balanced_trees.Known.{Known}
 use Rattle.std.proofs.lemmas.List.{drop_more, drop_all}
 use Rattle.cord_balance.specs.declared.TheConstants.{MAX_INDEX}
 use Rattle.cord_balance.proofs.States.{IsFilling}
@@ -9,7 +9,7 @@ use Rattle.cord_balance.proofs.Filling.{filling_start, filling_step, filling_non
 use Rattle.std.proofs.Common.{ℕ, ◌<◌, ◌≤◌}
 use Rattle.std.specs.Prelude.{Some, length}
 use Rattle.cord_node.specs.Tree.{len_of, depth_of, count_of}
-use Rattle.cord_node.specs.Kept.{parts}
+use Rattle.cord_node.specs.PartsFrom.{parts}
 use Rattle.cord_node.proofs.TreeLemmas.{count_within_len, count_of-parts}
 use Rattle.cord_balance.specs.Fib.{IsSlotOf}
 use Rattle.cord_balance.specs.inner.Forest.{IsGathered, IsKnown}
@@ -32,7 +32,7 @@ loop-rope-preserved c =
     record {
       filling = filling_step c.args.ropes.now c.rope-item.result (drop (c.loop-rope.rope-index + 1) c.args.ropes.now)
           c.loop-rope.forest.items c.insert_once.new.forest.items i c.in_ok-insert_once.ensures.rest c.in_ok-insert_once.ensures.text
-          c.in_ok-insert_once.ensures.len c.in_ok-insert_once.ensures.kept;
+          c.in_ok-insert_once.ensures.len c.in_ok-insert_once.ensures.parts_from;
       known = c.in_ok-insert_once.ensures.known;
     }
 
@@ -51,13 +51,13 @@ returns-clause-text c =
     c.in_ok-node.ensures.rest c.in_ok-node.ensures.from (rw c.in-Some.is at c.in_ok-node.ensures.len)
     (rw c.in-Some.is at c.in_ok-node.ensures.text)
 
-pub returns-clause-kept : goal.returns-clause-kept
-returns-clause-kept c =
+pub returns-clause-parts_from : goal.returns-clause-parts_from
+returns-clause-parts_from c =
     let e : drop c.loop-rope.rope-index c.args.ropes.now ≡ [] = drop_all c.loop-rope.rope-index c.args.ropes.now (omega arith) in
     let i : IsFilling c.args.ropes.now [] c.loop-rope.forest.items = rw (← e) c.loop-rope.invariant.filling in
     filling_kept c.args.ropes.now c.loop-rope.forest.items c.gather.new.forest.items c.in-Some.node i c.requires.within_limit
     c.in_ok-node.ensures.rest c.in_ok-node.ensures.from (rw c.in-Some.is at c.in_ok-node.ensures.len)
-    (rw c.in-Some.is at c.in_ok-node.ensures.kept)
+    (rw c.in-Some.is at c.in_ok-node.ensures.parts_from)
 
 pub returns-clause-len : goal.returns-clause-len
 returns-clause-len c =

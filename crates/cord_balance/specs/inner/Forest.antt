@@ -1,12 +1,12 @@
 -- Pieces in slots, from that with the most parts to that with the fewest.
 use Rattle.std.specs.Prelude.{◌≡◌, ℕ, ◌+◌, ◌<◌, ◌≤◌, List, [], ◌∷◌, ◌++◌, Option, Some, None, ⊤}
 use Rattle.cord_node.specs.Tree.{Cell, cells, len_of, depth_of, count_of, IsSound}
-use Rattle.cord_node.specs.Kept.{Part, parts, Kept}
+use Rattle.cord_node.specs.PartsFrom.{Part, parts, PartsFrom}
 use Rattle.cord_node.specs.declared.Node.{Node}
 use Rattle.cord_balance.specs.Fib.{fib_of, IsSlotOf}
 use Rattle.cord_balance.specs.Pieces.{Shared}
 use Rattle.cord_balance.specs.declared.forest.Piece.{Piece}
-use Rattle.cord_balance.specs.declared.forest.known.Known.{Known}
+use Rattle.cord_balance.specs.declared.forest.balanced_trees.Known.{Known}
 
 -- a piece in its slot, less deep than the slot's number
 pub record IsPiece (p : Piece) : Type 0 where
@@ -69,7 +69,7 @@ pub record IsForm (node form : Node) : Type 0 where
   pub sound : IsSound form
   pub text : cells form ≡ cells node
   pub len : len_of form ≡ len_of node
-  pub kept : Kept (parts node) (parts form)
+  pub parts_from : PartsFrom (parts node) (parts form)
 
 -- a subtree with its form
 abbrev pub IsKnown : Known → Type 0

@@ -2,7 +2,7 @@
 ghost use Rattle.std.specs.Prelude.{◌≡◌, ◌+◌, ◌<◌, ◌≤◌, [], ◌∷◌, ◌++◌, IfOk, OnOk, IfSome, IfNone, length, max};
 ghost use Rattle.std.specs.Option.{ForSome};
 ghost use Rattle.cord_node.specs.Tree.{cells, len_of, depth_of, count_of, IsSound};
-ghost use Rattle.cord_node.specs.Kept.{parts, Kept};
+ghost use Rattle.cord_node.specs.PartsFrom.{parts, PartsFrom};
 ghost use Rattle.cord_balance.specs.Fib.{fib_of, IsSlotOf};
 ghost use Rattle.cord_balance.specs.inner.Forest.{IsPiece, AllFrom, IsForest, forest_cells, forest_parts, forest_len};
 ghost use Rattle.cord_balance.specs.inner.Forest.{piece_cells, piece_parts, piece_len, IsGathered};
@@ -44,7 +44,7 @@ fn put_left(alloc: Global, left: Rc<Node>, right: Option<Rc<Node>>) -> Result<Rc
     ensures sound { IfOk result (λ node. IsSound node.value) }
     ensures text { IfOk result (λ node. cells node.value ≡ cells left.value ++ piece_cells right) }
     ensures len { IfOk result (λ node. len_of node.value ≡ len_of left.value + piece_len right) }
-    ensures kept { IfOk result (λ node. Kept (parts left.value ++ piece_parts right) (parts node.value)) }
+    ensures parts_from { IfOk result (λ node. PartsFrom (parts left.value ++ piece_parts right) (parts node.value)) }
     ensures shallow { IfOk result (λ node. fib_of (depth_of node.value) ≤ count_of node.value) }
     ensures alone { IfNone right (IfOk result (λ node. depth_of node.value ≡ depth_of left.value)) }
     ensures depth { IfSome right
@@ -69,7 +69,7 @@ pub fn gather(
     ensures from { OnOk result (AllFrom below forest.new.items) }
     ensures text { IfOk result (λ o. forest_cells forest.old.items ≡ forest_cells forest.new.items ++ piece_cells o) }
     ensures len { IfOk result (λ o. forest_len forest.old.items ≡ forest_len forest.new.items + piece_len o) }
-    ensures kept { IfOk result (λ o. Kept (forest_parts forest.old.items)
+    ensures parts_from { IfOk result (λ o. PartsFrom (forest_parts forest.old.items)
         (forest_parts forest.new.items ++ piece_parts o)) }
     ensures gathered { IfOk result (λ o. IsGathered below o) }
 {
@@ -88,7 +88,7 @@ pub fn gather_all(alloc: Global, forest: &mut Vec<Piece>) -> Result<Rc<Node>, Al
     ensures sound { IfOk result (λ node. IsSound node.value) }
     ensures text { IfOk result (λ node. cells node.value ≡ forest_cells forest.old.items) }
     ensures len { IfOk result (λ node. len_of node.value ≡ forest_len forest.old.items) }
-    ensures kept { IfOk result (λ node. Kept (forest_parts forest.old.items) (parts node.value)) }
+    ensures parts_from { IfOk result (λ node. PartsFrom (forest_parts forest.old.items) (parts node.value)) }
 {
     match gather(alloc, forest, MAX_INDEX)? {
         Some(node) => Ok(node),
@@ -101,12 +101,12 @@ pub fn merge(alloc: Global, forest: &mut Vec<Piece>, node: Rc<Node>) -> Result<(
     requires forest { IsForest forest.old.items }
     requires sound { IsSound node.value }
     requires shallow { fib_of (depth_of node.value + 1) ≤ count_of node.value }
-    requires behind { AllFrom (depth_of node.value) forest.old.items }
+    requires beyond { AllFrom (depth_of node.value) forest.old.items }
     requires within_limit { forest_len forest.old.items + len_of node.value ≤ MAX_LEN }
     ensures rest { OnOk result (IsForest forest.new.items) }
     ensures text { OnOk result (forest_cells forest.new.items ≡ forest_cells forest.old.items ++ cells node.value) }
     ensures len { OnOk result (forest_len forest.new.items ≡ forest_len forest.old.items + len_of node.value) }
-    ensures kept { OnOk result (Kept (forest_parts forest.old.items ++ parts node.value)
+    ensures parts_from { OnOk result (PartsFrom (forest_parts forest.old.items ++ parts node.value)
         (forest_parts forest.new.items)) }
 {
     let mut joined = node;
@@ -130,7 +130,7 @@ fn put_right(alloc: Global, left: Option<Rc<Node>>, right: Rc<Node>) -> Result<R
     ensures sound { IfOk result (λ node. IsSound node.value) }
     ensures text { IfOk result (λ node. cells node.value ≡ piece_cells left ++ cells right.value) }
     ensures len { IfOk result (λ node. len_of node.value ≡ piece_len left + len_of right.value) }
-    ensures kept { IfOk result (λ node. Kept (piece_parts left ++ parts right.value) (parts node.value)) }
+    ensures parts_from { IfOk result (λ node. PartsFrom (piece_parts left ++ parts right.value) (parts node.value)) }
     ensures shallow { IfOk result (λ node. fib_of (depth_of node.value + 1) ≤ count_of node.value) }
     ensures alone { IfNone left (IfOk result (λ node. depth_of node.value ≡ depth_of right.value)) }
     ensures depth { IfSome left
@@ -152,7 +152,7 @@ pub fn insert(alloc: Global, forest: &mut Vec<Piece>, node: Rc<Node>) -> Result<
     ensures rest { OnOk result (IsForest forest.new.items) }
     ensures text { OnOk result (forest_cells forest.new.items ≡ forest_cells forest.old.items ++ cells node.value) }
     ensures len { OnOk result (forest_len forest.new.items ≡ forest_len forest.old.items + len_of node.value) }
-    ensures kept { OnOk result (Kept (forest_parts forest.old.items ++ parts node.value)
+    ensures parts_from { OnOk result (PartsFrom (forest_parts forest.old.items ++ parts node.value)
         (forest_parts forest.new.items)) }
 {
     let slot = slot_of(node.part_count());

@@ -1,14 +1,14 @@
 // Trees are put into a forest, each greatest balanced part as one piece.
 ghost use Rattle.std.specs.Prelude.{◌≡◌, ◌+◌, ◌<◌, ◌≤◌, ◌↔◌, ◌++◌, OnOk, IsTrue};
 ghost use Rattle.cord_node.specs.Tree.{cells, len_of, depth_of, count_of, IsSound};
-ghost use Rattle.cord_node.specs.Kept.{parts, Kept};
+ghost use Rattle.cord_node.specs.PartsFrom.{parts, PartsFrom};
 ghost use Rattle.cord_balance.specs.Fib.{fib_of};
 ghost use Rattle.cord_balance.specs.Pieces.{all_cells, all_parts, total_len, AllSound};
 ghost use Rattle.std.specs.List.{All};
 ghost use Rattle.cord_balance.specs.inner.Forest.{IsForest, IsKnown, forest_cells, forest_parts, forest_len};
 
 use super::Piece;
-use super::known::{Known, find};
+use super::balanced_trees::{Known, find};
 use super::slots::{gather_all, insert};
 use crate::{MAX_INDEX, fib};
 use cord_io::MAX_LEN;
@@ -39,7 +39,7 @@ pub fn insert_tree(
     ensures rest { OnOk result (IsForest forest.new.items) }
     ensures text { OnOk result (forest_cells forest.new.items ≡ forest_cells forest.old.items ++ cells node.now.value) }
     ensures len { OnOk result (forest_len forest.new.items ≡ forest_len forest.old.items + len_of node.now.value) }
-    ensures kept { OnOk result (Kept (forest_parts forest.old.items ++ parts node.now.value)
+    ensures parts_from { OnOk result (PartsFrom (forest_parts forest.old.items ++ parts node.now.value)
         (forest_parts forest.new.items)) }
 {
     if is_balanced(node) {
@@ -76,7 +76,7 @@ pub fn insert_once(
     ensures rest { OnOk result (IsForest forest.new.items) }
     ensures text { OnOk result (forest_cells forest.new.items ≡ forest_cells forest.old.items ++ cells node.now.value) }
     ensures len { OnOk result (forest_len forest.new.items ≡ forest_len forest.old.items + len_of node.now.value) }
-    ensures kept { OnOk result (Kept (forest_parts forest.old.items ++ parts node.now.value)
+    ensures parts_from { OnOk result (PartsFrom (forest_parts forest.old.items ++ parts node.now.value)
         (forest_parts forest.new.items)) }
 {
     let Node::Cat { left, right, .. } = node.as_ref() else {

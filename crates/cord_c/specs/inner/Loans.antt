@@ -18,7 +18,7 @@ use Rattle.cord_c.specs.declared.referent.Referent.{Referent}
 
 -- the handle h that leads to r
 abbrev pub with_referent : Handle → Referent → Handle
-with_referent h r = record { at = h.at; alloc = h.alloc; referent = r; text = text_by r; told = refl; testable = h.testable }
+with_referent h r = record { at = h.at; alloc = h.alloc; referent = r; text = text_by r; reported = refl; testable = h.testable }
 
 -- it leads to what was last written through the loan; where nothing is lent, it is as it was
 abbrev pub LendsReferent : MutBor Handle → Option (MutBor Referent) → Fml

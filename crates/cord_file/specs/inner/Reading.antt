@@ -1,7 +1,7 @@
 -- What calls that read opened files take and leave.
 use Rattle.std.specs.Prelude.{◌≡◌, ℕ, ◌+◌, ◌≤◌, Bool, IsSomeAnd}
 use Rattle.std.specs.declared.option.Option.{Option}
-use Rattle.cord_io.specs.Device.{Folder, count_after}
+use Rattle.cord_io.specs.Device.{FileSystem, count_after}
 use Rattle.cord_io.specs.declared.reading.Files.{Ghosts}
 use Rattle.cord_file.specs.Opening.{OpensNone}
 use Rattle.cord_file.specs.Sources.{device_in}
@@ -12,10 +12,10 @@ use Rattle.cord_file.specs.declared.sources.Sources.{Sources}
 abbrev pub IsInside : Option OpenFile → ℕ → ℕ → Type 0
 IsInside slot start count = IsSomeAnd slot (λ file. start + count ≤ file.len)
 
--- a call opened no file and keeps no folder that wasn't kept before it, and the device counted its failure
+-- a call opened no file and makes no file system consistent that wasn't so before it, and the device counted its failure
 abbrev pub LeavesFiles : {F : Type 0} {ghosts : Ghosts F} → Bool → Sources F ghosts → Sources F ghosts → Type 0
 LeavesFiles {F} {ghosts} failed old new = record {
-  earlier : (folder : Folder) → ghosts.keeps (device_in new) folder → ghosts.keeps (device_in old) folder;
+  earlier : (file_system : FileSystem) → ghosts.consistent (device_in new) file_system → ghosts.consistent (device_in old) file_system;
   entries : new.entries.items ≡ old.entries.items;
   opened : OpensNone (ghosts.opened (device_in old)) (ghosts.opened (device_in new));
   count : ghosts.failures (device_in new) ≡ count_after failed (ghosts.failures (device_in old));

@@ -2,7 +2,7 @@
 use Rattle.std.proofs.Common.{ℕ, ◌-◌, zero, suc, [], Some, None, length, refl}
 use Rattle.cord_io.specs.Table.{Table, Lengths, HasLengths}
 use Rattle.cord_io.specs.declared.TheConstants.{MAX_LEN}
-use Rattle.cord_io.specs.Entries.{digit_at, byte_value_at, digits, byte_values, length-text_of}
+use Rattle.cord_io.specs.FunctionTexts.{digit_at, byte_value_at, digits, byte_values, length-text_of}
 
 -- the byte at a place of an entry that is a function: `digits` is number 0, `bytes` number 1
 abbrev pub function_byte : ℕ → ℕ → ℕ
@@ -21,7 +21,7 @@ function_texts zero = digits MAX_LEN
 function_texts (suc zero) = byte_values MAX_LEN
 function_texts (suc (suc id)) = []
 
--- the entries that are functions are as long as is told
+-- the entries that are functions are as long as is reported
 pub lengths_of_functions : HasLengths function_lengths function_texts
 lengths_of_functions zero = length-text_of digit_at MAX_LEN
 lengths_of_functions (suc zero) = length-text_of byte_value_at MAX_LEN

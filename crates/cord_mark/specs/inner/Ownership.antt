@@ -15,16 +15,16 @@ use denote.Sharing.{said, beside, some}
 use denote.Hidden.{guarded}
 
 -- the parts of a text, and where its mark lies
-abbrev pub Told : Type 0
-Told = List Part × (ℕ × ℕ)
+abbrev pub Reported : Type 0
+Reported = List Part × (ℕ × ℕ)
 
 -- a name that tells one of these, the same to all who see it
-abbrev pub telling : Algebra
-telling = agreed (coded (coded× coded_parts (coded× coded_ℕ coded_ℕ)))
+abbrev pub reporting : Algebra
+reporting = agreed (coded (coded× coded_parts (coded× coded_ℕ coded_ℕ)))
 
 -- the name γ tells the parts for which the mark at this place stands
-abbrev pub told : GName → List Part → ℕ → ℕ → Fml
-told γ parts b o = fown telling γ (parts, (b, o))
+abbrev pub reported : GName → List Part → ℕ → ℕ → Fml
+reported γ parts b o = fown reporting γ (parts, (b, o))
 
 module _ (F : RattleType) where
   -- the fields in memory, at any values
@@ -33,5 +33,5 @@ module _ (F : RattleType) where
 
   -- a name tells the parts and the place, and the fields are reached with the thread's token at that name
   abbrev pub mark_shares : List Part → Ptr → Lft → Fml
-  mark_shares parts (block_ptr b o) = some GName (λ γ. beside (said (told γ parts b o)) (guarded (γ, 0) (fields_at b o)))
+  mark_shares parts (block_ptr b o) = some GName (λ γ. beside (said (reported γ parts b o)) (guarded (γ, 0) (fields_at b o)))
   mark_shares parts null_ptr = said ffalse

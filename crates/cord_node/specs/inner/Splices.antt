@@ -5,7 +5,7 @@ use Rattle.cord_io.specs.declared.TheConstants.{MAX_LEN, MAX_DEPTH}
 use Rattle.cord_node.specs.declared.Node.{Node}
 use Rattle.cord_node.specs.declared.Node.TheVariants.{Leaf, Run, Func, Cat'}
 use Rattle.cord_node.specs.Tree.{cells, len_of, depth_of, IsSound}
-use Rattle.cord_node.specs.Kept.{parts, AreFrom}
+use Rattle.cord_node.specs.PartsFrom.{parts, AreFrom}
 use Rattle.cord_node.specs.Touched.{AtMostOneMore}
 use Rattle.cord_node.specs.Cords.{text, text_len, depth, parts_of, IsCord}
 
@@ -29,18 +29,18 @@ SidesAre holds (Func id len start) = ⊥
 SidesAre holds (Cat' mark depth len p left q right count) = holds left right
 
 -- the range lies inside the node, which stays and is no less deep than what comes in the range's place
-pub record Takes (from until : ℕ) (middle : Option Node) (side : Node) : Type 0 where
+pub record TakesRange (from until : ℕ) (middle : Option Node) (side : Node) : Type 0 where
   pub inside : until ≤ len_of side
   pub stays : 0 < from + text_len middle + (len_of side - until)
   pub deep : depth middle ≤ depth_of side
 
 -- an edit of a node with these sides can go on in the left one
 abbrev pub LeftTakes : ℕ → ℕ → Option Node → Node → Node → Type 0
-LeftTakes from until middle left right = Takes from until middle left
+LeftTakes from until middle left right = TakesRange from until middle left
 
 -- in the right one
 abbrev pub RightTakes : ℕ → ℕ → Option Node → Node → Node → Type 0
-RightTakes from until middle left right = (len_of left ≤ from) × Takes (from - len_of left) (until - len_of left) middle right
+RightTakes from until middle left right = (len_of left ≤ from) × TakesRange (from - len_of left) (until - len_of left) middle right
 
 -- in either of them
 abbrev pub SeamTakes : ℕ → ℕ → Option Node → Node → Node → Type 0
@@ -49,7 +49,7 @@ SeamTakes from until middle left right = LeftTakes from until middle left right 
 -- in the left one, which loses its end, while the right one loses its beginning
 abbrev pub BothTake : ℕ → ℕ → Option Node → Node → Node → Type 0
 BothTake from until middle left right = (from ≤ len_of left) × (len_of left ≤ until) × (until < len_of left + len_of right)
-    × Takes from (len_of left) middle left
+    × TakesRange from (len_of left) middle left
 
 -- the two sides are the old ones with middle in the place of the range
 pub record AreSpliced (from until : ℕ) (middle : Option Node) (old_left old_right left right : Node) : Type 0 where

@@ -5,10 +5,10 @@ use Rattle.cord_syntax.specs.declared.statements.Statement.{Statement}
 use Rattle.cord_syntax.specs.declared.statements.Statement.TheVariants.{Chars, Nul, Cat, Catn, Catc, Substr, Put}
 use Rattle.cord_plan.specs.Exprs.{Expr, name, names, parts}
 use Rattle.cord_plan.specs.Operands.{count, read_by, assigns, assigns_at, reads_at}
-use Rattle.cord_plan.specs.Forced as plain
+use Rattle.cord_plan.specs.Inlined as plain
 use Rattle.cord_plan.specs.Views.{expr_view}
-use Rattle.cord_plan.specs.declared.planner.choosing.Choice.{Choice}
-use Rattle.cord_plan.specs.declared.planner.choosing.Choice.TheVariants.{Named, Replaced}
+use Rattle.cord_plan.specs.declared.planner.operand_choices.Choice.{Choice}
+use Rattle.cord_plan.specs.declared.planner.operand_choices.Choice.TheVariants.{Named, Replaced}
 
 -- how much of a room is left after so many parts, where they find room
 abbrev pub room_left : ℕ → ℕ → Option ℕ

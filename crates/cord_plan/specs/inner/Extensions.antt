@@ -1,4 +1,4 @@
--- Which operations of a plan are told to join what the one before them joins, and one member more; what holds of a plan.
+-- Which operations of a plan are reported to join what the one before them joins, and one member more; what holds of a plan.
 use Rattle.std.specs.Prelude.{◌≡◌, ℕ, Bool, true, List, Some, All, slice_get}
 use Rattle.std.specs.List.{IsDistinct}
 use Rattle.std.specs.Str.{bytes_eq}
@@ -8,10 +8,10 @@ use Rattle.cord_plan.specs.Planned.{Operation}
 
 -- where it is told of a place, the operation there extends the one before it
 abbrev pub AreExtending : List Bool → List Operation → Type 0
-AreExtending told operations = (place : ℕ) → slice_get told place ≡ Some true → Extends operations place
+AreExtending reported operations = (place : ℕ) → slice_get reported place ≡ Some true → Extends operations place
 
 -- what holds of the operations of a plan, and of its names
-pub record IsPlan (told : List Bool) (operations : List Operation) (names : List (List ℕ)) : Type 0 where
+pub record IsPlan (reported : List Bool) (operations : List Operation) (names : List (List ℕ)) : Type 0 where
   pub kept : All KeepsNoOther operations
-  pub extending : AreExtending told operations
+  pub extending : AreExtending reported operations
   pub distinct : IsDistinct bytes_eq names

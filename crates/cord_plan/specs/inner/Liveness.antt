@@ -6,27 +6,27 @@ use Rattle.std.specs.Option.{option_to_list}
 use Rattle.cord_syntax.specs.declared.statements.Statement.{Statement}
 use Rattle.cord_meaning.specs.Blocks as blocks
 use Rattle.cord_meaning.specs.Statements.{shape_of}
-use Rattle.cord_plan.specs.Forced.{is_block_at}
+use Rattle.cord_plan.specs.Inlined.{is_block_at}
 use Rattle.cord_plan.specs.Operands.{reads_at, assigns_at}
 use Rattle.cord_plan.specs.inner.Numbering.{number_of, names_of}
-use Rattle.cord_plan.specs.inner.Marks.{column, IsBit}
-use Rattle.cord_plan.specs.Unread.{ReadBy, IsLater, successors, some_of}
-use Rattle.cord_plan.specs.inner.Ahead.{later_in, IsLineLater}
-use Rattle.cord_plan.specs.declared.flow.ahead.LineLater.{LineLater}
+use Rattle.cord_plan.specs.inner.NameSets.{column, IsBit}
+use Rattle.cord_plan.specs.Liveness.{ReadBy, IsLater, successors, some_of}
+use Rattle.cord_plan.specs.inner.StraightLine.{later_in, IsLineLater}
+use Rattle.cord_plan.specs.declared.flow.straight_line.LineLater.{LineLater}
 use Rattle.cord_plan.specs.declared.flow.liveness.Later.{Later}
 use Rattle.cord_plan.specs.declared.flow.liveness.Found.{Found}
 use Rattle.cord_plan.specs.declared.flow.liveness.Found.TheVariants.{ByLines, ByGroups}
 use Rattle.cord_plan.specs.declared.flow.liveness.Group.{Group}
 use Rattle.cord_plan.specs.declared.flow.numbering.Numbering.{Numbering}
 use Rattle.cord_plan.specs.declared.flow.successors.Shape.{Shape}
-use Rattle.cord_plan.specs.declared.flow.successors.Shape.TheVariants.{Simple, Loop, Branch, Otherwise, Close}
+use Rattle.cord_plan.specs.declared.flow.successors.Shape.TheVariants.{Straight, Loop, Branch, Otherwise, Close}
 use Rattle.cord_plan.specs.declared.flow.successors.Successors.{Successors}
 use Rattle.cord_plan.specs.declared.flow.successors.Turn.{Turn}
 use Rattle.cord_plan.specs.declared.flow.successors.Turn.TheVariants.{Closed, Turned, Inside}
 
 -- the shape that a shape of the program stands for
 abbrev pub shape_view : Shape → blocks.Shape
-shape_view Simple = blocks.Simple
+shape_view Straight = blocks.Straight
 shape_view Loop = blocks.Loop
 shape_view Branch = blocks.Branch
 shape_view Otherwise = blocks.Otherwise
@@ -34,7 +34,7 @@ shape_view Close = blocks.Close
 
 -- how a statement leads on a search for the end of a block, where so many blocks are open inside it
 abbrev pub turn_of : blocks.Shape → ℕ → Turn
-turn_of blocks.Simple d = Inside d
+turn_of blocks.Straight d = Inside d
 turn_of blocks.Loop d = Inside (suc d)
 turn_of blocks.Branch d = Inside (suc d)
 turn_of blocks.Otherwise zero = Turned
@@ -62,7 +62,7 @@ places_at successor_table p = places_of (slice_get successor_table p)
 -- as many as the lines, these are the places that may come next after each of them
 pub record AreSuccessors (shapes : List blocks.Shape) (successor_table : List Successors) : Type 0 where
   pub size : length successor_table ≡ length shapes
-  pub told : (p : ℕ) → places_at successor_table p ≡ successors shapes p
+  pub reported : (p : ℕ) → places_at successor_table p ≡ successors shapes p
 
 -- these are the places that may come next after each place, whether a line stands there or not
 abbrev pub ArePaths : List blocks.Shape → List Successors → Type 0
@@ -96,12 +96,12 @@ module _ (s : List Statement) (t : Numbering) (g : ℕ) (words : List ℕ) where
   -- the bits of each line are the name of the group that it assigns
   pub record AreAssigned : Type 0 where
     pub size : length words ≡ length s
-    pub told : (x : List ℕ) (i : ℕ) → IsBit t g x i → (p : ℕ) → at (column words i) p ≡ assigns_at (slice_get s p) x
+    pub reported : (x : List ℕ) (i : ℕ) → IsBit t g x i → (p : ℕ) → at (column words i) p ≡ assigns_at (slice_get s p) x
 
   -- each name of the group has its places partly
   pub record ArePartly : Type 0 where
     pub size : length words ≡ length s
-    pub told : (x : List ℕ) (i : ℕ) → IsBit t g x i → IsPartly s x (column words i)
+    pub reported : (x : List ℕ) (i : ℕ) → IsBit t g x i → IsPartly s x (column words i)
 
   -- each name of the group has its live places
   abbrev pub AreLive : Type 0
@@ -117,34 +117,35 @@ column_of groups None = []
 column_of groups (Some n) = column_in (slice_get groups (n / 128)) (n % 128)
 
 -- whether the name of a number is read later than the line at p, by the live places of groups of names
-abbrev pub tells_of : List Successors → List Group → Option ℕ → ℕ → Bool
-tells_of successor_table groups number p = some_of (λ q. at (column_of groups number) q) (places_at successor_table p)
+abbrev pub reports_of : List Successors → List Group → Option ℕ → ℕ → Bool
+reports_of successor_table groups number p = some_of (λ q. at (column_of groups number) q) (places_at successor_table p)
 
 -- whether a name is read later than the line at p
-abbrev pub found_tells : List Statement → Numbering → Found → List ℕ → ℕ → Bool
-found_tells s t (ByLines lines) x p = later_in (drop (p + 1) s) x
-found_tells s t (ByGroups successor_table groups) x p = tells_of successor_table.items groups.items (number_of t x) p
+abbrev pub found_reports : List Statement → Numbering → Found → List ℕ → ℕ → Bool
+found_reports s t (ByLines lines) x p = later_in (drop (p + 1) s) x
+found_reports s t (ByGroups successor_table groups) x p = reports_of successor_table.items groups.items (number_of t x) p
 
 -- what a table tells: whether a name is read later than the line at a place
-abbrev pub tells : Later → List ℕ → ℕ → Bool
-tells t x p = found_tells t.statements.now t.numbering t.found x p
+abbrev pub reports : Later → List ℕ → ℕ → Bool
+reports t x p = found_reports t.statements.now t.numbering t.found x p
 
--- what is asked of the line l at p is told
-abbrev pub IsToldBy : List Statement → Found → Statement → ℕ → Type 0
-IsToldBy s found l p = (lines : Vec LineLater Global) → found ≡ ByLines lines → (line : LineLater) × (slice_get lines.items p ≡ Some line)
+-- what is asked of the line l at p is reported
+abbrev pub IsReportedBy : List Statement → Found → Statement → ℕ → Type 0
+IsReportedBy s found l p = (lines : Vec LineLater Global) → found ≡ ByLines lines → (line : LineLater) ×
+    (slice_get lines.items p ≡ Some line)
     × IsLineLater l (λ x. later_in (drop (p + 1) s) x) line
 
-abbrev pub IsTold : Later → Statement → ℕ → Type 0
-IsTold t l p = (slice_get t.statements.now p ≡ Some l) × IsToldBy t.statements.now t.found l p
+abbrev pub IsReported : Later → Statement → ℕ → Type 0
+IsReported t l p = (slice_get t.statements.now p ≡ Some l) × IsReportedBy t.statements.now t.found l p
 
 -- and of each line
-abbrev pub AllTold : List Statement → Later → Type 0
-AllTold s t = (p : ℕ) (l : Statement) → slice_get s p ≡ Some l → IsTold t l p
+abbrev pub AllReported : List Statement → Later → Type 0
+AllReported s t = (p : ℕ) (l : Statement) → slice_get s p ≡ Some l → IsReported t l p
 
 -- what was found of a script, whose names are numbered, tells what is read later, and what is asked of each line
 pub record IsFound (s : List Statement) (t : Numbering) (found : Found) : Type 0 where
-  pub later : IsLater s (found_tells s t found)
-  pub told : (p : ℕ) (l : Statement) → slice_get s p ≡ Some l → IsToldBy s found l p
+  pub later : IsLater s (found_reports s t found)
+  pub reported : (p : ℕ) (l : Statement) → slice_get s p ≡ Some l → IsReportedBy s found l p
 
 -- each of the first k groups is live
 abbrev pub LiveTo : List Statement → Numbering → ℕ → List Group → Type 0

@@ -4,7 +4,7 @@ use Rattle.std.specs.Prelude.{Some, None, slice_get, option_map}
 use Rattle.cord_syntax.specs.declared.statements.Statement.{Statement}
 use Rattle.cord_meaning.specs.Statements.{shape_of}
 use Rattle.cord_plan.specs.Operands.{reads, reads_at}
-use Rattle.cord_plan.specs.Forced.{each_from, is_block, is_block_at, preserves, setter}
+use Rattle.cord_plan.specs.Inlined.{each_from, is_block, is_block_at, preserves, setter}
 use Rattle.cord_plan.specs.inner.Numbering.{number_of}
 use Rattle.cord_plan.specs.declared.flow.numbering.Numbering.{Numbering}
 use Rattle.cord_plan.specs.declared.flow.recent.Recent.{Recent}

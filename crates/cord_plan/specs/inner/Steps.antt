@@ -4,7 +4,7 @@ use Rattle.std.specs.Prelude.{drop, length, Option, Some, None}
 use Rattle.cord_syntax.specs.declared.statements.Statement.{Statement}
 use Rattle.cord_syntax.specs.declared.statements.Statement.TheVariants.{Cat, Catn, Catc}
 use Rattle.cord_plan.specs.Exprs.{Expr, cat}
-use Rattle.cord_plan.specs.Forced as plain
+use Rattle.cord_plan.specs.Inlined as plain
 use Rattle.cord_plan.specs.inner.Choices.{Has}
 use Rattle.cord_plan.specs.declared.planner.measuring.Sources.{Sources}
 use Rattle.cord_plan.specs.declared.planner.measuring.Sources.TheVariants.{Nothing, One, Two, Listed}
@@ -82,9 +82,9 @@ module _ (s : List Statement) (later : List ℕ → ℕ → Bool) where
   -- e is the expression of the line l at b where the lines before it have these operations, and these are the lines that it takes
   pub record IsNext (b : ℕ) (l : Statement) (old : List Operation) (sources : List (Option ℕ)) (e : Option Expr) : Type 0 where
     pub expression : (t : plain.Table) → Has (map operation_expression old) t →
-        e ≡ (plain.operands_chosen s later t b l (plain.own l)).0
+        e ≡ (plain.operands_chosen s later t b l (plain.defining l)).0
     pub taken : (t : plain.Table) → Has (map operation_expression old) t →
-        sources ≡ map source_of (plain.operands_chosen s later t b l (plain.own l)).1
+        sources ≡ map source_of (plain.operands_chosen s later t b l (plain.defining l)).1
 
   -- and the operations of those lines only measure from then on
   pub record IsStep (b : ℕ) (l : Statement) (old new : List Operation) (e : Option Expr) : Type 0 where
@@ -93,9 +93,9 @@ module _ (s : List Statement) (later : List ℕ → ℕ → Bool) where
     pub marked : new ≡ measured_from 0 sources old
 
   -- where it is told of the line l at b that it extends the line before it, its choices say so
-  abbrev pub IsToldLonger : ℕ → Statement → List Operation → Bool → Type 0
-  IsToldLonger b l old told = (t : plain.Table) → Has (map operation_expression old) t → told ≡ true →
-      is_longer b l (plain.operands_chosen s later t b l (plain.own l)).1 ≡ true
+  abbrev pub IsReportedLonger : ℕ → Statement → List Operation → Bool → Type 0
+  IsReportedLonger b l old reported = (t : plain.Table) → Has (map operation_expression old) t → reported ≡ true →
+      is_longer b l (plain.operands_chosen s later t b l (plain.defining l)).1 ≡ true
 
   -- the operations of the lines before b, as far as lines before b take their expressions
   pub record IsBegun (b : ℕ) (made : List Operation) : Type 0 where

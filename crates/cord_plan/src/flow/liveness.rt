@@ -4,19 +4,19 @@ ghost use Rattle.std.specs.Prelude.{◌+◌, drop, slice_get, IfOk};
 ghost use Rattle.cord_meaning.specs.Statements.{shape_of};
 ghost use Rattle.cord_syntax.specs.declared.statements.Statement.{Statement};
 ghost use Rattle.cord_plan.specs.Operands.{assigns_at, target_of};
-ghost use Rattle.cord_plan.specs.Unread.{IsLater, successors, some_of};
-ghost use Rattle.cord_plan.specs.inner.Marks.{bit, column, room, IsBit};
+ghost use Rattle.cord_plan.specs.Liveness.{IsLater, successors, some_of};
+ghost use Rattle.cord_plan.specs.inner.NameSets.{bit, column, room, IsBit};
 ghost use Rattle.cord_plan.specs.inner.Numbering.{IsNumbering, names_of, number_of};
-ghost use Rattle.cord_plan.specs.inner.Ahead.{flow, later_in};
-ghost use Rattle.cord_plan.specs.inner.Liveness.{places, places_at, ArePaths, at, tells, tells_of};
-ghost use Rattle.cord_plan.specs.inner.Liveness.{IsFound, IsTold, AllTold};
+ghost use Rattle.cord_plan.specs.inner.StraightLine.{flow, later_in};
+ghost use Rattle.cord_plan.specs.inner.Liveness.{places, places_at, ArePaths, at, reports, reports_of};
+ghost use Rattle.cord_plan.specs.inner.Liveness.{IsFound, IsReported, AllReported};
 ghost use Rattle.cord_plan.specs.inner.Liveness.{AreAssigned, ArePartly, AreLive, AllLive, column_of};
 ghost use Rattle.cord_plan.specs.inner.Choices.{simple_operands};
 
-use crate::flow::ahead::{LineLater, OPERANDS, has_operand, line_at, lines_later};
-use crate::flow::marks::{GROUP, has_bit, mark_all, mark_target};
+use crate::flow::name_sets::{GROUP, has_bit, mark_all, mark_target};
 use crate::flow::numbering::Numbering;
 use crate::flow::readings::{assigns, reads};
+use crate::flow::straight_line::{LineLater, OPERANDS, has_operand, line_at, lines_later};
 use crate::flow::successors::{Successors, has_blocks, successors_of};
 use cord_script::{Name, Statement};
 use std::alloc::{AllocError, Global};
@@ -220,7 +220,7 @@ fn is_live_after(
     number: Option<usize>,
     place: usize,
 ) -> bool
-    ensures { result ≡ tells_of successors.now groups.now number place }
+    ensures { result ≡ reports_of successors.now groups.now number place }
 {
     match (successors.get(place), number) {
         (Some(successors), Some(number)) => is_live_at(groups, number, *successors),
@@ -267,8 +267,8 @@ impl Found {
 impl<'a> Later<'a> {
     /// What is read later in a script of these statements.
     pub(crate) fn of(alloc: Global, statements: &'a [Statement]) -> Result<Self, AllocError>
-        ensures later { IfOk result (λ t. IsLater statements.now (tells t)) }
-        ensures told { IfOk result (λ t. AllTold statements.now t) }
+        ensures later { IfOk result (λ t. IsLater statements.now (reports t)) }
+        ensures reported { IfOk result (λ t. AllReported statements.now t) }
         ensures numbered { IfOk result (λ t. IsNumbering statements.now t.numbering) }
     {
         let numbering = Numbering::of(alloc, statements)?;
@@ -283,8 +283,8 @@ impl<'a> Later<'a> {
     /// Whether the name that a line assigns, which has this number, is read later than the line.
     pub(crate) fn is_target_later(&self, target: &Name, number: Option<usize>, place: usize) -> bool
         requires number { number ≡ number_of self.now.numbering target.now }
-        requires told { (l : Statement) × (target_of l ≡ Some target.now) × IsTold self.now l place }
-        ensures { result ≡ tells self.now target.now place }
+        requires reported { (l : Statement) × (target_of l ≡ Some target.now) × IsReported self.now l place }
+        ensures { result ≡ reports self.now target.now place }
     {
         match &self.found {
             Found::ByLines(lines) => line_at(lines, place).target,
@@ -303,9 +303,9 @@ impl<'a> Later<'a> {
         place: usize,
     ) -> bool
         requires number { number ≡ number_of self.now.numbering operand.now }
-        requires told { (l : Statement) × (xs : List (List ℕ)) × (simple_operands l ≡ Some xs) ×
-            (slice_get xs index ≡ Some operand.now) × IsTold self.now l place }
-        ensures { result ≡ tells self.now operand.now place }
+        requires reported { (l : Statement) × (xs : List (List ℕ)) × (simple_operands l ≡ Some xs) ×
+            (slice_get xs index ≡ Some operand.now) × IsReported self.now l place }
+        ensures { result ≡ reports self.now operand.now place }
     {
         match &self.found {
             Found::ByLines(lines) if index < OPERANDS => has_operand(line_at(lines, place), index),

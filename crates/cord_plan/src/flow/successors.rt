@@ -4,8 +4,8 @@ ghost use Rattle.std.specs.Prelude.{false};
 ghost use Rattle.cord_meaning.specs.Blocks.{to_end, to_else, jump};
 ghost use Rattle.cord_meaning.specs.Paths.{opened, open_at};
 ghost use Rattle.cord_meaning.specs.Statements.{shape_of};
-ghost use Rattle.cord_plan.specs.Forced.{is_block};
-ghost use Rattle.cord_plan.specs.Unread.{successors};
+ghost use Rattle.cord_plan.specs.Inlined.{is_block};
+ghost use Rattle.cord_plan.specs.Liveness.{successors};
 ghost use Rattle.cord_plan.specs.inner.Liveness.{shape_view, turn_of, innermost, places};
 ghost use Rattle.cord_plan.specs.inner.Liveness.{AreSuccessors, ArePaths, NoBlocks};
 
@@ -17,7 +17,7 @@ use std::alloc::{AllocError, Global};
 #[derive(Clone, Copy)]
 pub(crate) enum Shape {
     /// Any statement but the others.
-    Simple,
+    Straight,
     /// `repeat`.
     Loop,
     /// `if`.
@@ -82,7 +82,7 @@ pub(crate) fn shape_of(statement: &Statement) -> Shape
         | Family::Computation(_)
         | Family::Look(_)
         | Family::Search(_)
-        | Family::Growth(_) => Shape::Simple,
+        | Family::Growth(_) => Shape::Straight,
     }
 }
 
@@ -91,7 +91,7 @@ pub(crate) fn is_block(statement: &Statement) -> bool
     ensures { result ≡ is_block (shape_of statement.now) }
 {
     match shape_of(statement) {
-        Shape::Simple => false,
+        Shape::Straight => false,
         Shape::Loop | Shape::Branch | Shape::Otherwise | Shape::Close => true,
     }
 }
@@ -101,7 +101,7 @@ fn turn_at(shape: Shape, depth: usize) -> Turn
     ensures { result ≡ turn_of (shape_view shape) depth }
 {
     match shape {
-        Shape::Simple => Turn::Inside(depth),
+        Shape::Straight => Turn::Inside(depth),
         Shape::Loop | Shape::Branch => Turn::Inside(depth + 1),
         Shape::Otherwise if depth == 0 => Turn::Turned,
         Shape::Otherwise => Turn::Inside(depth),
@@ -162,7 +162,7 @@ fn open_or_close(blocks: &mut Vec<Option<usize>>, p: usize, shape: Shape) -> Res
         Shape::Close => {
             blocks.pop();
         }
-        Shape::Simple | Shape::Otherwise => {}
+        Shape::Straight | Shape::Otherwise => {}
     }
     Ok(())
 }
@@ -175,7 +175,7 @@ pub(crate) fn jump(shapes: &[Shape], place: usize) -> usize
 {
     let next = place + 1;
     match shapes[place] {
-        Shape::Simple => next,
+        Shape::Straight => next,
         Shape::Loop => next + to_end(&shapes[next..]) + 1,
         Shape::Branch => next + to_else(&shapes[next..]),
         Shape::Otherwise => next + to_end(&shapes[next..]),
@@ -191,7 +191,7 @@ fn successors_at(shapes: &[Shape], p: usize, block: Option<usize>) -> Successors
 {
     let next = p + 1;
     match shapes[p] {
-        Shape::Simple => Successors::one(next),
+        Shape::Straight => Successors::one(next),
         Shape::Loop => Successors::two(next, jump(shapes, p)),
         Shape::Branch => Successors::two(next, jump(shapes, p)),
         Shape::Otherwise => Successors::one(jump(shapes, p)),

@@ -1,30 +1,30 @@
 // The expression of the next line, over the operations of the lines before it.
 ghost use Rattle.std.specs.Prelude.{◌≡◌, ◌≤◌, ◌++◌, ◌∷◌, ◌&&◌, [], Some, IfOk, IsOkUnless, length, map};
 ghost use Rattle.std.specs.Prelude.{option_map};
-ghost use Rattle.cord_plan.specs.Forced.{expr_of, expr_with};
+ghost use Rattle.cord_plan.specs.Inlined.{expr_of, expr_with};
 ghost use Rattle.cord_plan.specs.inner.Choices.{choice_view, simple_operands};
 ghost use Rattle.cord_syntax.specs.Readings.{operand_names};
-ghost use Rattle.cord_plan.specs.inner.Known.{IsKnown};
-ghost use Rattle.cord_plan.specs.inner.Liveness.{tells, IsTold};
+ghost use Rattle.cord_plan.specs.inner.ExpressionFacts.{IsKnown};
+ghost use Rattle.cord_plan.specs.inner.Liveness.{reports, IsReported};
 ghost use Rattle.cord_plan.specs.inner.Numbering.{IsNumbered};
 ghost use Rattle.cord_plan.specs.inner.Recent.{IsRecent};
-ghost use Rattle.cord_plan.specs.inner.Steps.{IsNext, IsStep, IsToldLonger, is_catc, is_last, is_named};
+ghost use Rattle.cord_plan.specs.inner.Steps.{IsNext, IsStep, IsReportedLonger, is_catc, is_last, is_named};
 ghost use Rattle.cord_plan.specs.inner.Steps.{operation_expression, sources_view};
 ghost use Rattle.cord_plan.specs.Views.{expr_view, operation_view};
 
 use crate::flow::{LineNumbers, Recent, operands_of};
-use crate::planner::choosing::{Choice, Line, choose, choose_all, is_last, is_named};
+use crate::planner::expression_facts::Known;
 use crate::planner::interning::Interner;
 use crate::planner::joining::expression_with;
-use crate::planner::known::Known;
 use crate::planner::measuring::{Sources, measure, source_of, sources_of};
+use crate::planner::operand_choices::{Choice, Line, choose, choose_all, is_last, is_named};
 use crate::{Expr, Operation};
 use cord_io::CordError;
 use cord_script::Statement;
 use cord_syntax::Operands;
 use std::alloc::Global;
 
-/// The expression of a line, where it is a simple one, and whether the line is told to extend the one before it.
+/// The expression of a line, where it is a simple one, and whether the line is reported to extend the one before it.
 #[derive(Drop)]
 pub(crate) struct NextExpression {
     pub(crate) expression: Option<Expr>,
@@ -107,15 +107,15 @@ fn expression_over<'a>(
     requires recent { IsRecent line.now.statements.now line.now.place line.now.recent.now }
     requires operands { simple_operands line.now.statement.now ≡ Some (operand_names line.now.operands) }
     requires numbers { IsNumbered line.now.recent.now.later.now.numbering line.now.statement.now line.now.numbers }
-    requires told { IsTold line.now.recent.now.later.now line.now.statement.now line.now.place }
+    requires reported { IsReported line.now.recent.now.later.now line.now.statement.now line.now.place }
     requires long { length operations.now ≡ line.now.place }
     requires known { IsKnown line.now.recent.now.later.now.numbering
         (map operation_expression (map operation_view operations.now)) known.old }
     ensures made { IfOk result (λ t. IsNext line.now.statements.now
-        (tells line.now.recent.now.later.now) line.now.place line.now.statement.now
+        (reports line.now.recent.now.later.now) line.now.place line.now.statement.now
         (map operation_view operations.now) (sources_view t.sources) (option_map expr_view t.expression)) }
-    ensures extends { IfOk result (λ t. IsToldLonger line.now.statements.now
-        (tells line.now.recent.now.later.now) line.now.place line.now.statement.now
+    ensures extends { IfOk result (λ t. IsReportedLonger line.now.statements.now
+        (reports line.now.recent.now.later.now) line.now.place line.now.statement.now
         (map operation_view operations.now) t.extends) }
     ensures known { IfOk result (λ t. IsKnown line.now.recent.now.later.now.numbering
         (map operation_expression (map operation_view operations.now) ++ option_map expr_view t.expression ∷ [])
@@ -170,13 +170,14 @@ pub(crate) fn next_expression(
     requires place { place ≤ length statements.now }
     requires recent { IsRecent statements.now place recent.now }
     requires numbers { IsNumbered recent.now.later.now.numbering statement.now numbers }
-    requires told { IsTold recent.now.later.now statement.now place }
+    requires reported { IsReported recent.now.later.now statement.now place }
     requires long { length operations.old ≡ place }
     requires known { IsKnown recent.now.later.now.numbering
         (map operation_expression (map operation_view operations.old)) known.old }
-    ensures made { IfOk result (λ n. IsStep statements.now (tells recent.now.later.now) place statement.now
+    ensures made { IfOk result (λ n. IsStep statements.now (reports recent.now.later.now) place statement.now
         (map operation_view operations.old) (map operation_view operations.new) (option_map expr_view n.expression)) }
-    ensures extends { IfOk result (λ n. IsToldLonger statements.now (tells recent.now.later.now) place statement.now
+    ensures extends { IfOk result (λ n. IsReportedLonger statements.now (reports recent.now.later.now) place
+        statement.now
         (map operation_view operations.old) n.extends) }
     ensures known { IfOk result (λ n. IsKnown recent.now.later.now.numbering
         (map operation_expression (map operation_view operations.old) ++ option_map expr_view n.expression ∷ [])

@@ -1,17 +1,17 @@
 // The expression of a line, with what stands for its operands.
 ghost use Rattle.std.specs.Prelude.{◌≡◌, ◌++◌, ◌∷◌, [], pos, IfOk, IsOkUnless, map, option_map};
 ghost use Rattle.cord_plan.specs.Exprs as plain;
-ghost use Rattle.cord_plan.specs.Exprs.{append, in_front, members, nothing};
+ghost use Rattle.cord_plan.specs.Exprs.{append, preceding, members, nothing};
 ghost use Rattle.cord_operands.specs.declared.operands.Number.TheVariants.{Numeral};
-ghost use Rattle.cord_plan.specs.Forced as chosen;
-ghost use Rattle.cord_plan.specs.Forced.{expr_of, expr_with, own};
+ghost use Rattle.cord_plan.specs.Inlined as chosen;
+ghost use Rattle.cord_plan.specs.Inlined.{expr_of, expr_with, defining};
 ghost use Rattle.cord_plan.specs.inner.Choices.{choice_view};
 ghost use Rattle.cord_plan.specs.Views.{expr_view, members_view, shared_view};
 
 use crate::flow::operands_of;
-use crate::planner::choosing::Choice;
 use crate::planner::constructors::{named, run, run_of, sub_of};
 use crate::planner::interning::Interner;
+use crate::planner::operand_choices::Choice;
 use crate::planner::parts::copy;
 use crate::{Expr, Members};
 use cord_io::CordError;
@@ -43,7 +43,7 @@ fn shared_copy(alloc: Global, expression: &Expr) -> Result<Rc<Expr>, CordError>
 #[inline(always)]
 fn with_copy(alloc: Global, members: Members, expression: &Expr) -> Result<Members, CordError>
     ensures made { IfOk result (λ ms. members_view ms
-        ≡ append (members_view members) (in_front (expr_view expression.now) nothing)) }
+        ≡ append (members_view members) (preceding (expr_view expression.now) nothing)) }
     ensures refused { IsOkUnless result CordError.NoMemory }
 {
     match expression {
@@ -63,7 +63,7 @@ fn with_choice(
     choice: &Choice,
 ) -> Result<Members, CordError>
     ensures made { IfOk result (λ ms. members_view ms
-        ≡ append (members_view members) (in_front (expr_of (choice_view choice.now)) nothing)) }
+        ≡ append (members_view members) (preceding (expr_of (choice_view choice.now)) nothing)) }
     ensures refused { IsOkUnless result CordError.NoMemory }
 {
     match choice {
@@ -195,13 +195,13 @@ fn all_named<'a>(alloc: Global, names: &'a [Name]) -> Result<Vec<Choice<'a>>, Al
     Ok(choices)
 }
 
-/// The own expression of a simple statement; of any other there is none. Refused only with `NoMemory`.
-pub(crate) fn own_expression(
+/// The defining expression of a simple statement; of any other there is none. Refused only with `NoMemory`.
+pub(crate) fn defining_expression(
     alloc: Global,
     interner: &mut Interner,
     statement: &Statement,
 ) -> Result<Option<Expr>, CordError>
-    ensures made { IfOk result (λ e. option_map expr_view e ≡ own statement.now) }
+    ensures made { IfOk result (λ e. option_map expr_view e ≡ defining statement.now) }
     ensures refused { IsOkUnless result CordError.NoMemory }
 {
     match operands_of(statement) {

@@ -4,7 +4,7 @@ ghost use Rattle.cord_plan.specs.inner.Choices.{choice_view};
 ghost use Rattle.cord_plan.specs.inner.Steps.{measured, measured_from, source_of, sources_view};
 ghost use Rattle.cord_plan.specs.Views.{operation_view};
 
-use crate::planner::choosing::Choice;
+use crate::planner::operand_choices::Choice;
 use crate::{Made, Operation};
 use cord_script::Statement;
 use std::alloc::{AllocError, Global};

@@ -29,10 +29,10 @@ pub(crate) fn room_left(expression: &Expr, room: u32) -> Option<u32>
 fn room_left_members(members: &Members, room: u32) -> Option<u32>
     ensures { result ≡ room_left (parts_of (members_view members.now)) room }
 {
-    let (front, rest) = members.halves();
-    match front {
+    let (prefix, rest) = members.halves();
+    match prefix {
         None => room_left_all(rest, room),
-        Some(front) => match room_left_members(front, room) {
+        Some(prefix) => match room_left_members(prefix, room) {
             Some(less) => room_left_all(rest, less),
             None => None,
         },

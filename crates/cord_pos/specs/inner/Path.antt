@@ -70,8 +70,8 @@ pub record IsClimb (old new : List Place) (at : ℕ) : Type 0 where
 
 -- the last place is that of this node, which holds the index
 pub record EndsIn (ps : List Place) (n : Node) (start at : ℕ) : Type 0 where
-  pub front : List Place
-  pub split : ps ≡ front ++ (Some n, start) ∷ []
+  pub prefix : List Place
+  pub split : ps ≡ prefix ++ (Some n, start) ∷ []
   pub holds : holds at (Some n, start) ≡ true
 
 -- the places are those of a way from a sound root, which holds the index

@@ -1,6 +1,6 @@
 -- The parts of an argument, where there is one.
 use Rattle.std.specs.Prelude.{Option, Some, None, List, []}
-use Rattle.cord_node.specs.Kept.{Part}
+use Rattle.cord_node.specs.PartsFrom.{Part}
 use Rattle.cord_printf.specs.declared.arguments.Arg.{Arg}
 use Rattle.cord_printf.specs.Own.{argument_parts}
 

@@ -21,9 +21,9 @@ IsAskedOnce n = n.failed_before < 2 ^ 64 - 1 → n.ended_after + n.failed_after 
 abbrev pub IsLeftAlone : SinkCounts → Type 0
 IsLeftAlone n = (n.failed_after ≡ n.failed_before) × (n.ended_after ≡ n.ended_before)
 
--- how the output of a run was ended, by the run's own end and by the one that is told
+-- how the output of a run was ended, by the run's own end and by the one that is reported
 abbrev pub Closes : SinkCounts → End → End → Type 0
-Closes n (ends.WriteFailed line) told = (told ≡ ends.WriteFailed line) × IsLeftAlone n
-Closes n (ends.ReadFailed line) told = (told ≡ ends.ReadFailed line) × IsAskedOnce n
-Closes n (ends.NoMemory line) told = (told ≡ ends.NoMemory line) × IsAskedOnce n
-Closes n own told = ((told ≡ own) × Finishes n) ⊎ ((told ≡ ends.WriteFailed 0) × FailsToFinish n)
+Closes n (ends.WriteFailed line) reported = (reported ≡ ends.WriteFailed line) × IsLeftAlone n
+Closes n (ends.ReadFailed line) reported = (reported ≡ ends.ReadFailed line) × IsAskedOnce n
+Closes n (ends.NoMemory line) reported = (reported ≡ ends.NoMemory line) × IsAskedOnce n
+Closes n own reported = ((reported ≡ own) × Finishes n) ⊎ ((reported ≡ ends.WriteFailed 0) × FailsToFinish n)

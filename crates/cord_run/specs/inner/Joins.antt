@@ -3,11 +3,11 @@ use Rattle.std.specs.Prelude.{◌≡◌, ℕ, ◌<◌, ◌≤◌, List, Option, 
 use Rattle.cord_node.specs.declared.Node.{Node}
 use Rattle.cord_node.specs.declared.TheConstants.{SMALL_LEN}
 use Rattle.cord_node.specs.Tree.{known}
-use Rattle.cord_node.specs.Kept.{Kept}
+use Rattle.cord_node.specs.PartsFrom.{PartsFrom}
 use Rattle.cord_core.specs.Cord.{all_len, all_parts, all_text, parts_of, text, text_len, IsCord}
 
 -- the first so many cords are parts, and these few bytes are their texts together
-pub record AreInFront (cords : List (Option Node)) (count : ℕ) (bytes : List ℕ) : Type 0 where
+pub record ArePreceding (cords : List (Option Node)) (count : ℕ) (bytes : List ℕ) : Type 0 where
   pub within : count ≤ length cords
   pub text : all_text (take count cords) ≡ map known bytes
   pub len : all_len (take count cords) ≡ length bytes
@@ -15,10 +15,10 @@ pub record AreInFront (cords : List (Option Node)) (count : ℕ) (bytes : List �
   pub few : length bytes ≤ SMALL_LEN
 
 -- a cord is the first so many, joined
-pub record IsFrontOf (cords : List (Option Node)) (count : ℕ) (cord : Option Node) : Type 0 where
+pub record IsJoinOfFirst (cords : List (Option Node)) (count : ℕ) (cord : Option Node) : Type 0 where
   pub some : 0 < count
   pub within : count ≤ length cords
   pub sound : IsCord cord
   pub text : text cord ≡ all_text (take count cords)
   pub len : text_len cord ≡ all_len (take count cords)
-  pub kept : Kept (all_parts (take count cords)) (parts_of cord)
+  pub parts_from : PartsFrom (all_parts (take count cords)) (parts_of cord)

@@ -1,6 +1,6 @@
 // Where `repeat`, `if`, `else` and `end` lead.
 ghost use Rattle.std.specs.Prelude.{get_or, ◌≡◌, ◌+◌, ◌-◌, ◌^◌, ◌<◌, IfNone, IfSome};
-ghost use Rattle.cord_meaning.specs.Blocks.{Simple};
+ghost use Rattle.cord_meaning.specs.Blocks.{Straight};
 ghost use Rattle.cord_meaning.specs.Statements.{compares, shape_of};
 ghost use Rattle.cord_run.specs.inner.Controls.{Goes, statement_at, where_of};
 ghost use Rattle.cord_run.specs.inner.Steps.{IsRefusedAt, goal_of};
@@ -21,7 +21,7 @@ pub(crate) struct ControlLine<'a> {
 #[inline(always)]
 pub(crate) fn control_of(statement: &Statement) -> Option<ControlLine<'_>>
     ensures control { IfSome result (λ at. statement.now ≡ statement_at at) }
-    ensures simple { IfNone result (shape_of statement.now ≡ Simple) }
+    ensures straight { IfNone result (shape_of statement.now ≡ Straight) }
 {
     match statement.family() {
         Family::Control(control) => Some(ControlLine {

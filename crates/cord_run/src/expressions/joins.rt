@@ -2,8 +2,8 @@
 ghost use Rattle.std.specs.Prelude.{◌<◌, IfOk, length};
 ghost use Rattle.cord_core.specs.Cord.{all_parts, parts_of, IsCord};
 ghost use Rattle.cord_core.specs.Equations.{IsAllOf};
-ghost use Rattle.cord_node.specs.Kept.{Kept};
-ghost use Rattle.cord_run.specs.inner.Joins.{AreInFront, IsFrontOf};
+ghost use Rattle.cord_node.specs.PartsFrom.{PartsFrom};
+ghost use Rattle.cord_run.specs.inner.Joins.{ArePreceding, IsJoinOfFirst};
 
 use crate::expressions::slices::leaf_slice;
 use arrayvec::ArrayVec;
@@ -14,7 +14,7 @@ use std::alloc::Global;
 
 // The first of some cords, as one cord.
 #[derive(Drop)]
-struct Front {
+struct Prefix {
     count: usize,
     cord: Cord,
 }
@@ -31,38 +31,38 @@ struct ShortLeaves {
 pub(crate) fn join_all(alloc: Global, cords: &[Cord]) -> Result<Cord, CordError>
     ensures over { IfOk result (IsAllOf cords.now) }
     ensures sound { IfOk result IsCord }
-    ensures parts { IfOk result (λ c. Kept (all_parts cords.now) (parts_of c)) }
+    ensures parts { IfOk result (λ c. PartsFrom (all_parts cords.now) (parts_of c)) }
 {
     let mut all = Cord::empty();
     let mut place = 0;
     while place < cords.len() {
-        let front = front_of(alloc, &cords[place..])?;
-        all = Cord::cat(alloc, &all, &front.cord)?;
-        place += front.count;
+        let prefix = prefix_of(alloc, &cords[place..])?;
+        all = Cord::cat(alloc, &all, &prefix.cord)?;
+        place += prefix.count;
     }
     Ok(all)
 }
 
 // The first cord, or one leaf of the first ones.
-fn front_of(alloc: Global, cords: &[Cord]) -> Result<Front, CordError>
+fn prefix_of(alloc: Global, cords: &[Cord]) -> Result<Prefix, CordError>
     requires { 0 < length cords.now }
-    ensures { IfOk result (λ front. IsFrontOf cords.now front.count front.cord) }
+    ensures { IfOk result (λ prefix. IsJoinOfFirst cords.now prefix.count prefix.cord) }
 {
     let short = short_leaves(cords);
     if short.count > 1 {
         let cord = Cord::from_bytes(alloc, &short.bytes)?;
-        return Ok(Front {
+        return Ok(Prefix {
             count: short.count,
             cord,
         });
     }
     let cord = cords[0].share(alloc)?;
-    Ok(Front { count: 1, cord })
+    Ok(Prefix { count: 1, cord })
 }
 
 // The first of these cords, as far as they are leaves of at most `SMALL_LEN` bytes together.
 fn short_leaves(cords: &[Cord]) -> ShortLeaves
-    ensures { AreInFront cords.now result.count result.bytes.items }
+    ensures { ArePreceding cords.now result.count result.bytes.items }
 {
     let mut count = 0;
     let mut bytes = ArrayVec::new();

@@ -58,11 +58,11 @@ pub(crate) fn length_of(expression: &Expr, store: &Store) -> Result<u64, FaultKi
 fn length_of_members(members: &Members, store: &Store) -> Result<u64, FaultKind>
     ensures { result ≡ counted 0 (members_extent store.now.entries.items (members_view members.now)) }
 {
-    let (front, rest) = members.halves();
-    match front {
+    let (prefix, rest) = members.halves();
+    match prefix {
         None => length_after(0, rest, store),
-        Some(front) => {
-            let total = length_of_members(front, store)?;
+        Some(prefix) => {
+            let total = length_of_members(prefix, store)?;
             length_after(total, rest, store)
         }
     }

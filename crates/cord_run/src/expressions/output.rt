@@ -9,7 +9,7 @@ ghost use Rattle.cord_plan.specs.Views.{expr_view};
 ghost use Rattle.cord_run.specs.inner.Entries.{IsOver};
 ghost use Rattle.cord_run.specs.inner.Holdings.{holding_of, plain_of};
 ghost use Rattle.cord_run.specs.inner.Output.{CountsStops, Puts, PutsBytes, PutsText, Wrote, stop_of_failure};
-ghost use Rattle.cord_io.specs.Device.{Folder};
+ghost use Rattle.cord_io.specs.Device.{FileSystem};
 ghost use Rattle.cord_run.specs.inner.Frames.{IsSameSource};
 
 use crate::expressions::pieces_of;
@@ -36,9 +36,10 @@ pub(crate) fn write<R: Source, S: Sink>(
     sink: &mut S,
 ) -> Result<(), Stop>
     requires over { IsOver (R.lengths source.old) store.now.entries.items }
-    ensures wrote { (folder : Folder) → R.keeps source.new folder →
-        all_texts (holding_of (R.table source.old folder) store.now.entries.items) (cords (expr_view expression.now))
-        ≡ true → Wrote (text_in MAX_LEN (plain_of (R.table source.old folder) store.now.entries.items)
+    ensures wrote { (file_system : FileSystem) → R.consistent source.new file_system →
+        all_texts (holding_of (R.table source.old file_system) store.now.entries.items)
+        (cords (expr_view expression.now))
+        ≡ true → Wrote (text_in MAX_LEN (plain_of (R.table source.old file_system) store.now.entries.items)
         (expr_view expression.now)) (S.taken sink.old) (S.taken sink.new) result }
     ensures counts { CountsStops (failures_of ⟦<R as Source>⟧ ⟦<S as Sink>⟧ source.old sink.old)
         (failures_of ⟦<R as Source>⟧ ⟦<S as Sink>⟧ source.new sink.new) result }
@@ -111,8 +112,8 @@ fn put_pieces<R: Source, S: Sink>(
     sink: &mut S,
 ) -> Result<(), CordError>
     requires fits { AllFitIn (R.lengths source.old) pieces.now }
-    ensures puts { (folder : Folder) → R.keeps source.new folder →
-        Puts (all_bytes (R.table source.old folder) pieces.now) (S.taken sink.old) (S.taken sink.new) result }
+    ensures puts { (file_system : FileSystem) → R.consistent source.new file_system →
+        Puts (all_bytes (R.table source.old file_system) pieces.now) (S.taken sink.old) (S.taken sink.new) result }
     ensures faults { CountsFaults (failures_of ⟦<R as Source>⟧ ⟦<S as Sink>⟧ source.old sink.old)
         (failures_of ⟦<R as Source>⟧ ⟦<S as Sink>⟧ source.new sink.new) result }
     ensures finished { S.finished sink.new ≡ S.finished sink.old }

@@ -21,8 +21,8 @@ pub(crate) fn pair_of(members: &Members) -> Option<(&Expr, &Expr)>
     ensures { IfSome result (λ pair. members_view members.now
         ≡ plain.member (expr_view pair.0.now) (plain.member (expr_view pair.1.now) plain.nothing)) }
 {
-    let (front, rest) = members.halves();
-    if front.is_some() || rest.len() != 2 {
+    let (prefix, rest) = members.halves();
+    if prefix.is_some() || rest.len() != 2 {
         return None;
     }
     Some((rest[0].as_ref(), rest[1].as_ref()))
@@ -70,9 +70,9 @@ pub(crate) fn build_pair(
     ensures refused { IfErr result (IsUnbuilt store.now.entries.items
         (plain.cat (plain.member (expr_view left.now) (plain.member (expr_view right.now) plain.nothing)))) }
 {
-    let front = build_part(alloc, left, store)?;
-    let behind = build_part(alloc, right, store)?;
-    let both = Cord::cat(alloc, &front, &behind)?;
+    let prefix = build_part(alloc, left, store)?;
+    let suffix = build_part(alloc, right, store)?;
+    let both = Cord::cat(alloc, &prefix, &suffix)?;
     Ok(both)
 }
 

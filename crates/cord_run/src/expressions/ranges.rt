@@ -130,11 +130,11 @@ fn add_members(
     ensures few { IfOk result (λ after. AreFew wanted after pieces.old.items pieces.new.items) }
     ensures refused { IsOkUnless result CordError.NoMemory }
 {
-    let (front, rest) = members.halves();
-    match front {
+    let (prefix, rest) = members.halves();
+    match prefix {
         None => add_all(alloc, rest, store, wanted, pieces),
-        Some(front) => {
-            let left = add_members(alloc, front, store, wanted, pieces)?;
+        Some(prefix) => {
+            let left = add_members(alloc, prefix, store, wanted, pieces)?;
             add_all(alloc, rest, store, left, pieces)
         }
     }

@@ -36,10 +36,10 @@ fn gather_members(members: &Members, store: &Store, text: &mut ArrayVec<u8, MOST
     ensures texts { result ≡ true → AreTextsIn store.now.entries.items (members_view members.now) text.new.items }
     ensures short { result ≡ true → length text.new.items ≤ MOST_GATHERED }
 {
-    let (front, rest) = members.halves();
-    match front {
+    let (prefix, rest) = members.halves();
+    match prefix {
         None => gather_all(rest, store, text),
-        Some(front) => gather_members(front, store, text) && gather_all(rest, store, text),
+        Some(prefix) => gather_members(prefix, store, text) && gather_all(rest, store, text),
     }
 }
 

@@ -1,4 +1,4 @@
-// The end of a run: what it is, how the output is ended, and which end is told.
+// The end of a run: what it is, how the output is ended, and which end is reported.
 ghost use Rattle.std.specs.Prelude.{◌≡◌};
 ghost use Rattle.cord_io.specs.SinkCounts.{sink_counts};
 ghost use Rattle.cord_run.specs.inner.Ends.{Closes};
@@ -23,8 +23,8 @@ pub(crate) fn end_of_run(run: Result<(), StopAt>) -> End
     }
 }
 
-/// Ends the output of a run by one `finish`, unless writing failed, and answers the end that is told: the run's own, or
-/// `WriteFailed(0)` where all was put and the sink couldn't finish.
+/// Ends the output of a run by one `finish`, unless writing failed, and answers the end that is reported: the run's
+/// own, or `WriteFailed(0)` where all was put and the sink couldn't finish.
 pub(crate) fn close_output<S: Sink>(own: End, sink: &mut S) -> End
     ensures taken { S.taken sink.new ≡ S.taken sink.old }
     ensures puts { S.failed_puts sink.new ≡ S.failed_puts sink.old }

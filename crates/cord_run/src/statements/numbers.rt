@@ -1,6 +1,6 @@
 // Statements that give a name a number.
 ghost use Rattle.std.specs.Prelude.{◌≡◌, ◌≤◌, ◌+ℤ◌, ◌-ℤ◌, ℕ, List, IfErr, IfOk, IfSome, IsSome, None, Some, pos};
-ghost use Rattle.cord_io.specs.Device.{Folder};
+ghost use Rattle.cord_io.specs.Device.{FileSystem};
 ghost use Rattle.cord_io.specs.Table.{Table};
 ghost use Rattle.cord_io.specs.declared.TheConstants.{MAX_LEN};
 ghost use Rattle.cord_node.specs.Tables.{lengths_of};
@@ -76,7 +76,7 @@ pub(crate) fn serve_computation(store: &mut Store, computation: Computation<'_>)
 {
     match computation {
         Computation::Len { target, operand } => {
-            let len = told_length(store, operand);
+            let len = reported_length(store, operand);
             give_computed(store, target, Ok(len))
         }
         Computation::Assign { target, value } => {
@@ -123,7 +123,7 @@ fn give_computed(
 
 // The length that is told of a name.
 #[inline(always)]
-fn told_length(store: &Store, name: &Name) -> i64
+fn reported_length(store: &Store, name: &Name) -> i64
     requires { length_in store.now.entries.items name.now ≤ MAX_LEN }
     ensures { result ≡ pos (length_in store.now.entries.items name.now) }
 {
@@ -137,8 +137,8 @@ pub(crate) fn look_number<R: Source>(
     look: Look<'_>,
 ) -> Result<i64, Stop>
     requires over { IsOver (R.lengths source.old) store.now.entries.items }
-    ensures found { (folder : Folder) → R.keeps source.new folder → (line : ℕ) →
-        FindsOver (R.table source.old folder) (statement_of line (families.Look look.entry))
+    ensures found { (file_system : FileSystem) → R.consistent source.new file_system → (line : ℕ) →
+        FindsOver (R.table source.old file_system) (statement_of line (families.Look look.entry))
         store.now.entries.items result }
     ensures read { HasRead ⟦<R as Source>⟧ source.old source.new result }
 {
@@ -182,8 +182,8 @@ fn ranges_number<R: Source>(
     count: &Number,
 ) -> Result<i64, Stop>
     requires over { IsOver (R.lengths source.old) store.now.entries.items }
-    ensures found { (folder : Folder) → R.keeps source.new folder → (line : ℕ) (target : List ℕ) →
-        FindsOver (R.table source.old folder) (statements.Ncmp line target left.now left_start.now right.now
+    ensures found { (file_system : FileSystem) → R.consistent source.new file_system → (line : ℕ) (target : List ℕ) →
+        FindsOver (R.table source.old file_system) (statements.Ncmp line target left.now left_start.now right.now
         right_start.now count.now) store.now.entries.items result }
     ensures read { HasRead ⟦<R as Source>⟧ source.old source.new result }
 {
@@ -205,8 +205,8 @@ pub(crate) fn search_number<R: Source>(
     search: Search<'_>,
 ) -> Result<i64, Stop>
     requires over { IsOver (R.lengths source.old) store.now.entries.items }
-    ensures found { (folder : Folder) → R.keeps source.new folder → (line : ℕ) →
-        FindsOver (R.table source.old folder) (statement_of line (families.Search search.entry))
+    ensures found { (file_system : FileSystem) → R.consistent source.new file_system → (line : ℕ) →
+        FindsOver (R.table source.old file_system) (statement_of line (families.Search search.entry))
         store.now.entries.items result }
     ensures read { HasRead ⟦<R as Source>⟧ source.old source.new result }
 {

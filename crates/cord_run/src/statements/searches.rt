@@ -8,7 +8,7 @@ ghost use Rattle.cord_meaning.specs.Statements as statements;
 ghost use Rattle.cord_run.specs.inner.Frames.{IsSameSource};
 ghost use Rattle.cord_run.specs.inner.Numbers.{byte_place, fetched, Finds, HasRead, nearest, ranges_order};
 ghost use Rattle.cord_run.specs.inner.Numbers.{Refuses, text_place};
-ghost use Rattle.cord_io.specs.Device.{Folder, count_after};
+ghost use Rattle.cord_io.specs.Device.{FileSystem, count_after};
 
 use crate::checks::{as_byte, as_index};
 use crate::stops::Stop;
@@ -28,8 +28,8 @@ pub(crate) enum Direction {
 /// The byte of a cord at a place.
 pub(crate) fn fetched<R: Source>(cord: &Cord, index: i64, source: &mut R) -> Result<i64, Stop>
     requires fits { CordFitsIn (R.lengths source.old) cord.now }
-    ensures found { (folder : Folder) → R.keeps source.new folder →
-        Finds (fetched (bytes_of (R.table source.old folder) cord.now) index) result }
+    ensures found { (file_system : FileSystem) → R.consistent source.new file_system →
+        Finds (fetched (bytes_of (R.table source.old file_system) cord.now) index) result }
     ensures read { HasRead ⟦<R as Source>⟧ source.old source.new result }
 {
     let index = checked_index(index)?;
@@ -46,9 +46,9 @@ pub(crate) fn fetched<R: Source>(cord: &Cord, index: i64, source: &mut R) -> Res
 pub(crate) fn compared<R: Source>(left: &Cord, right: &Cord, source: &mut R) -> Result<i64, Stop>
     requires left_fits { CordFitsIn (R.lengths source.old) left.now }
     requires right_fits { CordFitsIn (R.lengths source.old) right.now }
-    ensures found { (folder : Folder) → R.keeps source.new folder →
-        Finds (Ok (order (bytes_of (R.table source.old folder) left.now)
-        (bytes_of (R.table source.old folder) right.now))) result }
+    ensures found { (file_system : FileSystem) → R.consistent source.new file_system →
+        Finds (Ok (order (bytes_of (R.table source.old file_system) left.now)
+        (bytes_of (R.table source.old file_system) right.now))) result }
     ensures read { HasRead ⟦<R as Source>⟧ source.old source.new result }
 {
     match cord_search::cmp(left, right, source) {
@@ -69,9 +69,9 @@ pub(crate) fn ranges_compared<R: Source>(
 ) -> Result<i64, Stop>
     requires left_fits { CordFitsIn (R.lengths source.old) left.now }
     requires right_fits { CordFitsIn (R.lengths source.old) right.now }
-    ensures found { (folder : Folder) → R.keeps source.new folder →
-        Finds (ranges_order (bytes_of (R.table source.old folder) left.now) left_start
-        (bytes_of (R.table source.old folder) right.now) right_start count) result }
+    ensures found { (file_system : FileSystem) → R.consistent source.new file_system →
+        Finds (ranges_order (bytes_of (R.table source.old file_system) left.now) left_start
+        (bytes_of (R.table source.old file_system) right.now) right_start count) result }
     ensures read { HasRead ⟦<R as Source>⟧ source.old source.new result }
 {
     let left_index = checked_index(left_start)?;
@@ -92,9 +92,9 @@ pub(crate) fn text_found<R: Source>(
 ) -> Result<i64, Stop>
     requires fits { CordFitsIn (R.lengths source.old) cord.now }
     requires pattern_fits { CordFitsIn (R.lengths source.old) pattern.now }
-    ensures found { (folder : Folder) → R.keeps source.new folder →
-        Finds (text_place (bytes_of (R.table source.old folder) cord.now) start
-        (bytes_of (R.table source.old folder) pattern.now)) result }
+    ensures found { (file_system : FileSystem) → R.consistent source.new file_system →
+        Finds (text_place (bytes_of (R.table source.old file_system) cord.now) start
+        (bytes_of (R.table source.old file_system) pattern.now)) result }
     ensures read { HasRead ⟦<R as Source>⟧ source.old source.new result }
 {
     let index = checked_index(start)?;
@@ -114,8 +114,8 @@ pub(crate) fn byte_found<R: Source>(
     source: &mut R,
 ) -> Result<i64, Stop>
     requires fits { CordFitsIn (R.lengths source.old) cord.now }
-    ensures found { (folder : Folder) → R.keeps source.new folder →
-        Finds (byte_place direction (bytes_of (R.table source.old folder) cord.now) start byte) result }
+    ensures found { (file_system : FileSystem) → R.consistent source.new file_system →
+        Finds (byte_place direction (bytes_of (R.table source.old file_system) cord.now) start byte) result }
     ensures read { HasRead ⟦<R as Source>⟧ source.old source.new result }
 {
     let index = checked_index(start)?;
@@ -140,8 +140,8 @@ fn nearest<R: Source>(
 ) -> Result<Option<u64>, CordError>
     requires inside { index < text_len cord.now }
     requires fits { CordFitsIn (R.lengths source.old) cord.now }
-    ensures nearest { (folder : Folder) → R.keeps source.new folder →
-        IfOk result (λ place. place ≡ nearest direction (bytes_of (R.table source.old folder) cord.now) index byte) }
+    ensures nearest { (file_system : FileSystem) → R.consistent source.new file_system →
+        IfOk result (λ place. place ≡ nearest direction (bytes_of (R.table source.old file_system) cord.now) index byte) }
     ensures count { R.failures source.new ≡ count_after (is_err result) (R.failures source.old) }
     ensures same { IsSameSource ⟦<R as Source>⟧ source.old source.new }
 {

@@ -25,9 +25,9 @@ pub(crate) struct OwnRange<'a> {
 /// What is joined for the name that is edited: a range of its own, what is put there, and a range of its own again.
 #[derive(Clone, Copy)]
 pub(crate) struct EditForm<'a> {
-    front: OwnRange<'a>,
+    prefix: OwnRange<'a>,
     middle: Option<&'a Expr>,
-    behind: OwnRange<'a>,
+    suffix: OwnRange<'a>,
 }
 
 /// Bytes of a text: so many from a place on.
@@ -55,10 +55,10 @@ pub(crate) fn edit_of<'a>(target: &Name, made: &'a Made, store: &Store) -> Optio
     let cord = store.cord_at(place)?;
     let replaced = replaced_of(
         cord.len(),
-        store.value_of(form.front.start),
-        store.value_of(form.front.count),
-        store.value_of(form.behind.start),
-        store.value_of(form.behind.count),
+        store.value_of(form.prefix.start),
+        store.value_of(form.prefix.count),
+        store.value_of(form.suffix.start),
+        store.value_of(form.suffix.count),
     )?;
     Some(Edit {
         place,
@@ -76,14 +76,14 @@ fn form_of<'a>(target: &Name, made: &'a Made) -> Option<EditForm<'a>>
     };
     match members.halves() {
         (None, [first, last]) => Some(EditForm {
-            front: own_range(target, first.as_ref())?,
+            prefix: own_range(target, first.as_ref())?,
             middle: None,
-            behind: own_range(target, last.as_ref())?,
+            suffix: own_range(target, last.as_ref())?,
         }),
         (None, [first, middle, last]) => {
             form_around(target, first.as_ref(), middle.as_ref(), last.as_ref())
         }
-        (Some(front), [last]) => match front.halves() {
+        (Some(prefix), [last]) => match prefix.halves() {
             (None, [first, middle]) => {
                 form_around(target, first.as_ref(), middle.as_ref(), last.as_ref())
             }
@@ -104,9 +104,9 @@ fn form_around<'a>(
         (member (expr_view last.now) nothing)))) ≡ form_view target.now form) }
 {
     Some(EditForm {
-        front: own_range(target, first)?,
+        prefix: own_range(target, first)?,
         middle: Some(middle),
-        behind: own_range(target, last)?,
+        suffix: own_range(target, last)?,
     })
 }
 

@@ -7,7 +7,7 @@ ghost use Rattle.cord_plan.specs.Views.{made_view};
 ghost use Rattle.cord_run.specs.Failing.{IsFileMade};
 ghost use Rattle.cord_run.specs.inner.Definitions.{file_made};
 ghost use Rattle.cord_run.specs.inner.Contents.{IsFileAt, IsLengthAt, IsNoFileAt, has_failed};
-ghost use Rattle.cord_run.specs.inner.Frames.{KeepNoMore};
+ghost use Rattle.cord_run.specs.inner.Frames.{NoMoreConsistent};
 
 use crate::stops::Stop;
 use cord_core::Cord;
@@ -54,9 +54,9 @@ pub(crate) fn file_cord<F: Files>(
     path: &Path,
     reading: Reading,
 ) -> Result<Cord, Stop>
-    ensures made { IfOk result (IsFileAt (F.keeps (device_in sources.new)) (opened_in sources.new) path.now) }
-    ensures refused { IfErr result (IsNoFileAt (F.keeps (device_in sources.new)) path.now) }
-    ensures earlier { KeepNoMore ⟦<F as Files>⟧ (device_in sources.old) (device_in sources.new) }
+    ensures made { IfOk result (IsFileAt (F.consistent (device_in sources.new)) (opened_in sources.new) path.now) }
+    ensures refused { IfErr result (IsNoFileAt (F.consistent (device_in sources.new)) path.now) }
+    ensures earlier { NoMoreConsistent ⟦<F as Files>⟧ (device_in sources.old) (device_in sources.new) }
     ensures grows { Grows (opened_in sources.old) (opened_in sources.new) }
     ensures counts { F.failures (device_in sources.new)
         ≡ count_after (has_failed result) (F.failures (device_in sources.old)) }
@@ -75,9 +75,9 @@ pub(crate) fn opened_length<F: Files>(
     sources: &mut Sources<F>,
     path: &Path,
 ) -> Result<u64, Stop>
-    ensures told { IfOk result (IsLengthAt (F.keeps (device_in sources.new)) path.now) }
-    ensures refused { IfErr result (IsNoFileAt (F.keeps (device_in sources.new)) path.now) }
-    ensures earlier { KeepNoMore ⟦<F as Files>⟧ (device_in sources.old) (device_in sources.new) }
+    ensures reported { IfOk result (IsLengthAt (F.consistent (device_in sources.new)) path.now) }
+    ensures refused { IfErr result (IsNoFileAt (F.consistent (device_in sources.new)) path.now) }
+    ensures earlier { NoMoreConsistent ⟦<F as Files>⟧ (device_in sources.old) (device_in sources.new) }
     ensures grows { Grows (opened_in sources.old) (opened_in sources.new) }
     ensures counts { F.failures (device_in sources.new)
         ≡ count_after (has_failed result) (F.failures (device_in sources.old)) }

@@ -3,7 +3,7 @@ ghost use Rattle.std.specs.Prelude.{◌≡◌, IfErr, IfOk, IsOkUnless, map};
 ghost use Rattle.cord_meaning.specs.Formats.{format_text};
 ghost use Rattle.cord_plan.specs.Values.{within};
 ghost use Rattle.cord_meaning.specs.State.{and_then};
-ghost use Rattle.cord_run.specs.inner.Contents.{IsFaultOver, IsTextOver, IsToldOver, argument_in};
+ghost use Rattle.cord_run.specs.inner.Contents.{IsFaultOver, IsTextOver, IsReportedOver, argument_in};
 
 use crate::stops::Stop;
 use crate::store::Store;
@@ -38,7 +38,7 @@ pub(crate) fn print_length(
     format: &Format,
     arguments: &[Argument],
 ) -> Result<u64, Stop>
-    ensures told { IfOk result (IsToldOver store.now.entries.items
+    ensures reported { IfOk result (IsReportedOver store.now.entries.items
         (λ s. and_then (format_text s format.now arguments.now) (λ t. within MAX_LEN t))) }
     ensures refused { IfErr result (IsFaultOver store.now.entries.items
         (λ s. and_then (format_text s format.now arguments.now) (λ t. within MAX_LEN t))) }

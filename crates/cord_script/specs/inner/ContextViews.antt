@@ -13,7 +13,7 @@ use Rattle.cord_script.specs.Forms.{Term}
 use Rattle.cord_script.specs.Forms.Term.{Target, Operand, Value, FilePath}
 use Rattle.cord_script.specs.Script.{Scope, Block, kind_of, is_among}
 use Rattle.cord_script.specs.Script.Block.{InRepeat, InIf, InElse}
-use Rattle.cord_script.specs.Flaws.{first_of, unless, kind_flaw, assigned_flaw, IsLeftOpen}
+use Rattle.cord_script.specs.FirstErrors.{first_of, unless, kind_error, assigned_error, IsLeftOpen}
 
 -- an open block
 abbrev pub block_of : Open → Block
@@ -21,7 +21,7 @@ block_of (blocks.Repeat line) = InRepeat line
 block_of (blocks.If line) = InIf line
 block_of (blocks.Else line) = InElse line
 
--- the innermost open block is told so at the end of a script
+-- the innermost open block is reported so at the end of a script
 abbrev pub IsInnermostOpen : List Block → ℕ → RefusalKind → Type 0
 IsInnermostOpen [] n kind = ⊥
 IsInnermostOpen (block ∷ blocks) n kind = IsLeftOpen block n kind
@@ -31,20 +31,20 @@ abbrev pub scope_of : Context → Scope
 scope_of left = record { names = left.names; paths = left.paths.items; blocks = map block_of left.blocks.items }
 
 -- what is wrong with a term as an operand
-abbrev pub operand_term_flaw : List Known → Term → Option RefusalKind
-operand_term_flaw names (Operand kind name) = kind_flaw (kind_of names name) kind
-operand_term_flaw names (Value (numbers.Named name)) = kind_flaw (kind_of names name) kinds.Number
-operand_term_flaw names _ = None
+abbrev pub operand_term_error : List Known → Term → Option RefusalKind
+operand_term_error names (Operand kind name) = kind_error (kind_of names name) kind
+operand_term_error names (Value (numbers.Named name)) = kind_error (kind_of names name) kinds.Number
+operand_term_error names _ = None
 
 -- what is wrong with a term as the target
-abbrev pub target_term_flaw : List Known → Term → Option RefusalKind
-target_term_flaw names (Target kind name) = assigned_flaw (kind_of names name) kind (length names)
-target_term_flaw names _ = None
+abbrev pub target_term_error : List Known → Term → Option RefusalKind
+target_term_error names (Target kind name) = assigned_error (kind_of names name) kind (length names)
+target_term_error names _ = None
 
 -- what is wrong with a term as a path
-abbrev pub path_term_flaw : List (List ℕ) → Term → Option RefusalKind
-path_term_flaw paths (FilePath path) = unless (is_among paths path || nat_lt (length paths) MAX_PATHS) TooMany
-path_term_flaw paths _ = None
+abbrev pub path_term_error : List (List ℕ) → Term → Option RefusalKind
+path_term_error paths (FilePath path) = unless (is_among paths path || nat_lt (length paths) MAX_PATHS) TooMany
+path_term_error paths _ = None
 
 -- the first that is wrong with terms, from left to right
 abbrev pub first_term : (Term → Option RefusalKind) → List Term → Option RefusalKind
@@ -52,6 +52,6 @@ first_term test [] = None
 first_term test (t ∷ ts) = first_of (test t) (first_term test ts)
 
 -- what is wrong with the names of a line: the operands, the target, the path
-abbrev pub terms_flaw : Scope → List Term → Option RefusalKind
-terms_flaw scope ts = first_of (first_term (operand_term_flaw scope.names) ts)
-    (first_of (first_term (target_term_flaw scope.names) ts) (first_term (path_term_flaw scope.paths) ts))
+abbrev pub terms_error : Scope → List Term → Option RefusalKind
+terms_error scope ts = first_of (first_term (operand_term_error scope.names) ts)
+    (first_of (first_term (target_term_error scope.names) ts) (first_term (path_term_error scope.paths) ts))

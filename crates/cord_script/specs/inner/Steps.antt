@@ -5,17 +5,17 @@ use Rattle.cord_syntax.specs.declared.statements.Statement.{Statement}
 use Rattle.cord_script.specs.declared.refusals.RefusalKind.{RefusalKind}
 use Rattle.cord_script.specs.Words.{IsIdle, IsSplit, HasWords, HasBadBytes}
 use Rattle.cord_script.specs.Script.{Scope, LinesSay, whole, start, after_all}
-use Rattle.cord_script.specs.Flaws.{HasBadWords}
+use Rattle.cord_script.specs.FirstErrors.{HasBadWords}
 use Rattle.cord_script.specs.inner.Contexts.{SaysAfter}
 
 -- a line without a statement changes nothing; one with a statement has words that say it
-abbrev pub Tells : ℕ → List ℕ → Scope → Scope → Option Statement → Type 0
-Tells n line old new None = IsIdle line × (new ≡ old)
-Tells n line old new (Some s) = (¬ IsIdle line) × (words : List Word) × HasWords line words × SaysAfter n old new words s
+abbrev pub ReadsLine : ℕ → List ℕ → Scope → Scope → Option Statement → Type 0
+ReadsLine n line old new None = IsIdle line × (new ≡ old)
+ReadsLine n line old new (Some s) = (¬ IsIdle line) × (words : List Word) × HasWords line words × SaysAfter n old new words s
 
 -- the statement of a line, if it has one, is added to the others
-abbrev pub Takes : ℕ → List ℕ → Scope → Scope → List Statement → List Statement → Type 0
-Takes n line old new ss grown = (found : Option Statement) × Tells n line old new found × (grown ≡ ss ++ option_to_list found)
+abbrev pub TakesLine : ℕ → List ℕ → Scope → Scope → List Statement → List Statement → Type 0
+TakesLine n line old new ss grown = (found : Option Statement) × ReadsLine n line old new found × (grown ≡ ss ++ option_to_list found)
 
 -- the words of a line say a statement, which is added to the others
 pub record Adds (n : ℕ) (line : List ℕ) (old new : Scope) (ss grown : List Statement) : Type 0 where
@@ -33,8 +33,8 @@ HasWrong line scope kind = (¬ IsIdle line) × (HasBadBytes line kind ⊎
 
 -- the lines that were read in front of the rest, what they say, and what they leave
 pub record HasRead (b rest : List ℕ) (n : ℕ) (scope : Scope) (statements : List Statement) : Type 0 where
-  pub front : List (List ℕ)
-  pub split : (later : List (List ℕ)) → IsSplit rest later → IsSplit b (front ++ later)
-  pub say : LinesSay whole 1 start front statements
-  pub number : n ≡ length front + 1
+  pub prefix : List (List ℕ)
+  pub split : (later : List (List ℕ)) → IsSplit rest later → IsSplit b (prefix ++ later)
+  pub say : LinesSay whole 1 start prefix statements
+  pub number : n ≡ length prefix + 1
   pub leaves : after_all statements start ≡ scope

@@ -5,8 +5,8 @@ use Rattle.cord_io.specs.declared.TheConstants.{MAX_DEPTH}
 use Rattle.cord_node.specs.declared.Node.{Node}
 use Rattle.cord_node.specs.Tree.{cells, len_of, depth_of, IsSound}
 use Rattle.cord_core.specs.Cord.{bytes_of, CordFits}
-use Rattle.cord_pos.specs.Stretches.{stretch_len, IsStretchOf}
-use Rattle.cord_pos.specs.inner.Stretches.{IsWithin}
+use Rattle.cord_pos.specs.Spans.{span_len, IsSpanOf}
+use Rattle.cord_pos.specs.inner.Spans.{IsWithin}
 use Rattle.cord_search.specs.declared.ahead.Spot.{Spot}
 use Rattle.cord_search.specs.declared.ahead.Stop.{Stop}
 use Rattle.cord_search.specs.declared.ahead.Way.{Way}
@@ -43,8 +43,8 @@ IsWay c w = (k : ℕ) → IfSome (slice_get w.stops.items k) (λ o. IfSome o (Is
 abbrev pub AreAlike : Option Node → ℕ → Option Node → ℕ → ℕ → Type 0
 AreAlike c i d j n = (t : Table) → CordFits t c → CordFits t d → take n (drop i (bytes_of t c)) ≡ take n (drop j (bytes_of t d))
 
--- what two cords have at two places: up to `most` bytes that are the same, or stretches of one length
+-- what two cords have at two places: up to `most` bytes that are the same, or spans of one length
 abbrev pub IsAhead : Option Node → ℕ → Option Node → ℕ → ℕ → Ahead → Type 0
 IsAhead c i d j most (Same n) = (0 < n) × (n ≤ most) × AreAlike c i d j n
-IsAhead c i d j most (Apart s other) = IsStretchOf c i s × IsStretchOf d j other × (stretch_len other ≡ stretch_len s) ×
-    (stretch_len s ≤ most)
+IsAhead c i d j most (Apart s other) = IsSpanOf c i s × IsSpanOf d j other × (span_len other ≡ span_len s) ×
+    (span_len s ≤ most)

@@ -13,5 +13,5 @@ pub record IsCommon (t : Table) (x : Option Node) (i : ℕ) (y : Option Node) (j
   pub differ : n < most → slice_index (bytes_of t x) (i + n) ≢ slice_index (bytes_of t y) (j + n)
 
 -- a text repeats itself so far, and no further
-abbrev pub IsRepeated : Table → Option Node → Repeats → Type 0
-IsRepeated t s r = IsCommon t s 0 s r.period (text_len s - r.period) r.count
+abbrev pub HasPeriods : Table → Option Node → Repeats → Type 0
+HasPeriods t s r = IsCommon t s 0 s r.period (text_len s - r.period) r.count

@@ -18,7 +18,7 @@ IsKindOf kind none.NoMemory = Unit {0}
 abbrev pub IsRequest : List (List ℕ) → Request → Type 0
 IsRequest words request = AsksFor words request.script.now request.unplanned request.show_plan
 
--- why there is no request; want of memory says nothing of the words
+-- why there is no request; out of memory says nothing of the words
 abbrev pub IsNoRequest : List (List ℕ) → NoRequest → Type 0
 IsNoRequest words (none.Help text) = AsksForHelp words
 IsNoRequest words none.Refused = IsRefused words

@@ -5,7 +5,7 @@ use Rattle.std.specs.declared.result.Result.{Result}
 use Rattle.cord_shell.specs.declared.reader.Unread.{Unread}
 use Rattle.cord_shell.specs.declared.reader.Unread.TheVariants.{NotFound, TooBig, NoMemory, Failed}
 
--- what the cause says of the file; want of memory and a failure say nothing of it
+-- what the cause says of the file; out of memory and a failure say nothing of it
 abbrev pub HasCause : Option (List ℕ) → ℕ → Unread → Type 0
 HasCause file most NotFound = file ≡ None
 HasCause file most TooBig = IsSomeAnd file (λ bytes. most < length bytes)

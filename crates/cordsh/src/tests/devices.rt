@@ -1,11 +1,11 @@
-//! Rows of scripts over files, with the plan and without: whole ones, ones that fail after some calls, and ones that
+//! Cases of scripts over files, with the plan and without: whole ones, ones that fail after some calls, and ones that
 //! give no byte after a place.
 use super::{Driven, WAYS, add, drive_over, expect_come, files_and, filled, lines, numbered};
 use cord_io::{CutFiles, FuseFiles, MemFiles};
 use std::process::Abort;
 
-// A name, a script that is shown, the bytes of the file "f", how many calls the files pass, what is told, and how many
-// bytes of the file are written at most.
+// A name, a script that is shown, the bytes of the file "f", how many calls the files pass, what is reported, and how
+// many bytes of the file are written at most.
 type Failing = (&'static str, &'static str, usize, u64, &'static [u8], usize);
 
 const LAZY: &str = r#"lazy x "f" ; put x"#;
@@ -70,12 +70,12 @@ fn expect_failed(
     rt: &impl Abort,
     name: &str,
     come: &Driven,
-    told: &[u8],
+    reported: &[u8],
     file: &[u8],
     most: usize,
 ) {
     assert!(rt; come.status == 4, "{name}");
-    assert!(rt; come.err.bytes() == told, "{name}");
+    assert!(rt; come.err.bytes() == reported, "{name}");
     assert!(rt; come.out.bytes().len() <= most, "{name}");
     assert!(rt; file.starts_with(come.out.bytes()), "{name}");
 }
@@ -84,28 +84,28 @@ fn expect_failed(
 fn drive_fused(
     rt: &(impl AllocGlobal + Abort),
     words: &[&str],
-    shown: &str,
+    printed: &str,
     file: &[u8],
     passes: u64,
 ) -> Driven {
-    let files = files_and(rt, &lines(rt, shown), "f", file);
+    let files = files_and(rt, &lines(rt, printed), "f", file);
     drive_over(rt, words, FuseFiles::new(files, passes))
 }
 
 // The same both ways, where the files fail.
-fn expect_fused(rt: &(impl AllocGlobal + Abort), row: &Failing) {
-    let &(name, shown, count, passes, told, most) = row;
+fn expect_fused(rt: &(impl AllocGlobal + Abort), case: &Failing) {
+    let &(name, printed, count, passes, reported, most) = case;
     let file = numbered(rt, count);
     for &words in WAYS {
-        let come = drive_fused(rt, words, shown, &file, passes);
-        expect_failed(rt, name, &come, told, &file, most);
+        let come = drive_fused(rt, words, printed, &file, passes);
+        expect_failed(rt, name, &come, reported, &file, most);
     }
 }
 
 #[test]
 fn drive_files_fail(rt: HostRuntime) {
-    for row in FAILING {
-        expect_fused(&rt, row);
+    for case in FAILING {
+        expect_fused(&rt, case);
     }
 }
 
@@ -122,8 +122,8 @@ fn lazy_twice(rt: HostRuntime) {
 }
 
 // Drives a script that is shown, over a file "p" of 1,000 bytes that is cut after 600.
-fn drive_cut(rt: &(impl AllocGlobal + Abort), words: &[&str], shown: &str) -> Driven {
-    let files = files_and(rt, &lines(rt, shown), "p", &numbered(rt, 1_000));
+fn drive_cut(rt: &(impl AllocGlobal + Abort), words: &[&str], printed: &str) -> Driven {
+    let files = files_and(rt, &lines(rt, printed), "p", &numbered(rt, 1_000));
     drive_over(rt, words, CutFiles::new(files, 600))
 }
 
@@ -148,11 +148,11 @@ fn cut_files(rt: HostRuntime) {
 }
 
 // Drives a script over two files of 600 bytes each.
-fn drive_two(rt: &(impl AllocGlobal + Abort), words: &[&str], shown: &str) -> Driven {
+fn drive_two(rt: &(impl AllocGlobal + Abort), words: &[&str], printed: &str) -> Driven {
     let alloc = rt.alloc();
     let mut files = MemFiles::new(alloc);
     files
-        .add(alloc, "s", &lines(rt, shown))
+        .add(alloc, "s", &lines(rt, printed))
         .expect(rt, "no memory");
     files
         .add(alloc, "a", &filled(rt, b"", b'a', 600))
@@ -165,10 +165,10 @@ fn drive_two(rt: &(impl AllocGlobal + Abort), words: &[&str], shown: &str) -> Dr
 
 #[test]
 fn blocks_by_entry(rt: HostRuntime) {
-    let shown =
+    let printed =
         r#"lazy x "a" ; lazy y "b" ; substr u x 550 10 ; substr v y 550 10 ; put u ; put v"#;
     for &words in WAYS {
-        let come = drive_two(&rt, words, shown);
+        let come = drive_two(&rt, words, printed);
         expect_come(
             &rt,
             "blocks-by-entry",

@@ -1,4 +1,4 @@
-//! Devices that fail after some calls, under `drive`: the status, the line that is told, and what is written until
+//! Devices that fail after some calls, under `drive`: the status, the line that is reported, and what is written until
 //! then.
 use super::{WAYS, add, files_and, files_with, lines, numbered, words_of};
 use cord_io::{Files, FuseFiles, FuseSink, MemFiles, MemSink, Sink};
@@ -66,27 +66,27 @@ fn stops_at(rt: &(impl AllocGlobal + Abort), hostile: &Hostile<'_>, line: u32, o
     out.starts_with(&before) && until.starts_with(out)
 }
 
-// The line that is told with a cause, where nothing else is told.
-fn told_line(rt: &(impl AllocGlobal + Abort), told: &[u8], cause: &str) -> Option<u32> {
+// The line that is reported with a cause, where nothing else is reported.
+fn reported_line(rt: &(impl AllocGlobal + Abort), reported: &[u8], cause: &str) -> Option<u32> {
     let alloc = rt.alloc();
     for line in 0..10 {
         let message = again!(rt, format!(in alloc; "cordsh: line {line}: {cause}\n"));
-        if told == message.as_bytes() {
+        if reported == message.as_bytes() {
             return Some(line);
         }
     }
     None
 }
 
-/// Compares a run that stopped for want of memory or a failing device: the line is told with the cause that the status
-/// says, and what is written ends there. It is all where the failure was that of the end, and nothing where memory was
-/// refused to the reading of a line; the line is answered.
+/// Compares a run that stopped by refused memory or a failing device: the line is reported with the cause that the
+/// status says, and what is written ends there. It is all where the failure was that of the end, and nothing where
+/// memory was refused to the reading of a line; the line is answered.
 pub(super) fn expect_stopped(
     rt: &(impl AllocGlobal + Abort),
     hostile: &Hostile<'_>,
     status: u8,
     out: &[u8],
-    told: &[u8],
+    reported: &[u8],
 ) -> u32 {
     let cause = match status {
         3 => "no memory",
@@ -94,7 +94,7 @@ pub(super) fn expect_stopped(
         5 => "write failed",
         _ => panic!(rt; "{}: status {status}", hostile.script),
     };
-    let Some(line) = told_line(rt, told, cause) else {
+    let Some(line) = reported_line(rt, reported, cause) else {
         panic!(rt; "{}: another message", hostile.script);
     };
     if status == 5 && line == 0 {

@@ -50,7 +50,7 @@ fn remove_file(rt: &(impl rt::Files + Abort), path: &str) {
     fs::remove_file(rt, path).expect(rt, "not removed");
 }
 
-// Runs words over real files and a stream; answers the status and what is told.
+// Runs words over real files and a stream; answers the status and what is reported.
 fn run_over<R: rt::Files + AllocGlobal + Abort + Clone, O: Write + Drop>(
     rt: &R,
     words: &[&str],
@@ -72,7 +72,7 @@ fn expect_run<R: rt::Files + AllocGlobal + Abort + Clone>(
     words: &[&str],
     status: u8,
     written: &[u8],
-    told: &[u8],
+    reported: &[u8],
 )
 where
     R::File: FileExt,
@@ -81,7 +81,7 @@ where
     let (answered, err) = run_over(rt, words, &mut out);
     assert!(rt; answered == status);
     assert!(rt; out.as_slice() == written);
-    assert!(rt; err.as_slice() == told);
+    assert!(rt; err.as_slice() == reported);
 }
 
 #[test]
@@ -120,14 +120,14 @@ fn real_file(rt: HostRuntime) {
         r#"lazy x "cordsh_test_bytes" ; put x ; fetch n x 1300"#,
     );
     write_file(&rt, path, &script);
-    let told = b"cordsh: line 3: index out of range\n";
-    expect_run(&rt, &[path], 1, &file, told);
-    expect_run(&rt, &["--unplanned", path], 1, &file, told);
+    let reported = b"cordsh: line 3: index out of range\n";
+    expect_run(&rt, &[path], 1, &file, reported);
+    expect_run(&rt, &["--unplanned", path], 1, &file, reported);
     remove_file(&rt, path);
     remove_file(&rt, "cordsh_test_bytes");
 }
 
-// The file is emptied while it is put: what was told before is out, and the failed read is named.
+// The file is emptied while it is put: what was reported before is out, and the failed read is named.
 #[test]
 fn file_cut_while_it_is_read(rt: HostRuntime) {
     let path = "cordsh_test_emptied";

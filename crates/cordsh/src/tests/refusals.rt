@@ -1,7 +1,7 @@
-//! Rows of scripts that are refused, with the plan and without: nothing is written.
-use super::rows::Row;
+//! Cases of scripts that are refused, with the plan and without: nothing is written.
+use super::cases::Case;
 
-pub(super) const REFUSALS: &[Row] = &[
+pub(super) const REFUSALS: &[Case] = &[
     (
         "cat-one-operand",
         "cat z x",

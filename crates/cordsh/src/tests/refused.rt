@@ -25,13 +25,13 @@ fn is_served(
     hostile: &Hostile<'_>,
     come: &Driven,
     status: u8,
-    told: &[u8],
+    reported: &[u8],
 ) -> bool {
     let err = come.err.bytes();
-    let all_told = err == told && come.err.failures() == 0;
-    let cut = told.starts_with(err) && come.err.failures() == 1;
+    let all_reported = err == reported && come.err.failures() == 0;
+    let cut = reported.starts_with(err) && come.err.failures() == 1;
     let written = come.out.bytes() == whole(rt, hostile).as_slice();
-    come.status == status && written && (all_told || cut)
+    come.status == status && written && (all_reported || cut)
 }
 
 // Drives a script both ways. A run that was refused memory, in its work or on `out`, tells it whole, since only one
@@ -41,11 +41,11 @@ fn expect_refusable(
     rt: &(impl AllocGlobal + Abort + Print),
     hostile: &Hostile<'_>,
     status: u8,
-    told: &[u8],
+    reported: &[u8],
 ) {
     for &words in WAYS {
         let come = drive_over(rt, words, files_of(rt, hostile));
-        if !is_served(rt, hostile, &come, status, told) {
+        if !is_served(rt, hostile, &come, status, reported) {
             assert!(rt; come.status == 3 || come.status == 5);
             let _ = rt.println(if come.status == 3 {
                 "saw: status 3"
@@ -55,7 +55,7 @@ fn expect_refusable(
             assert!(rt; (come.out.failures() == 1) == (come.status == 5));
             let _ = expect_stopped(rt, hostile, come.status, come.out.bytes(), come.err.bytes());
             let next = drive_over(rt, words, files_of(rt, hostile));
-            assert!(rt; is_served(rt, hostile, &next, status, told));
+            assert!(rt; is_served(rt, hostile, &next, status, reported));
             assert!(rt; next.err.failures() == 0);
         }
     }

@@ -2,7 +2,7 @@
 use super::{HELLO, add, expect_both, filled, lines};
 use std::process::Abort;
 
-// A name, a script, the status, what is written and what is told.
+// A name, a script, the status, what is written and what is reported.
 type Script = (
     &'static str,
     &'static [u8],
@@ -74,12 +74,12 @@ const SCRIPTS: &[Script] = &[
 
 #[test]
 fn scripts(rt: HostRuntime) {
-    for &(name, script, status, written, told) in SCRIPTS {
-        expect_both(&rt, name, script, status, written, told);
+    for &(name, script, status, written, reported) in SCRIPTS {
+        expect_both(&rt, name, script, status, written, reported);
     }
 }
 
-// A name, a text and so many copies of a byte after it, which are the script, the status and what is told.
+// A name, a text and so many copies of a byte after it, which are the script, the status and what is reported.
 type Size = (&'static str, &'static [u8], u8, usize, u8, &'static [u8]);
 
 const SIZES: &[Size] = &[
@@ -113,14 +113,14 @@ const SIZES: &[Size] = &[
 
 #[test]
 fn sizes(rt: HostRuntime) {
-    for &(name, text, byte, count, status, told) in SIZES {
+    for &(name, text, byte, count, status, reported) in SIZES {
         expect_both(
             &rt,
             name,
             &filled(&rt, text, byte, count),
             status,
             b"",
-            told,
+            reported,
         );
     }
 }
@@ -169,8 +169,8 @@ const EC_GOES_ON: &str =
 // One name too many; an extensible cord that goes on after its text was taken; substrings that share their text.
 #[test]
 fn built_scripts(rt: HostRuntime) {
-    let told = b"cordsh: line 257: too many\n";
-    expect_both(&rt, "names-one-too-many", &names(&rt), 2, b"", told);
+    let reported = b"cordsh: line 257: too many\n";
+    expect_both(&rt, "names-one-too-many", &names(&rt), 2, b"", reported);
     let script = lines(&rt, EC_GOES_ON);
     let mut out = filled(&rt, b"", b'A', 129);
     add(&rt, &mut out, b"130");

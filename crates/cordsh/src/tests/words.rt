@@ -1,4 +1,4 @@
-//! The command line: flags, help, shown plans.
+//! The command line: flags, help, printed plans.
 use super::{HELLO, drive_over, expect_come, files_with, words_of};
 use cord_io::{FuseSink, MemFiles, MemSink, Sink};
 use cord_shell::drive;
@@ -30,8 +30,8 @@ const MISSING: &[u8] = b"cordsh: line 0: no such file\n";
 
 const UNKNOWN_NAME: &[u8] = b"cordsh: line 1: unknown name\n";
 
-// A name, the words, the script at "s", the status, what is written and what is told.
-type Row = (
+// A name, the words, the script at "s", the status, what is written and what is reported.
+type Case = (
     &'static str,
     &'static [&'static str],
     &'static [u8],
@@ -40,7 +40,7 @@ type Row = (
     &'static [u8],
 );
 
-const REFUSALS: &[Row] = &[
+const REFUSALS: &[Case] = &[
     ("no-words", &[], HELLO, 2, b"", REFUSED),
     ("two-scripts", &["s", "t"], HELLO, 2, b"", REFUSED),
     ("unknown-flag", &["--nope", "s"], HELLO, 2, b"", REFUSED),
@@ -77,7 +77,7 @@ const REFUSALS: &[Row] = &[
     ("dashes-alone", &["--"], HELLO, 2, b"", REFUSED),
 ];
 
-const SERVED: &[Row] = &[
+const SERVED: &[Case] = &[
     ("unplanned", &["--unplanned", "s"], HELLO, 0, b"hello", b""),
     (
         "unplanned-last",
@@ -184,24 +184,24 @@ const SERVED: &[Row] = &[
     ),
 ];
 
-fn expect_rows(rt: &(impl AllocGlobal + Abort), rows: &[Row]) {
-    for &(name, words, script, status, written, told) in rows {
+fn expect_cases(rt: &(impl AllocGlobal + Abort), cases: &[Case]) {
+    for &(name, words, script, status, written, reported) in cases {
         let come = drive_over(rt, words, files_with(rt, script));
-        expect_come(rt, name, &come, status, written, told);
+        expect_come(rt, name, &come, status, written, reported);
     }
 }
 
 #[test]
 fn words_refused(rt: HostRuntime) {
-    expect_rows(&rt, REFUSALS);
+    expect_cases(&rt, REFUSALS);
 }
 
 #[test]
 fn words_served(rt: HostRuntime) {
-    expect_rows(&rt, SERVED);
+    expect_cases(&rt, SERVED);
 }
 
-// What the words write to an output in memory, with status 0 and nothing told.
+// What the words write to an output in memory, with status 0 and nothing reported.
 fn written(rt: &(impl AllocGlobal + Abort), words: &[&str]) -> MemSink {
     let come = drive_over(rt, words, files_with(rt, HELLO));
     assert!(rt; come.status == 0);
@@ -278,7 +278,7 @@ fn plans_and_help_cut(rt: HostRuntime) {
     expect_cut(&rt, &["--help"]);
 }
 
-// A name, a script, how many calls its output passes, the status, what is written and what is told.
+// A name, a script, how many calls its output passes, the status, what is written and what is reported.
 type Fused = (
     &'static str,
     &'static [u8],
@@ -310,11 +310,11 @@ const FUSED: &[Fused] = &[
 
 #[test]
 fn output_fails(rt: HostRuntime) {
-    for &(name, script, passes, status, written, told) in FUSED {
+    for &(name, script, passes, status, written, reported) in FUSED {
         let cut = drive_cut(&rt, &["s"], script, passes);
         assert!(rt; cut.status == status, "{name}");
         assert!(rt; cut.out.inner().bytes() == written, "{name}");
-        assert!(rt; cut.err.bytes() == told, "{name}");
+        assert!(rt; cut.err.bytes() == reported, "{name}");
     }
 }
 

@@ -65,8 +65,8 @@ returns-else-middle-from t c =
     let plain = rw c.in-Cat.is at c.requires.plain in
     let seam : middle ≡ length (bytes_over no_table left) =
     c.len-middle.ensures.stored ∙ ap len_of c.deref.ensures ∙ node_len left sound.0 plain.0 in
-    let front : c.copy_range-else-middle-from.new.bytes ≡ take (middle - from) (drop from (bytes_over no_table left)) = search rules in
+    let prefix : c.copy_range-else-middle-from.new.bytes ≡ take (middle - from) (drop from (bytes_over no_table left)) = search rules in
     let back : c.copy_range-else-middle-from-2.new.bytes ≡ take (from + n - middle) (drop 0 (bytes_over no_table right)) = search rules in
     let both = range_both (bytes_over no_table left) (bytes_over no_table right) from n
     (omega (arith, seam, c.if-middle-from.false)) (omega (arith, seam, c.if-from-bytes.false)) in
-    rw c.in-Cat.is (rw (front, back, seam) (sym both))
+    rw c.in-Cat.is (rw (prefix, back, seam) (sym both))

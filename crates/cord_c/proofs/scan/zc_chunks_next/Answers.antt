@@ -10,7 +10,7 @@ returns-clause-chunk c =
     let count = c.copy_to-count.result in
     let text = chunks.text.text in
     let room = length chunks.bytes in
-    ap (λ (front : List ℕ). front ++ drop (chunks.next + count) c.copy_to-count.new.self.text) c.copy_to-count.ensures.bytes
+    ap (λ (prefix : List ℕ). prefix ++ drop (chunks.next + count) c.copy_to-count.new.self.text) c.copy_to-count.ensures.bytes
     ∙ ap (λ (t : List ℕ). take room (drop chunks.next text) ++ drop (chunks.next + count) t) c.copy_to-count.ensures.same
     ∙ next_chunk text room chunks.next count c.copy_to-count.ensures.count
     ∙ ap (λ (x : Chunks). left_of x) c.missing.ensures.unchanged

@@ -15,5 +15,5 @@ returns-clause-cat c = record {
   form = c.in_ok-tail.ensures.form;
   depth_is = c.in_ok-cord.ensures.depth;
   sides = c.in_ok-cord.ensures.sides;
-  kept = c.in_ok-cord.ensures.kept;
+  parts_from = c.in_ok-cord.ensures.parts_from;
 }

@@ -14,7 +14,7 @@ loop-cord-preserved c =
     let i : IsCatting c.args.cords.now (c.cord-item.result ∷ drop (c.loop-cord.cord-index + 1) c.args.cords.now) c.loop-cord.all =
     rw (← e) c.loop-cord.invariant in
     catting_step c.args.cords.now c.cord-item.result (drop (c.loop-cord.cord-index + 1) c.args.cords.now) c.loop-cord.all c.in_ok-all.all i
-    c.in_ok-all.ensures.sound c.in_ok-all.ensures.text c.in_ok-all.ensures.len c.in_ok-all.ensures.kept
+    c.in_ok-all.ensures.sound c.in_ok-all.ensures.text c.in_ok-all.ensures.len c.in_ok-all.ensures.parts_from
 
 pub returns-clause-over : goal.returns-clause-over
 returns-clause-over c =

@@ -1,7 +1,7 @@
 use Rattle.std.proofs.Common.{◌≡◌, ◌+◌, ◌≤◌, arith}
 use Rattle.std.specs.Prelude.{Some}
 use Rattle.std.proofs.lemmas.Grind.{common_steps}
-use Rattle.cord_node.specs.Kept.{parts}
+use Rattle.cord_node.specs.PartsFrom.{parts}
 use Rattle.cord_node.specs.Touched.{touched}
 use Rattle.cord_node.proofs.TouchedLemmas.{touched_longer}
 use Rattle.cord_core.specs.Cord.{parts_of, IsCord}

@@ -3,6 +3,6 @@ use Rattle.cord_core.proofs.Splices.{joined_parts}
 use Rattle.cord_core.proofs.splice.joined.Goals as goal
 
 pub returns-clause-from_there : goal.returns-clause-from_there
-returns-clause-from_there c = joined_parts (parts_of c.args.front.now) (parts_of c.args.middle.now) (parts_of c.args.back.now)
-    (parts_of c.in_ok-longer.longer) (parts_of c.in_ok-all.all) c.in_ok-longer.ensures.kept.from_there
-    c.in_ok-all.ensures.kept.from_there
+returns-clause-from_there c = joined_parts (parts_of c.args.prefix.now) (parts_of c.args.middle.now) (parts_of c.args.back.now)
+    (parts_of c.in_ok-longer.longer) (parts_of c.in_ok-all.all) c.in_ok-longer.ensures.parts_from.from_there
+    c.in_ok-all.ensures.parts_from.from_there

@@ -1,6 +1,6 @@
 use Rattle.std.proofs.Common.{◌≡◌, arith, sym, subst, ◌++◌}
 use Rattle.std.proofs.lemmas.Grind.{common_steps}
-use Rattle.cord_node.specs.Kept.{AreFrom}
+use Rattle.cord_node.specs.PartsFrom.{AreFrom}
 use Rattle.cord_core.specs.contracts.Cord.{the_view}
 use Rattle.cord_core.specs.Cord.{parts_of}
 use Rattle.cord_core.proofs.Splices.{old_parts, new_parts}

@@ -27,7 +27,7 @@ loop-rest-preserved-in_ok-longer c =
       len_is = omega (arith, c.in_ok-longer.ensures.len, c.in_ok-leaf.ensures.len, ap length bytes_are, sum, c.loop-rest.invariant.len_is);
       gathering = gathering_step (parts_of c.args.cord) (parts_of c.loop-rest.longer) (parts_of c.in_ok-longer.longer) b
           (length c.args.bytes.now) (length rest) (length run) (length left) sum most some c.in_ok-leaf.ensures.small
-          (rw (← c.in_ok-leaf.ensures.parts) c.in_ok-longer.ensures.kept) c.loop-rest.invariant.gathering;
+          (rw (← c.in_ok-leaf.ensures.parts) c.in_ok-longer.ensures.parts_from) c.loop-rest.invariant.gathering;
     }
 
 pub returns-clause-gathered : goal.returns-clause-gathered

@@ -1,6 +1,6 @@
 use Rattle.std.proofs.Common.{◌≡◌, ◌∙◌, ◌++◌, List, [], length, map, ap, sym, subst}
 use Rattle.std.proofs.lemmas.List.{length-map}
-use Rattle.cord_node.specs.Kept.{Part}
+use Rattle.cord_node.specs.PartsFrom.{Part}
 use Rattle.cord_node.specs.Tree.{known}
 use Rattle.cord_core.specs.Cord.{text, parts_of}
 use Rattle.cord_core.proofs.OverLemmas.{length-text}
@@ -18,4 +18,4 @@ returns-clause-len c = sym (length-text c.in_ok-leaves.leaves c.in_ok-leaves.ens
 
 pub returns-clause-gathered : goal.returns-clause-gathered
 returns-clause-gathered c = λ k few. subst (λ (old : List Part). Gathered k old (parts_of c.in_ok-leaves.leaves))
-    c.in_ok-grown.ensures.parts (kept_gathered k _ _ _ (c.in_ok-append_bytes.ensures.gathered k few) c.in_ok-leaves.ensures.kept)
+    c.in_ok-grown.ensures.parts (kept_gathered k _ _ _ (c.in_ok-append_bytes.ensures.gathered k few) c.in_ok-leaves.ensures.parts_from)

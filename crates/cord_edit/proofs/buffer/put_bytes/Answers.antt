@@ -1,5 +1,5 @@
 use Rattle.std.proofs.Common.{List, ◌++◌, subst}
-use Rattle.cord_node.specs.Kept.{Part}
+use Rattle.cord_node.specs.PartsFrom.{Part}
 use Rattle.cord_core.specs.Cord.{parts_of}
 use Rattle.cord_ec.specs.Gathered.{Gathered}
 use Rattle.cord_ec.proofs.Leaves.{leaf_of_bytes}

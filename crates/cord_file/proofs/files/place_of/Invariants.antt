@@ -1,5 +1,5 @@
 use Rattle.std.proofs.Common.{◌≡◌, ◌+◌, drop}
-use Rattle.cord_file.specs.Entries.{id_in, id_from}
+use Rattle.cord_file.specs.FileTable.{id_in, id_from}
 use Rattle.cord_file.specs.Files.{opened_of}
 use Rattle.cord_file.proofs.files.place_of.Given as goal
 

@@ -1,19 +1,20 @@
 use Rattle.std.proofs.Common.{◌-◌, ◌≡◌, ◌≤◌, ◌<◌, ℕ}
 use Rattle.std.specs.Prelude.{vec_len}
-use Rattle.cord_io.specs.Device.{Folder}
+use Rattle.cord_io.specs.Device.{FileSystem}
 use Rattle.cord_file.specs.inner.Blocks.{BeginsWithFile}
 use Rattle.cord_file.proofs.reading.read_all.Given as goal
 
--- so many bytes are read, of the file in each folder that the files keep now
+-- so many bytes are read, of the file in each file system that is consistent with the files now
 abbrev pub invariant-loop-done : goal.invariant-loop-done
 invariant-loop-done g l = record {
   room : 0 < l.room;
   done : l.done ≤ vec_len l.bytes;
   most : vec_len l.bytes ≤ l.len;
-  earlier : (folder : Folder) → g.F.Files.keeps l.files folder → g.F.Files.keeps l.initial.files folder;
+  earlier : (file_system : FileSystem) → g.F.Files.consistent l.files file_system → g.F.Files.consistent l.initial.files file_system;
   opened : (n : ℕ) → g.F.Files.opened l.files n ≡ g.F.Files.opened l.initial.files n;
   count : g.F.Files.failures l.files ≡ g.F.Files.failures l.initial.files;
-  bytes : (folder : Folder) → g.F.Files.keeps l.files folder → BeginsWithFile folder (g.F.Files.opened l.initial.files l.no.0) l.done
+  bytes : (file_system : FileSystem) → g.F.Files.consistent l.files file_system → BeginsWithFile file_system
+      (g.F.Files.opened l.initial.files l.no.0) l.done
       l.bytes.items;
 }
 

@@ -12,14 +12,14 @@ loop-done-preserved g c =
     let part = c.read_at.new.out in
     record {
       done = search rules;
-      earlier = λ folder kept. loop.invariant.earlier folder (c.in_ok-done.ensures.earlier folder kept);
+      earlier = λ file_system kept. loop.invariant.earlier file_system (c.in_ok-done.ensures.earlier file_system kept);
       opened = λ n. c.read_at.ensures.opened n ∙ c.loop-done.invariant.opened n;
       count = search rules;
-      bytes = λ folder kept.
+      bytes = λ file_system kept.
           let Piece : Option (List ℕ × ℕ) → Type 0 =
-          λ told. IsSomeAnd told (λ file. take k part ≡ take k (drop (c.args.start + loop.done) (bytes_at folder file.0))) in
-          more_read (λ file. file.0) folder (g.F.Files.opened c.args.files.now no) loop.done k _ c.args.start loop.out part
+          λ reported. IsSomeAnd reported (λ file. take k part ≡ take k (drop (c.args.start + loop.done) (bytes_at file_system file.0))) in
+          more_read (λ file. file.0) file_system (g.F.Files.opened c.args.files.now no) loop.done k _ c.args.start loop.out part
           loop.invariant.done c.in_ok-done.ensures.some.1
-          (loop.invariant.bytes folder (c.in_ok-done.ensures.earlier folder kept))
-          (subst Piece (loop.invariant.opened no) (c.in_ok-done.ensures.bytes folder kept));
+          (loop.invariant.bytes file_system (c.in_ok-done.ensures.earlier file_system kept))
+          (subst Piece (loop.invariant.opened no) (c.in_ok-done.ensures.bytes file_system kept));
     }

@@ -1,6 +1,6 @@
 use Rattle.std.proofs.Common.{◌≡◌, ◌+◌, ◌-◌, ◌≤◌, take, false}
 use Rattle.std.specs.Prelude.{reverse}
-use Rattle.cord_io.specs.Device.{Folder}
+use Rattle.cord_io.specs.Device.{FileSystem}
 use Rattle.cord_core.specs.Cord.{bytes_of}
 use Rattle.cord_iter.specs.Walk.{walk}
 use Rattle.cord_iter.specs.inner.Walk.{left_of}
@@ -11,13 +11,14 @@ abbrev pub invariant-loop-position : goal.invariant-loop-position
 invariant-loop-position g l = record {
   cord : l.position.cord ≡ l.cord;
   below : left_of l.position.index ≤ l.i + 1;
-  walked : (folder : Folder) → g.S.Source.keeps l.src folder → walk g.V.Visitor.step (g.V.Visitor.state l.initial.visitor)
-      (take (l.i + 1 - left_of l.position.index) (reverse (take (l.i + 1) (bytes_of (g.S.Source.table l.initial.src folder) l.cord))))
+  walked : (file_system : FileSystem) → g.S.Source.consistent l.src file_system → walk g.V.Visitor.step
+      (g.V.Visitor.state l.initial.visitor)
+      (take (l.i + 1 - left_of l.position.index) (reverse (take (l.i + 1) (bytes_of (g.S.Source.table l.initial.src file_system) l.cord))))
       ≡ (g.V.Visitor.state l.visitor, false);
   reads : g.S.Source.failures l.src ≡ g.S.Source.failures l.initial.src;
   lengths : g.S.Source.lengths l.src ≡ g.S.Source.lengths l.initial.src;
   table : g.S.Source.table l.src ≡ g.S.Source.table l.initial.src;
-  earlier : (folder : Folder) → g.S.Source.keeps l.src folder → g.S.Source.keeps l.initial.src folder;
+  earlier : (file_system : FileSystem) → g.S.Source.consistent l.src file_system → g.S.Source.consistent l.initial.src file_system;
 }
 
 abbrev pub decreases-loop-position : goal.decreases-loop-position

@@ -15,7 +15,7 @@ returns-in_err-put_piece-clause-prefix g c =
     let room : count ≤ length c.loop-done.buffer = subst (λ n. count ≤ n) (sym c.loop-done.invariant.room) most in
     let whole : length (take count c.loop-done.buffer) ≡ count = length-take-le count c.loop-done.buffer room in
     let inside : done + count ≤ c.args.len = omega (arith, c.piece_len-count.ensures.inside) in
-    let piece : Takes (IsPrefixOver (g.S.Source.keeps c.put_piece.new.src) table (Func c.args.id count (c.args.start + done)))
+    let piece : Takes (IsPrefixOver (g.S.Source.consistent c.put_piece.new.src) table (Func c.args.id count (c.args.start + done)))
     (g.W.Sink.taken c.loop-done.sink) (g.W.Sink.taken c.put_piece.new.sink) =
     rw (c.loop-done.invariant.table, whole) at c.in_err-put_piece.ensures.prefix in
     on_err c.from_residual.result (takes_both c.loop-done.invariant.taken piece
@@ -29,20 +29,20 @@ loop-done-preserved g c =
     let most : count ≤ g.row.N = omega (arith, c.piece_len-count.ensures.most, c.most_of.ensures.inside) in
     let room : count ≤ length c.loop-done.buffer = subst (λ n. count ≤ n) (sym c.loop-done.invariant.room) most in
     let whole : length (take count c.loop-done.buffer) ≡ count = length-take-le count c.loop-done.buffer room in
-    let piece : Takes (IsTextOver (g.S.Source.keeps c.put_piece.new.src) table (Func c.args.id count (c.args.start + done)))
+    let piece : Takes (IsTextOver (g.S.Source.consistent c.put_piece.new.src) table (Func c.args.id count (c.args.start + done)))
     (g.W.Sink.taken c.loop-done.sink) (g.W.Sink.taken c.put_piece.new.sink) =
     rw (c.loop-done.invariant.table, whole) at c.in_ok-put_piece.ensures.text in
     record {
       in_range = omega (arith, c.piece_len-count.ensures.inside);
       room = length-append c.put_piece.new.piece (drop count c.loop-done.buffer)
-          ∙ (let front : length c.put_piece.new.piece ≡ count = c.put_piece.auto.piece ∙ whole in
-          let rest = length-drop count c.loop-done.buffer in omega (arith, front, rest, room, c.loop-done.invariant.room));
+          ∙ (let prefix : length c.put_piece.new.piece ≡ count = c.put_piece.auto.piece ∙ whole in
+          let rest = length-drop count c.loop-done.buffer in omega (arith, prefix, rest, room, c.loop-done.invariant.room));
       taken = takes_both c.loop-done.invariant.taken piece (λ x y.
           func_text table c.args.id c.args.start done count x y c.put_piece.ensures.source.earlier);
       reads = c.in_ok-put_piece.ensures.faults.0 ∙ c.loop-done.invariant.reads;
       puts = c.in_ok-put_piece.ensures.faults.1 ∙ c.loop-done.invariant.puts;
       lengths = c.put_piece.ensures.source.lengths ∙ c.loop-done.invariant.lengths;
       table = c.put_piece.ensures.source.table ∙ c.loop-done.invariant.table;
-      earlier = λ folder kept. c.loop-done.invariant.earlier folder (c.put_piece.ensures.source.earlier folder kept);
+      earlier = λ file_system kept. c.loop-done.invariant.earlier file_system (c.put_piece.ensures.source.earlier file_system kept);
       finished = c.put_piece.ensures.finished ∙ c.loop-done.invariant.finished;
     }

@@ -1,5 +1,5 @@
 use Rattle.std.proofs.Common.{◌-◌, ◌≡◌, ◌≤◌, length}
-use Rattle.cord_io.specs.Device.{Folder}
+use Rattle.cord_io.specs.Device.{FileSystem}
 use Rattle.cord_node.specs.declared.Node.TheVariants.{Func}
 use Rattle.cord_iter.specs.Output.{Takes}
 use Rattle.cord_iter.specs.inner.Output.{IsTextOver}
@@ -10,13 +10,13 @@ abbrev pub invariant-loop-done : goal.invariant-loop-done
 invariant-loop-done g l = record {
   in_range : l.done ≤ l.len;
   room : length l.buffer ≡ g.row.N;
-  taken : Takes (IsTextOver (g.S.Source.keeps l.src) (g.S.Source.table l.initial.src) (Func l.id l.done l.start))
+  taken : Takes (IsTextOver (g.S.Source.consistent l.src) (g.S.Source.table l.initial.src) (Func l.id l.done l.start))
       (g.W.Sink.taken l.initial.sink) (g.W.Sink.taken l.sink);
   reads : g.S.Source.failures l.src ≡ g.S.Source.failures l.initial.src;
   puts : g.W.Sink.failures l.sink ≡ g.W.Sink.failures l.initial.sink;
   lengths : g.S.Source.lengths l.src ≡ g.S.Source.lengths l.initial.src;
   table : g.S.Source.table l.src ≡ g.S.Source.table l.initial.src;
-  earlier : (folder : Folder) → g.S.Source.keeps l.src folder → g.S.Source.keeps l.initial.src folder;
+  earlier : (file_system : FileSystem) → g.S.Source.consistent l.src file_system → g.S.Source.consistent l.initial.src file_system;
   finished : g.W.Sink.finished l.sink ≡ g.W.Sink.finished l.initial.sink;
 }
 

@@ -2,14 +2,14 @@ use Rattle.std.proofs.Common.{◌≡◌, ◌≤◌, ◌++◌, length, take, drop
 use Rattle.cord_io.specs.Device.{raised}
 use Rattle.std.proofs.lemmas.List.{take_rest}
 use Rattle.std.proofs.Math.Seq.{take-add}
-use Rattle.cord_iter.proofs.Takes.{appends_both, front_take, writes_err}
+use Rattle.cord_iter.proofs.Takes.{appends_both, prefix_take, writes_err}
 use Rattle.cord_iter.proofs.pieces.put_all.Goals as goal
 
 pub returns-in_err-done : goal.returns-in_err-done
 returns-in_err-done g c = writes_err c.from_residual.ensures.0
     record {
       out = take c.loop-done.done c.args.bytes.now;
-      such = front_take c.args.bytes.now c.loop-done.done;
+      such = prefix_take c.args.bytes.now c.loop-done.done;
       taken = c.in_err-done.ensures.refused ∙ c.loop-done.invariant.taken;
     }
     (c.in_err-done.ensures.count ∙ ap raised c.loop-done.invariant.count) (c.put.ensures.finished ∙ c.loop-done.invariant.finished)

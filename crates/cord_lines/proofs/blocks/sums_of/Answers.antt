@@ -2,7 +2,7 @@ use Rattle.std.proofs.Common.{◌≡◌, ◌∙◌, ◌<◌, take, drop, length,
 use Rattle.std.specs.Prelude.{◌==◌}
 use Rattle.std.proofs.lemmas.Bool.Decides.{nat_tests}
 use Rattle.cord_lines.specs.inner.Blocks.{total}
-use Rattle.cord_lines.proofs.Sums.{min_front, min_back}
+use Rattle.cord_lines.proofs.Sums.{min_prefix, min_back}
 use Rattle.cord_lines.proofs.Grouping.{none_so_far, one_group_more, groups_done, none_left}
 use Rattle.cord_lines.proofs.blocks.sums_of.Goals as goal
 
@@ -14,7 +14,7 @@ loop-rest-preserved c =
     let rest = c.loop-rest.rest.now in
     let some : 0 < length rest = grind (arith, nat_tests, c.loop-rest-test.true, c.is_empty.ensures) in
     rw c.in_ok-push.ensures.items (one_group_more c.loop-rest.sums.items c.args.blocks.now rest c.sum_of.result c.split_at.result.1.now c.loop-rest.invariant some
-    (c.sum_of.ensures ∙ ap total (c.split_at.ensures.front ∙ min_front rest 256 c.min.result c.min.ensures))
+    (c.sum_of.ensures ∙ ap total (c.split_at.ensures.front ∙ min_prefix rest 256 c.min.result c.min.ensures))
     (c.split_at.ensures.back ∙ min_back rest 256 c.min.result c.min.ensures))
 
 pub returns-clause-sums : goal.returns-clause-sums

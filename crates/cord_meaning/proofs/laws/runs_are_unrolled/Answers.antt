@@ -2,11 +2,11 @@ use Rattle.std.proofs.Common.{refl, sym}
 use Rattle.cord_meaning.specs.State.{start_state}
 use Rattle.cord_meaning.specs.Statements.{rules, shape_of}
 use Rattle.cord_meaning.proofs.Nesting.{are_parts}
-use Rattle.cord_meaning.proofs.Unrolls.{moments_unrolled, end_unrolled}
+use Rattle.cord_meaning.proofs.Unrolls.{trace_unrolled, end_unrolled}
 use Rattle.cord_meaning.proofs.laws.runs_are_unrolled.Goals as goal
 
-pub returns-clause-moments : goal.returns-clause-moments
-returns-clause-moments c = λ limit most parts files well. moments_unrolled (rules limit files) most (λ p l s. refl) parts well start_state
+pub returns-clause-trace : goal.returns-clause-trace
+returns-clause-trace c = λ limit most parts files well. trace_unrolled (rules limit files) most (λ p l s. refl) parts well start_state
 
 pub returns-clause-end : goal.returns-clause-end
 returns-clause-end c = λ limit most parts files well. end_unrolled (rules limit files) most (λ p l s. refl) parts well start_state

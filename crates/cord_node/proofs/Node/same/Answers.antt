@@ -1,6 +1,6 @@
 use Rattle.std.proofs.Common.{◌≡◌, arith}
 use Rattle.std.proofs.lemmas.Grind.{common_steps}
-use Rattle.cord_node.specs.Kept.{parts}
+use Rattle.cord_node.specs.PartsFrom.{parts}
 use Rattle.cord_node.proofs.TreeLemmas.{same_parts-cells}
 use Rattle.cord_node.proofs.Node.same.Goals as goal
 

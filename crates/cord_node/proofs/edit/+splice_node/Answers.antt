@@ -34,7 +34,7 @@ splice_shared-returns-clause-splice t c =
     c.requires.editable.sound sides
     c.in_ok-splice_sides.ensures.splice
     (join_is c.splice_sides.new.left.value c.splice_sides.new.right.value c.in_ok-new.new.value c.in_ok-new.ensures.sound
-    c.in_ok-new.ensures.text c.in_ok-new.ensures.len c.in_ok-new.ensures.depth_bound c.in_ok-new.ensures.kept)
+    c.in_ok-new.ensures.text c.in_ok-new.ensures.len c.in_ok-new.ensures.depth_bound c.in_ok-new.ensures.parts_from)
 
 pub splice_sides-returns-in-Left-clause-splice : goal.splice_sides-returns-in-Left-clause-splice
 splice_sides-returns-in-Left-clause-splice t c = IfOk-weaker _ _ _ (λ _ i. left_changed c.args.from c.args.until
@@ -68,4 +68,4 @@ splice_both-returns-clause-splice t c =
     c.args.right.now.value c.splice_node.new.node.value c.in_ok-rest.rest.value seam end c.requires.order
     c.requires.left_sound c.requires.right_sound c.requires.both c.in_ok-splice_node.ensures.splice
     c.in_ok-rest.ensures.sound c.in_ok-rest.ensures.text c.in_ok-rest.ensures.len
-    c.in_ok-rest.ensures.depth c.in_ok-rest.ensures.kept
+    c.in_ok-rest.ensures.depth c.in_ok-rest.ensures.parts_from

@@ -1,7 +1,7 @@
 use Rattle.std.proofs.Common.{◌≡◌, ◌++◌, arith}
 use Rattle.std.proofs.lemmas.Grind.{common_steps}
 use Rattle.cord_node.specs.Tree.{cells}
-use Rattle.cord_node.proofs.KeptLemmas.{Kept_same}
+use Rattle.cord_node.proofs.PartsFromLemmas.{PartsFrom_same}
 use Rattle.cord_node.proofs.TableLemmas.{join_over}
 use Rattle.cord_node.proofs.make.join.Goals as goal
 
@@ -15,8 +15,8 @@ pub returns-in_ok-node-in_default-clause-over : goal.returns-in_ok-node-in_defau
 returns-in_ok-node-in_default-clause-over c = join_over c.args.left.now.value c.args.right.now.value c.in_ok-node-in_default.node.value
     c.in_ok-node-in_default.ensures.sound c.in_ok-node-in_default.ensures.text
 
-pub returns-in_ok-node-in_default-clause-kept : goal.returns-in_ok-node-in_default-clause-kept
-returns-in_ok-node-in_default-clause-kept c = Kept_same _ _ c.in_ok-node-in_default.ensures.parts
+pub returns-in_ok-node-in_default-clause-parts_from : goal.returns-in_ok-node-in_default-clause-parts_from
+returns-in_ok-node-in_default-clause-parts_from c = PartsFrom_same _ _ c.in_ok-node-in_default.ensures.parts
 
 pub returns-in_ok-node-in-Some-Some-clause-form : goal.returns-in_ok-node-in-Some-Some-clause-form
 returns-in_ok-node-in-Some-Some-clause-form c = grind (arith, common_steps)

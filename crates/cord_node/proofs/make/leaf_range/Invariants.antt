@@ -1,6 +1,6 @@
 use Rattle.std.specs.Prelude.{[], ◌∷◌}
 use Rattle.std.specs.Rc.{rc_slice_items}
-use Rattle.cord_node.specs.Kept.{leaf_part}
+use Rattle.cord_node.specs.PartsFrom.{leaf_part}
 use Rattle.cord_node.proofs.make.leaf_range.Given as goal
 
 abbrev pub ghost-new : goal.ghost-new

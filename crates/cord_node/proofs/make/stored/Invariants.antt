@@ -1,5 +1,5 @@
 use Rattle.std.specs.Prelude.{◌++◌}
-use Rattle.cord_node.specs.Kept.{parts}
+use Rattle.cord_node.specs.PartsFrom.{parts}
 use Rattle.cord_node.proofs.make.stored.Given as goal
 
 abbrev pub ghost-new : goal.ghost-new

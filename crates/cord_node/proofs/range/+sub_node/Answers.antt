@@ -2,25 +2,25 @@ use Rattle.std.proofs.Common.{◌≡◌, arith, length}
 use Rattle.std.proofs.lemmas.Grind.{common_steps}
 use Rattle.std.proofs.lemmas.Result.{IfOk-weaker}
 use Rattle.cord_node.specs.Tree.{len_of, IsSound}
-use Rattle.cord_node.specs.Kept.{parts}
-use Rattle.cord_node.proofs.KeptLemmas.{Kept_same, Kept-left, Kept-right, Kept-join}
+use Rattle.cord_node.specs.PartsFrom.{parts}
+use Rattle.cord_node.proofs.PartsFromLemmas.{PartsFrom_same, PartsFrom-left, PartsFrom-right, PartsFrom-join}
 use Rattle.cord_node.proofs.Ranges.{range_whole, range_left, range_right, range_both}
 use Rattle.cord_node.proofs.TouchedLemmas.{touched_left, touched_right, touched_both, touched_by_all}
 use Rattle.cord_node.proofs.TreeLemmas.{range_of_leaf, range_of_run, range_of_func, length-cells}
 use Rattle.cord_node.proofs.range.+sub_node.Goals as goal
 
-pub returns-then-from-count-clause-kept : goal.returns-then-from-count-clause-kept
-returns-then-from-count-clause-kept t c = rw (← c.as_ref.ensures, c.in-Cat.is)
-    (IfOk-weaker _ _ _ (λ part k. Kept-left _ _ _ k) c.sub_node.ensures.kept)
+pub returns-then-from-count-clause-parts_from : goal.returns-then-from-count-clause-parts_from
+returns-then-from-count-clause-parts_from t c = rw (← c.as_ref.ensures, c.in-Cat.is)
+    (IfOk-weaker _ _ _ (λ part k. PartsFrom-left _ _ _ k) c.sub_node.ensures.parts_from)
 
-pub returns-then-middle-from-clause-kept : goal.returns-then-middle-from-clause-kept
-returns-then-middle-from-clause-kept t c = rw (← c.as_ref.ensures, c.in-Cat.is)
-    (IfOk-weaker _ _ _ (λ part k. Kept-right _ _ _ k) c.sub_node-then-middle-from.ensures.kept)
+pub returns-then-middle-from-clause-parts_from : goal.returns-then-middle-from-clause-parts_from
+returns-then-middle-from-clause-parts_from t c = rw (← c.as_ref.ensures, c.in-Cat.is)
+    (IfOk-weaker _ _ _ (λ part k. PartsFrom-right _ _ _ k) c.sub_node-then-middle-from.ensures.parts_from)
 
-pub returns-in_ok-right-in-Cat-clause-kept : goal.returns-in_ok-right-in-Cat-clause-kept
-returns-in_ok-right-in-Cat-clause-kept t c = rw (← c.as_ref.ensures, c.in-Cat.is)
-    (IfOk-weaker _ _ _ (λ part k. Kept-join _ _ _ _ _ c.in_ok-left-in-Cat.ensures.kept c.in_ok-right-in-Cat.ensures.kept k)
-    c.join.ensures.kept)
+pub returns-in_ok-right-in-Cat-clause-parts_from : goal.returns-in_ok-right-in-Cat-clause-parts_from
+returns-in_ok-right-in-Cat-clause-parts_from t c = rw (← c.as_ref.ensures, c.in-Cat.is)
+    (IfOk-weaker _ _ _ (λ part k. PartsFrom-join _ _ _ _ _ c.in_ok-left-in-Cat.ensures.parts_from c.in_ok-right-in-Cat.ensures.parts_from k)
+    c.join.ensures.parts_from)
 
 pub returns-then-count-len-clause-text : goal.returns-then-count-len-clause-text
 returns-then-count-len-clause-text t c = grind (arith, common_steps, range_whole, length-cells)
@@ -43,8 +43,8 @@ returns-then-middle-from-clause-text t c = grind (arith, common_steps, range_rig
 pub returns-in_ok-right-in-Cat-clause-text : goal.returns-in_ok-right-in-Cat-clause-text
 returns-in_ok-right-in-Cat-clause-text t c = grind (arith, common_steps, range_both, length-cells)
 
-pub returns-then-count-len-clause-kept : goal.returns-then-count-len-clause-kept
-returns-then-count-len-clause-kept t c = grind (arith, common_steps, Kept_same)
+pub returns-then-count-len-clause-parts_from : goal.returns-then-count-len-clause-parts_from
+returns-then-count-len-clause-parts_from t c = grind (arith, common_steps, PartsFrom_same)
 
 pub returns-then-count-len-clause-few : goal.returns-then-count-len-clause-few
 returns-then-count-len-clause-few t c = grind (arith, common_steps, touched_by_all)
@@ -73,4 +73,4 @@ returns-in_ok-right-in-Cat-clause-few t c =
     (IfOk-weaker c.join.result _ _ (λ part k. touched_both c.args.from c.args.count c.len-middle.result (length (parts part.value))
     c.in-Cat.left.value c.in-Cat.right.value (parts c.in_ok-left-in-Cat.left.value) (parts c.in_ok-right-in-Cat.right.value) s seam
     c.if-middle-from.false c.if-from-count.false c.in_ok-left-in-Cat.ensures.few c.in_ok-right-in-Cat.ensures.few
-    k.no_more) c.join.ensures.kept)
+    k.no_more) c.join.ensures.parts_from)

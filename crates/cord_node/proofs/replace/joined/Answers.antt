@@ -1,7 +1,7 @@
 use Rattle.std.proofs.Common.{◌≡◌, ◌++◌, arith}
 use Rattle.std.proofs.lemmas.Grind.{common_steps}
 use Rattle.cord_node.specs.Cords.{node_in, parts_of}
-use Rattle.cord_node.proofs.KeptLemmas.{AreFrom_same}
+use Rattle.cord_node.proofs.PartsFromLemmas.{AreFrom_same}
 use Rattle.cord_node.proofs.replace.joined.Goals as goal
 
 pub returns-in_default-clause-from_there : goal.returns-in_default-clause-from_there

@@ -7,7 +7,7 @@ use Rattle.cord_plan.specs.Meaning.{operation_shape}
 use Rattle.cord_plan.specs.Views.{operation_view}
 use Rattle.cord_plan.specs.declared.operations.Operation.{Operation}
 use Rattle.cord_plan.specs.declared.flow.successors.Shape.{Shape}
-use Rattle.cord_plan.proofs.Pushed.{told_more, size_more}
+use Rattle.cord_plan.proofs.Pushed.{reported_more, size_more}
 use Rattle.cord_plan.proofs.jumps.jumps.Goals as goal
 
 -- as many shapes as operations
@@ -25,8 +25,8 @@ loop-place-preserved c =
     record {
       size = size_more c.loop-place.places.items c.push.new.self.items c.jump.result c.loop-place.place c.in_ok-push.ensures.items
           c.loop-place.invariant.size;
-      told = told_more (λ k. jump (map shape_view shapes) k) c.loop-place.places.items c.push.new.self.items c.jump.result
-          c.loop-place.place c.in_ok-push.ensures.items c.loop-place.invariant.size is c.loop-place.invariant.told;
+      reported = reported_more (λ k. jump (map shape_view shapes) k) c.loop-place.places.items c.push.new.self.items c.jump.result
+          c.loop-place.place c.in_ok-push.ensures.items c.loop-place.invariant.size is c.loop-place.invariant.reported;
     }
 
 pub returns-clause-size : goal.returns-clause-size
@@ -35,9 +35,9 @@ returns-clause-size c =
     as_many c.in_ok-shapes.shapes.items c.args.operations.now c.in_ok-shapes.ensures in
     omega arith
 
-pub returns-clause-told : goal.returns-clause-told
-returns-clause-told c = λ p lt.
+pub returns-clause-reported : goal.returns-clause-reported
+returns-clause-reported c = λ p lt.
     let many : length c.in_ok-shapes.shapes.items ≡ length c.args.operations.now =
     as_many c.in_ok-shapes.shapes.items c.args.operations.now c.in_ok-shapes.ensures in
     let before : p < c.loop-place.place = omega arith in
-    c.loop-place.invariant.told p before ∙ ap (λ (xs : List blocks.Shape). Some (jump xs p)) c.in_ok-shapes.ensures
+    c.loop-place.invariant.reported p before ∙ ap (λ (xs : List blocks.Shape). Some (jump xs p)) c.in_ok-shapes.ensures

@@ -8,5 +8,5 @@ use Rattle.cord_plan.proofs.jumps.jumps.Given as goal
 abbrev pub invariant-loop-place : goal.invariant-loop-place
 invariant-loop-place l = record {
   size : length l.places.items ≡ l.place;
-  told : (p : ℕ) → p < l.place → slice_get l.places.items p ≡ Some (jump (map shape_view l.shapes.items) p);
+  reported : (p : ℕ) → p < l.place → slice_get l.places.items p ≡ Some (jump (map shape_view l.shapes.items) p);
 }

@@ -1,9 +1,9 @@
 use Rattle.std.proofs.Common.{◌≡◌, ◌+◌, ℕ, true, subst, arith}
-use Rattle.cord_plan.specs.Forced.{exprs}
+use Rattle.cord_plan.specs.Inlined.{exprs}
 use Rattle.cord_plan.proofs.Built.{built_later}
 use Rattle.cord_plan.proofs.laws.dead_targets_are_not_built.Goals as goal
 
 pub returns : goal.returns
-returns c = λ s later p line x made told e.
+returns c = λ s later p line x made reported e.
     let same : 0 + p ≡ p = omega arith in
-    told.read x p (subst (λ (n : ℕ). later x n ≡ true) same (built_later later (exprs s later) 0 s (exprs s later) p line x made e))
+    reported.read x p (subst (λ (n : ℕ). later x n ≡ true) same (built_later later (exprs s later) 0 s (exprs s later) p line x made e))

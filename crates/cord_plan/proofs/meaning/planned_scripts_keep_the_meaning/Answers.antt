@@ -1,4 +1,4 @@
-use Rattle.cord_plan.proofs.Kept.{planned_keeps}
+use Rattle.cord_plan.proofs.MeaningKept.{planned_keeps}
 use Rattle.cord_plan.proofs.meaning.planned_scripts_keep_the_meaning.Goals as goal
 
 pub returns-clause-never_stuck : goal.returns-clause-never_stuck

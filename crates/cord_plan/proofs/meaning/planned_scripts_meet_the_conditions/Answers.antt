@@ -5,7 +5,7 @@ use Rattle.cord_plan.proofs.ReadKinds.{read_kinds}
 use Rattle.cord_plan.proofs.meaning.planned_scripts_meet_the_conditions.Goals as goal
 
 pub returns-clause-meets : goal.returns-clause-meets
-returns-clause-meets c = λ s later told kinds. (decisions s later, meets s later told kinds, planned_decided s later)
+returns-clause-meets c = λ s later reported kinds. (decisions s later, meets s later reported kinds, planned_decided s later)
 
 pub returns-clause-trivial : goal.returns-clause-trivial
 returns-clause-trivial c = λ s kinds. (plain_decisions s, trivial_meets s kinds, trivial_decided s, λ p x. (refl, refl, refl))

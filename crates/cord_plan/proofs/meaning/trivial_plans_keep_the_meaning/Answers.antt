@@ -2,7 +2,7 @@ use Rattle.std.proofs.Common.{Some, None, refl, Option}
 use Rattle.std.specs.Prelude.{ℕ, IsSome}
 use Rattle.cord_meaning.specs.State.{State, start_state}
 use Rattle.cord_meaning.specs.Statements.{rules}
-use Rattle.cord_meaning.proofs.Simulating.{told_same, end_same}
+use Rattle.cord_meaning.proofs.Simulating.{reported_same, end_same}
 use Rattle.cord_plan.specs.Planned.{trivial}
 use Rattle.cord_plan.specs.Meaning.{Holding, plan_rules, start_holding}
 use Rattle.cord_plan.proofs.Trivial.{Same, trivial_simulates}
@@ -18,7 +18,7 @@ returns-clause-never_stuck c = λ limit most s files nested. each_related (rules
     (trivial s) Same (trivial_simulates limit files s) (λ t. IsSome t) is_some nested start_state (Some start_holding) refl
 
 pub returns-clause-members : goal.returns-clause-members
-returns-clause-members c = λ limit most s files nested. told_same (rules limit files) (plan_rules limit files) most s (trivial s) Same
+returns-clause-members c = λ limit most s files nested. reported_same (rules limit files) (plan_rules limit files) most s (trivial s) Same
     (trivial_simulates limit files s) nested start_state (Some start_holding) refl
 
 pub returns-clause-end : goal.returns-clause-end

@@ -2,10 +2,10 @@ use Rattle.std.proofs.Common.{◌≡◌, Bool, false, [], ◌∷◌, ◌++◌, S
 use Rattle.std.specs.Prelude.{option_map, slice_get}
 use Rattle.std.proofs.lemmas.Option.{slice_get_read}
 use Rattle.std.proofs.lemmas.List.{length-map, map-append}
-use Rattle.cord_plan.specs.inner.Known.{IsKnown}
-use Rattle.cord_plan.specs.inner.Liveness.{tells, IsTold}
+use Rattle.cord_plan.specs.inner.ExpressionFacts.{IsKnown}
+use Rattle.cord_plan.specs.inner.Liveness.{reports, IsReported}
 use Rattle.cord_plan.specs.inner.Numbering.{IsNumbered}
-use Rattle.cord_plan.specs.inner.Steps.{IsStep, IsToldLonger, operation_expression}
+use Rattle.cord_plan.specs.inner.Steps.{IsStep, IsReportedLonger, operation_expression}
 use Rattle.cord_plan.specs.Operands.{target_of}
 use Rattle.cord_plan.specs.Planned as plan
 use Rattle.cord_plan.specs.Views.{expr_view, operation_view}
@@ -17,7 +17,7 @@ use Rattle.cord_plan.proofs.planner.operations_of.Goals as goal
 pub loop-place-preserved : goal.loop-place-preserved
 loop-place-preserved c =
     let s = c.args.statements.now in
-    let later = tells c.args.later.now in
+    let later = reports c.args.later.now in
     let b = c.loop-place.place in
     let l = c.index-statements-place.result in
     let e = c.in_ok-next.next.expression in
@@ -27,10 +27,10 @@ loop-place-preserved c =
     let size : length new ≡ c.loop-place.operations.len = c.next_expression.auto.operations ∙ c.deref_mut.ensures.len in
     let next : IsStep s later b l (map operation_view old) (map operation_view new) (option_map expr_view e) =
     rw (← c.loop-place.invariant.later, ← c.deref_mut.ensures.value) c.in_ok-next.ensures.made in
-    let told : IsKnown c.args.later.now.numbering (map operation_expression (map operation_view old) ++ option_map expr_view e ∷ [])
+    let reported : IsKnown c.args.later.now.numbering (map operation_expression (map operation_view old) ++ option_map expr_view e ∷ [])
     c.next_expression.new.known =
     rw (← c.loop-place.invariant.later, ← c.deref_mut.ensures.value) c.in_ok-next.ensures.known in
-    let longer : IsToldLonger s later b l (map operation_view old) c.in_ok-next.next.extends =
+    let longer : IsReportedLonger s later b l (map operation_view old) c.in_ok-next.next.extends =
     rw (← c.loop-place.invariant.later, ← c.deref_mut.ensures.value) c.in_ok-next.ensures.extends in
     let whole : c.loop-place.operations.len ≡ b =
     c.loop-place.operations.ok.0
@@ -81,16 +81,16 @@ loop-place-preserved c =
         expressions_then s later b l (map operation_view old) (map operation_view new) (option_map expr_view e) (operation_view o)
             (plan.is_dead later b (target_of l)) c.loop-place.invariant.begun next made,
       )
-          told;
+          reported;
     }
 
 pub loop-place-init : goal.loop-place-init
 loop-place-init c = record {
-  begun = rw c.in_ok-operations.ensures.items (begun_none c.args.statements.now (tells c.args.later.now));
+  begun = rw c.in_ok-operations.ensures.items (begun_none c.args.statements.now (reports c.args.later.now));
   room = omega (arith, c.in_ok-operations.ensures.len, c.in_ok-operations.ensures.capacity);
   listed = omega (arith, c.in_ok-extending.ensures.len);
   extending_room = omega (arith, c.in_ok-extending.ensures.len, c.in_ok-extending.ensures.capacity);
-  extending = rw c.in_ok-extending.ensures.items (λ place told. let bad : ⊥ = cc in absurd bad);
+  extending = rw c.in_ok-extending.ensures.items (λ place reported. let bad : ⊥ = cc in absurd bad);
   later = c.in_ok-recent.ensures.later;
   recent = c.in_ok-recent.ensures.recent c.args.statements.now;
   known = c.in_ok-known.ensures c.args.later.now.numbering
@@ -101,7 +101,7 @@ pub returns-clause-extending : goal.returns-clause-extending
 returns-clause-extending c = c.loop-place.invariant.extending
 
 pub returns-clause-made : goal.returns-clause-made
-returns-clause-made c = all_begun c.args.statements.now (tells c.args.later.now) c.loop-place.place
+returns-clause-made c = all_begun c.args.statements.now (reports c.args.later.now) c.loop-place.place
     (map operation_view c.loop-place.operations.items) c.loop-place-test.false c.loop-place.invariant.begun
 
 pub line-numbers-requires : goal.line-numbers-requires
@@ -145,22 +145,22 @@ next_expression-requires-clause-long c =
     let old = c.loop-place.operations.items in
     ap length c.deref_mut.ensures.value
     ∙ (sym (length-map old operation_view)
-    ∙ begun_long s (tells c.args.later.now) c.loop-place.place (map operation_view old) c.loop-place.invariant.begun)
+    ∙ begun_long s (reports c.args.later.now) c.loop-place.place (map operation_view old) c.loop-place.invariant.begun)
 
 pub next_expression-requires-clause-known : goal.next_expression-requires-clause-known
 next_expression-requires-clause-known c = rw (c.loop-place.invariant.later, c.deref_mut.ensures.value) c.loop-place.invariant.known
 
-pub is_dead-dead-requires-clause-told : goal.is_dead-dead-requires-clause-told
-is_dead-dead-requires-clause-told c =
+pub is_dead-dead-requires-clause-reported : goal.is_dead-dead-requires-clause-reported
+is_dead-dead-requires-clause-reported c =
     let s = c.args.statements.now in
     let l = c.index-statements-place.result in
-    c.requires.told c.loop-place.place l
+    c.requires.reported c.loop-place.place l
     (slice_get_read s (length s) c.loop-place.place l refl c.loop-place-test.true c.index-statements-place.is)
 
-pub next_expression-requires-clause-told : goal.next_expression-requires-clause-told
-next_expression-requires-clause-told c =
+pub next_expression-requires-clause-reported : goal.next_expression-requires-clause-reported
+next_expression-requires-clause-reported c =
     let s = c.args.statements.now in
     let p = c.loop-place.place in
     let l = c.index-statements-place.result in
-    subst (λ (later : Later). IsTold later l p) (sym c.loop-place.invariant.later)
-    (c.requires.told p l (slice_get_read s (length s) p l refl c.loop-place-test.true c.index-statements-place.is))
+    subst (λ (later : Later). IsReported later l p) (sym c.loop-place.invariant.later)
+    (c.requires.reported p l (slice_get_read s (length s) p l refl c.loop-place-test.true c.index-statements-place.is))

@@ -1,8 +1,8 @@
 use Rattle.std.proofs.Common.{◌≡◌, ◌≤◌, ◌+◌, ◌-◌, map, length}
 use Rattle.std.specs.Prelude.{vec_len, vec_capacity}
 use Rattle.cord_plan.specs.inner.Extensions.{AreExtending}
-use Rattle.cord_plan.specs.inner.Known.{IsKnown}
-use Rattle.cord_plan.specs.inner.Liveness.{tells}
+use Rattle.cord_plan.specs.inner.ExpressionFacts.{IsKnown}
+use Rattle.cord_plan.specs.inner.Liveness.{reports}
 use Rattle.cord_plan.specs.inner.Recent.{IsRecent}
 use Rattle.cord_plan.specs.inner.Steps.{IsBegun, operation_expression}
 use Rattle.cord_plan.specs.Views.{operation_view}
@@ -11,7 +11,7 @@ use Rattle.cord_plan.proofs.planner.operations_of.Given as goal
 -- the operations of the lines so far, with room for those to come, and what was noted of those lines
 abbrev pub invariant-loop-place : goal.invariant-loop-place
 invariant-loop-place l = record {
-  begun : IsBegun l.statements (tells l.later) l.place (map operation_view l.operations.items);
+  begun : IsBegun l.statements (reports l.later) l.place (map operation_view l.operations.items);
   room : vec_len l.operations + (length l.statements - l.place) ≤ vec_capacity l.operations;
   listed : vec_len l.extending ≡ l.place;
   extending_room : vec_len l.extending + (length l.statements - l.place) ≤ vec_capacity l.extending;

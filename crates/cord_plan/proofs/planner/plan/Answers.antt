@@ -2,16 +2,16 @@ use Rattle.std.proofs.Common.{List, sym, subst}
 use Rattle.std.specs.Prelude.{All}
 use Rattle.cord_syntax.specs.declared.statements.Statement.{Statement}
 use Rattle.cord_plan.specs.Verbatim.{KeepsNoOther}
-use Rattle.cord_plan.specs.inner.Liveness.{tells}
+use Rattle.cord_plan.specs.inner.Liveness.{reports}
 use Rattle.cord_plan.specs.Planned.{Operation}
-use Rattle.cord_plan.specs.Unread.{IsLater}
-use Rattle.cord_plan.proofs.Kept.{planned_keeps}
+use Rattle.cord_plan.specs.Liveness.{IsLater}
+use Rattle.cord_plan.proofs.MeaningKept.{planned_keeps}
 use Rattle.cord_plan.proofs.OnlyKept.{kept_planned}
 use Rattle.cord_plan.proofs.planner.plan.Goals as goal
 
 pub returns-clause-means : goal.returns-clause-means
 returns-clause-means c = λ g text read limit most files.
-    let later = tells c.in_ok-later.later in
+    let later = reports c.in_ok-later.later in
     let is : IsLater c.args.script.now later =
     subst (λ (s : List Statement). IsLater s later) c.statements-statements.ensures c.in_ok-later.ensures.later in
     rw (c.of-2.ensures, c.in_ok-planned.ensures.made, c.statements-statements.ensures)
@@ -21,7 +21,7 @@ pub of-requires-2 : goal.of-requires-2
 of-requires-2 c =
     record {
       kept = subst (λ (os : List Operation). All KeepsNoOther os) (sym c.in_ok-planned.ensures.made)
-          (kept_planned c.statements-statements.result.now (tells c.in_ok-later.later));
+          (kept_planned c.statements-statements.result.now (reports c.in_ok-later.later));
       extending = c.in_ok-planned.ensures.extending;
       distinct = c.into_names.ensures;
     }

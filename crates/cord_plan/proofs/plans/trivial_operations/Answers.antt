@@ -2,21 +2,22 @@ use Rattle.std.proofs.Common.{◌≡◌, ℕ, ◌+◌, ◌<◌, false, List, [],
 use Rattle.std.proofs.lemmas.List.{map-append, take_more}
 use Rattle.cord_syntax.specs.declared.statements.Statement.{Statement}
 use Rattle.cord_plan.specs.Exprs.{Expr}
-use Rattle.cord_plan.specs.Forced.{own}
+use Rattle.cord_plan.specs.Inlined.{defining}
 use Rattle.cord_plan.specs.Planned.{operation, or_nothing, trivial}
 use Rattle.cord_plan.specs.declared.operations.Operation.{Operation}
 use Rattle.cord_plan.specs.Views.{operation_view}
 use Rattle.cord_plan.proofs.plans.trivial_operations.Goals as goal
 
 -- the trivial plan of one line more
-trivial_then : (xs : List Statement) (l : Statement) → trivial (xs ++ l ∷ []) ≡ trivial xs ++ operation l (or_nothing (own l)) false false
+trivial_then : (xs : List Statement) (l : Statement) → trivial (xs ++ l ∷ []) ≡ trivial xs ++ operation l (or_nothing (defining l)) false
+    false
     ∷ []
 trivial_then [] l = refl
-trivial_then (x ∷ xs) l = ap (λ os. operation x (or_nothing (own x)) false false ∷ os) (trivial_then xs l)
+trivial_then (x ∷ xs) l = ap (λ os. operation x (or_nothing (defining x)) false false ∷ os) (trivial_then xs l)
 
 -- the operations of the lines before i, and the next one
 one_more : (xs : List Statement) (i : ℕ) (l : Statement) (e : Option Expr) (before : List Operation) (o : Operation) →
-    i < length xs → l ≡ get_or xs i l → map operation_view before ≡ trivial (take i xs) → e ≡ own l →
+    i < length xs → l ≡ get_or xs i l → map operation_view before ≡ trivial (take i xs) → e ≡ defining l →
     operation_view o ≡ operation l (or_nothing e) false false →
     map operation_view (before ++ o ∷ []) ≡ trivial (take (i + 1) xs)
 one_more xs i l e before o within at so_far owned made =

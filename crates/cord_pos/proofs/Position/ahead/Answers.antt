@@ -5,21 +5,21 @@ use Rattle.cord_pos.proofs.Position.ahead.Goals as goal
 pub overflow_sub-from : goal.overflow_sub-from
 overflow_sub-from c = (spot_part (λ _. None) _ _ _ (rw c.in-Some.is at c.self.invariant)).from
 
-pub stretch-requires-clause-part : goal.stretch-requires-clause-part
-stretch-requires-clause-part c = (spot_part (λ _. None) _ _ _ (rw c.in-Some.is at c.self.invariant)).part
+pub span-requires-clause-part : goal.span-requires-clause-part
+span-requires-clause-part c = (spot_part (λ _. None) _ _ _ (rw c.in-Some.is at c.self.invariant)).part
 
-pub stretch-requires-clause-sound : goal.stretch-requires-clause-sound
-stretch-requires-clause-sound c = (spot_part (λ _. None) _ _ _ (rw c.in-Some.is at c.self.invariant)).sound
+pub span-requires-clause-sound : goal.span-requires-clause-sound
+span-requires-clause-sound c = (spot_part (λ _. None) _ _ _ (rw c.in-Some.is at c.self.invariant)).sound
 
-pub stretch-requires-clause-some : goal.stretch-requires-clause-some
-stretch-requires-clause-some c = rw c.len.ensures (spot_part (λ _. None) _ _ _ (rw c.in-Some.is at c.self.invariant)).inside
+pub span-requires-clause-some : goal.span-requires-clause-some
+span-requires-clause-some c = rw c.len.ensures (spot_part (λ _. None) _ _ _ (rw c.in-Some.is at c.self.invariant)).inside
 
-pub returns-clause-stretch : goal.returns-clause-stretch
-returns-clause-stretch c =
-    rw (← c.self.view_is, c.in-Some.is) (spot_ahead _ _ _ _ (rw c.in-Some.is at c.self.invariant) c.stretch.ensures.is
-    c.stretch.ensures.stretch)
+pub returns-clause-span : goal.returns-clause-span
+returns-clause-span c =
+    rw (← c.self.view_is, c.in-Some.is) (spot_ahead _ _ _ _ (rw c.in-Some.is at c.self.invariant) c.span.ensures.is
+    c.span.ensures.span)
 
 pub returns-clause-rest : goal.returns-clause-rest
 returns-clause-rest c =
     rw (← c.self.view_is, c.in-Some.is) (spot_rest_ahead _ _ _ _ (rw c.in-Some.is at c.self.invariant)
-    (rw c.len.ensures at c.stretch.ensures.len))
+    (rw c.len.ensures at c.span.ensures.len))

@@ -18,9 +18,9 @@ byte-requires-clause-fits g c = (spot_part (g.S.Source.lengths c.args.src.now) _
     (rw (← c.self.view_is) at c.requires.fits)
 
 pub returns-clause-byte : goal.returns-clause-byte
-returns-clause-byte g c folder kept =
+returns-clause-byte g c file_system kept =
     let lengths = g.S.Source.lengths c.args.src.now in
-    let told = g.met.S.Source.lengths_of_table c.args.src.now folder (c.byte.ensures.source.earlier folder kept) in
+    let reported = g.met.S.Source.lengths_of_table c.args.src.now file_system (c.byte.ensures.source.earlier file_system kept) in
     rw (← c.self.view_is, c.in-Some.is)
-    (spot_byte lengths (g.S.Source.table c.args.src.now folder) _ _ _ _ (rw c.in-Some.is at c.self.invariant) told
-    (rw (← c.self.view_is) at c.requires.fits) (c.in_ok-byte.ensures.byte folder kept))
+    (spot_byte lengths (g.S.Source.table c.args.src.now file_system) _ _ _ _ (rw c.in-Some.is at c.self.invariant) reported
+    (rw (← c.self.view_is) at c.requires.fits) (c.in_ok-byte.ensures.byte file_system kept))

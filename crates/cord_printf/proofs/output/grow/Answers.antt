@@ -1,8 +1,8 @@
 use Rattle.std.proofs.Common.{ℕ, ◌≤◌, List, length, subst, sym}
 use Rattle.std.specs.Prelude.{Option, IfOk}
-use Rattle.cord_node.specs.Kept.{Part}
+use Rattle.cord_node.specs.PartsFrom.{Part}
 use Rattle.cord_ec.specs.Gathered.{Growth, leaf_bytes, Gathered}
-use Rattle.cord_printf.specs.inner.Shown.{parts_in}
+use Rattle.cord_printf.specs.inner.PieceLayouts.{parts_in}
 use Rattle.cord_printf.proofs.output.grow.Goals as goal
 
 pub returns-in-Some-clause-gathered : goal.returns-in-Some-clause-gathered

@@ -1,8 +1,8 @@
 use Rattle.std.proofs.Common.{ℕ, List, ◌++◌, subst, arith}
-use Rattle.cord_node.specs.Kept.{Part}
+use Rattle.cord_node.specs.PartsFrom.{Part}
 use Rattle.cord_ec.specs.Gathered.{leaf_parts}
 use Rattle.cord_printf.specs.Own.{IsPrintedFrom}
-use Rattle.cord_printf.specs.inner.Shown.{parts_in}
+use Rattle.cord_printf.specs.inner.PieceLayouts.{parts_in}
 use Rattle.cord_printf.proofs.Owned.{put_from}
 use Rattle.cord_printf.proofs.output.put_in.Goals as goal
 

@@ -7,7 +7,7 @@ use Rattle.cord_printf.specs.Own.{all_own, arguments_parts}
 use Rattle.cord_printf.specs.inner.Own.{parts_if}
 use Rattle.cord_printf.specs.PieceText.{printed, first_refusal}
 use Rattle.cord_printf.specs.Printing.{argument_of, arguments_of, AreWanted}
-use Rattle.cord_printf.specs.inner.Shown.{body_parts, shown_own, shown_text}
+use Rattle.cord_printf.specs.inner.PieceLayouts.{body_parts, shown_own, shown_text}
 use Rattle.cord_printf.proofs.Owned.{IsPrinting, own_next, own_shown, printing_start, printing_step, printing_end}
 use Rattle.cord_printf.proofs.Prints.{further, all_written}
 use Rattle.cord_printf.proofs.Tables.{print_of}
@@ -56,7 +56,7 @@ loop-piece-preserved c =
           (arguments_parts rest) (shown_own c.in_ok-shown.shown)
           (all_own (drop c.loop-piece.piece-index pieces) (arguments_of rest))
           (all_own (drop (c.loop-piece.piece-index + 1) pieces) (arguments_of others)) c.loop-piece.invariant.printing
-          c.next_argument.ensures.parts c.in_ok-shown.ensures.kept
+          c.next_argument.ensures.parts c.in_ok-shown.ensures.parts_from
           (own_next pieces c.loop-piece.piece-index c.piece-item.result (arguments_of rest) (arguments_of others) argument
           (shown_own c.in_ok-shown.shown) c.loop-piece-test.true c.piece-item.is c.next_argument.ensures.argument
           c.next_argument.ensures.others (own_shown c.in_ok-shown.shown c.piece-item.result argument c.in_ok-shown.ensures.text
@@ -70,8 +70,8 @@ returns-clause-over c = print_of c.args.format.now c.args.args.now c.loop-piece.
     (all_written c.pieces-piece-items.result.now c.loop-piece.piece-index (arguments_of c.loop-piece.rest.now) c.loop-piece.output.text
     (printed known c.args.format.now (arguments_of c.args.args.now)) c.loop-piece-test.false c.loop-piece.invariant.written)
 
-pub returns-clause-kept : goal.returns-clause-kept
-returns-clause-kept c = printing_end (arguments_parts c.args.args.now) (all_own c.args.format.now (arguments_of c.args.args.now))
+pub returns-clause-parts_from : goal.returns-clause-parts_from
+returns-clause-parts_from c = printing_end (arguments_parts c.args.args.now) (all_own c.args.format.now (arguments_of c.args.args.now))
     c.loop-piece.output.parts (arguments_parts c.loop-piece.rest.now)
     (all_own (drop c.loop-piece.piece-index c.pieces-piece-items.result.now) (arguments_of c.loop-piece.rest.now))
     (parts_of c.in_ok-cord.cord) c.loop-piece.invariant.printing c.in_ok-cord.ensures.made

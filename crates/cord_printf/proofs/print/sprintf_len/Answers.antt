@@ -3,7 +3,7 @@ use Rattle.cord_io.specs.declared.TheConstants.{MAX_LEN}
 use Rattle.cord_node.specs.Tree.{known}
 use Rattle.cord_printf.specs.PieceText.{printed}
 use Rattle.cord_printf.specs.Printing.{argument_of, arguments_of}
-use Rattle.cord_printf.specs.inner.Shown.{shown_text}
+use Rattle.cord_printf.specs.inner.PieceLayouts.{shown_text}
 use Rattle.cord_printf.proofs.Prints.{further, counted_more, all_counted}
 use Rattle.cord_printf.proofs.Tables.{length_of_print}
 use Rattle.cord_printf.proofs.print.sprintf_len.Goals as goal

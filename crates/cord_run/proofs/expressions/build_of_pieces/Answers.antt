@@ -1,7 +1,7 @@
 use Rattle.std.proofs.Common.{List, subst}
 use Rattle.std.specs.Prelude.{Option}
 use Rattle.cord_node.specs.declared.Node.{Node}
-use Rattle.cord_node.specs.Kept.{Kept}
+use Rattle.cord_node.specs.PartsFrom.{PartsFrom}
 use Rattle.cord_core.specs.Cord.{all_parts, parts_of}
 use Rattle.cord_core.specs.Equations.{IsAllOf}
 use Rattle.cord_plan.specs.Views.{expr_view}
@@ -12,5 +12,5 @@ pub returns-in-Ok-clause-built : goal.returns-in-Ok-clause-built
 returns-in-Ok-clause-built c =
     whole_built c.args.store.now.entries.items (expr_view c.args.expression.now) c.in_ok-pieces.pieces.items c.in-Ok.cord
     c.in_ok-pieces.ensures.whole c.in_ok-pieces.ensures.in_turn
-    (subst (λ (ps : List (Option Node)). Kept (all_parts ps) (parts_of c.in-Ok.cord)) c.deref.ensures.value c.in-Ok.ensures.parts)
+    (subst (λ (ps : List (Option Node)). PartsFrom (all_parts ps) (parts_of c.in-Ok.cord)) c.deref.ensures.value c.in-Ok.ensures.parts)
     (subst (λ (ps : List (Option Node)). IsAllOf ps c.in-Ok.cord) c.deref.ensures.value c.in-Ok.ensures.over) c.in-Ok.ensures.sound

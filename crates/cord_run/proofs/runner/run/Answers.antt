@@ -5,11 +5,11 @@ use Rattle.cord_plan.specs.Planned.{Operation}
 use Rattle.cord_plan.specs.Views.{operation_view}
 use Rattle.cord_run.specs.Failing.{NamesFinish}
 use Rattle.cord_run.proofs.Ends.{fails_where}
-use Rattle.cord_run.proofs.Meaning.{ends_honestly}
+use Rattle.cord_run.proofs.Meaning.{ends_faithfully}
 use Rattle.cord_run.proofs.runner.run.Goals as goal
 
-pub returns-in-Ok-clause-honest : goal.returns-in-Ok-clause-honest
-returns-in-Ok-clause-honest g c = λ statements plan alike grammar script reads folder agrees.
+pub returns-in-Ok-clause-faithful : goal.returns-in-Ok-clause-faithful
+returns-in-Ok-clause-faithful g c = λ statements plan alike grammar script reads file_system agrees.
     let operations : List Operation = map operation_view c.args.plan.now in
     let e = c.run_over-end.result in
     let n : Counts = record {
@@ -31,10 +31,11 @@ returns-in-Ok-clause-honest g c = λ statements plan alike grammar script reads 
     (ap g.F.Files.failures c.in-Ok.ensures.made.0)
     (subst (λ (k : ℕ). NamesFinish operations (record n { files_after = k }) e)
     (sym (ap g.F.Files.failures c.close.ensures)) c.run_over-end.ensures.finish) in
-    let there : g.F.Files.keeps (device_in c.run_over-end.new.sources) folder =
-    subst (λ f. g.F.Files.keeps f folder) c.close.ensures agrees in
-    ends_honestly statements operations plan grammar script reads alike folder (g.S.Sink.taken c.args.sink.now)
-    (g.S.Sink.taken c.run_over-end.new.sink) m e (c.run_over-end.ensures.honest folder there) c.run_over-end.ensures.fails device finish
+    let there : g.F.Files.consistent (device_in c.run_over-end.new.sources) file_system =
+    subst (λ f. g.F.Files.consistent f file_system) c.close.ensures agrees in
+    ends_faithfully statements operations plan grammar script reads alike file_system (g.S.Sink.taken c.args.sink.now)
+    (g.S.Sink.taken c.run_over-end.new.sink) m e (c.run_over-end.ensures.faithful file_system there) c.run_over-end.ensures.fails device
+    finish
 
 pub returns-in-Ok-clause-fails : goal.returns-in-Ok-clause-fails
 returns-in-Ok-clause-fails g c = λ statements alike. fails_where statements

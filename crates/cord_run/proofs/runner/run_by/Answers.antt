@@ -24,5 +24,10 @@ returns-in-Ok-clause-run g c = λ script reads.
     subst (λ made. IfOk made (λ plan. IsPlanBy g.way s (map operation_view plan))) c.in-Ok.is c.requires.1.1.0 in
     let means : IsPlanOf s operations =
     subst (λ made. IfOk made (λ plan. IsPlanOf s (map operation_view plan))) c.in-Ok.is c.requires.1.1.1.0 in
-    let alike = plan_alike g.way s operations chosen in
-    (s, reads, (λ folder agrees. c.run.ensures.honest s means alike whole script reads folder agrees), c.run.ensures.fails s alike)
+    let alike = plan_alike g.way s operations chosen in (
+      s,
+      reads,
+      (λ file_system agrees. c.run.ensures.faithful s means alike whole script reads file_system agrees),
+      c.run.ensures.fails s
+          alike,
+    )

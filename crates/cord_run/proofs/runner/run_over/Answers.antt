@@ -5,41 +5,42 @@ use Rattle.cord_io.specs.SinkCounts.{SinkCounts, sink_counts}
 use Rattle.cord_io.specs.declared.TheConstants.{MAX_LEN}
 use Rattle.cord_meaning.specs.declared.TheConstants.{MAX_TURNS}
 use Rattle.cord_meaning.specs.declared.ends.End.{End}
-use Rattle.cord_meaning.specs.Ends.{HonestOutput}
-use Rattle.cord_plan.specs.Meaning.{plan_end, plan_moments}
+use Rattle.cord_meaning.specs.Ends.{FaithfulOutput}
+use Rattle.cord_plan.specs.Meaning.{plan_end, plan_trace}
 use Rattle.cord_plan.specs.Planned.{Operation}
 use Rattle.cord_plan.specs.Views.{operation_view}
 use Rattle.cord_run.specs.inner.Ends.{Closes}
 use Rattle.cord_run.specs.inner.Steps.{end_of_run}
-use Rattle.cord_run.proofs.Ends.{closed_cause, closed_fails, closed_finish, closed_honest, no_put_failed, put_failed, run_fails}
+use Rattle.cord_run.proofs.Ends.{closed_cause, closed_fails, closed_finish, closed_faithful, no_put_failed, put_failed, run_fails}
 use Rattle.cord_run.proofs.runner.run_over.Goals as goal
 
-pub returns-clause-honest : goal.returns-clause-honest
-returns-clause-honest g c = λ folder agrees fit.
+pub returns-clause-faithful : goal.returns-clause-faithful
+returns-clause-faithful g c = λ file_system agrees fit.
     let operations : List Operation = map operation_view c.args.plan.now in
     let before : List ℕ = g.S.Sink.taken c.args.sink.now in
-    let told : End = c.close_output.result in
+    let reported : End = c.close_output.result in
     let n : SinkCounts = sink_counts g.S.Sink c.run_plan.new.sink c.close_output.new.sink in
-    let closes = subst (λ (e : End). Closes n e told) c.end_of_run-own.ensures c.close_output.ensures.closes in
-    let ms = plan_moments MAX_LEN MAX_TURNS operations folder in
-    let meant = plan_end MAX_LEN MAX_TURNS operations folder in
-    subst (λ (after : List ℕ). HonestOutput ms meant before after told) (sym c.close_output.ensures.taken)
-    (closed_honest ms meant before (g.S.Sink.taken c.run_plan.new.sink) n (end_of_run c.run_plan.result) told closes
-    (c.run_plan.ensures.honest folder agrees fit))
+    let closes = subst (λ (e : End). Closes n e reported) c.end_of_run-own.ensures c.close_output.ensures.closes in
+    let ms = plan_trace MAX_LEN MAX_TURNS operations file_system in
+    let meant = plan_end MAX_LEN MAX_TURNS operations file_system in
+    subst (λ (after : List ℕ). FaithfulOutput ms meant before after reported) (sym c.close_output.ensures.taken)
+    (closed_faithful ms meant before (g.S.Sink.taken c.run_plan.new.sink) n (end_of_run c.run_plan.result) reported closes
+    (c.run_plan.ensures.faithful file_system agrees fit))
 
 pub returns-clause-fails : goal.returns-clause-fails
 returns-clause-fails g c =
     let operations : List Operation = map operation_view c.args.plan.now in
-    let told : End = c.close_output.result in
+    let reported : End = c.close_output.result in
     let n : SinkCounts = sink_counts g.S.Sink c.run_plan.new.sink c.close_output.new.sink in
-    let closes = subst (λ (e : End). Closes n e told) c.end_of_run-own.ensures c.close_output.ensures.closes in
-    closed_fails operations n (end_of_run c.run_plan.result) told closes (run_fails operations c.run_plan.result c.run_plan.ensures.fails)
+    let closes = subst (λ (e : End). Closes n e reported) c.end_of_run-own.ensures c.close_output.ensures.closes in
+    closed_fails operations n (end_of_run c.run_plan.result) reported closes
+    (run_fails operations c.run_plan.result c.run_plan.ensures.fails)
 
 pub returns-clause-cause : goal.returns-clause-cause
 returns-clause-cause g c =
-    let told : End = c.close_output.result in
+    let reported : End = c.close_output.result in
     let n : SinkCounts = sink_counts g.S.Sink c.run_plan.new.sink c.close_output.new.sink in
-    let closes = subst (λ (e : End). Closes n e told) c.end_of_run-own.ensures c.close_output.ensures.closes in
+    let closes = subst (λ (e : End). Closes n e reported) c.end_of_run-own.ensures c.close_output.ensures.closes in
     let before = g.met.S.Sink.failures_are c.args.sink.now in
     let after = g.met.S.Sink.failures_are c.run_plan.new.sink in
     closed_cause (g.F.Files.failures (device_in c.args.sources.now)) (g.F.Files.failures (device_in c.run_plan.new.sources))
@@ -50,13 +51,13 @@ returns-clause-cause g c =
     c.requires.sink_count (ap (λ (f : Finishes). f.ended) c.run_plan.ensures.finished)
     (no_put_failed _ _ _ _ _ _ before after c.run_plan.ensures.finished c.requires.sink_count)
     (put_failed _ _ _ _ _ _ before after c.run_plan.ensures.finished c.requires.sink_count) c.close_output.ensures.puts c.run_plan.result
-    c.run_plan.ensures.counts told closes
+    c.run_plan.ensures.counts reported closes
 
 pub returns-clause-finish : goal.returns-clause-finish
 returns-clause-finish g c =
-    let told : End = c.close_output.result in
+    let reported : End = c.close_output.result in
     let n : SinkCounts = sink_counts g.S.Sink c.run_plan.new.sink c.close_output.new.sink in
-    let closes = subst (λ (e : End). Closes n e told) c.end_of_run-own.ensures c.close_output.ensures.closes in
+    let closes = subst (λ (e : End). Closes n e reported) c.end_of_run-own.ensures c.close_output.ensures.closes in
     let before = g.met.S.Sink.failures_are c.args.sink.now in
     let after = g.met.S.Sink.failures_are c.run_plan.new.sink in
     closed_finish (g.F.Files.failures (device_in c.args.sources.now)) (g.F.Files.failures (device_in c.run_plan.new.sources))
@@ -67,4 +68,4 @@ returns-clause-finish g c =
     c.requires.sink_count (ap (λ (f : Finishes). f.ended) c.run_plan.ensures.finished)
     (no_put_failed _ _ _ _ _ _ before after c.run_plan.ensures.finished c.requires.sink_count)
     (put_failed _ _ _ _ _ _ before after c.run_plan.ensures.finished c.requires.sink_count) c.close_output.ensures.puts
-    (map operation_view c.args.plan.now) c.run_plan.result c.run_plan.ensures.counts c.run_plan.ensures.fails told closes
+    (map operation_view c.args.plan.now) c.run_plan.result c.run_plan.ensures.counts c.run_plan.ensures.fails reported closes

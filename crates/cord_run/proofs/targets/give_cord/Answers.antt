@@ -1,6 +1,6 @@
 use Rattle.std.proofs.Common.{rules}
-use Rattle.cord_io.specs.Device.{Folder}
-use Rattle.cord_file.specs.Files.{as_long_as_told}
+use Rattle.cord_io.specs.Device.{FileSystem}
+use Rattle.cord_file.specs.Files.{as_long_as_reported}
 use Rattle.cord_file.specs.Opening.{Grows}
 use Rattle.cord_file.specs.Sources.{device_in, opened_in}
 use Rattle.cord_plan.specs.Views.{made_view}
@@ -18,13 +18,13 @@ returns-in_ok-cord-in-None-clause-over g c =
     (c.in_ok-cord-in-None.ensures.built.sound, c.in_ok-cord-in-None.ensures.built.fits) c.give.result c.give.ensures.has
 
 pub returns-in_ok-cord-in-None-clause-gives : goal.returns-in_ok-cord-in-None-clause-gives
-returns-in_ok-cord-in-None-clause-gives g c = λ folder agrees.
+returns-in_ok-cord-in-None-clause-gives g c = λ file_system agrees.
     let s = c.args.sources.now in
-    let before = c.in_ok-cord-in-None.ensures.earlier folder agrees in
+    let before = c.in_ok-cord-in-None.ensures.earlier file_system agrees in
     built_target (opened_in s) (opened_in c.make.new.sources) c.in_ok-cord-in-None.ensures.grows c.args.store.now.entries.items
     c.make.new.store.entries.items c.give.new.store.entries.items c.requires.over c.in_ok-cord-in-None.ensures.same
-    c.args.target.now (made_view c.args.made.now) (g.F.Files.keeps (device_in c.make.new.sources)) folder agrees
-    (as_long_as_told (g.F.Files.keeps (device_in s)) s.entries.items s.sound.as_long folder before)
+    c.args.target.now (made_view c.args.made.now) (g.F.Files.consistent (device_in c.make.new.sources)) file_system agrees
+    (as_long_as_reported (g.F.Files.consistent (device_in s)) s.entries.items s.sound.as_long file_system before)
     c.in_ok-cord-in-None.cord c.in_ok-cord-in-None.ensures.built c.give.result c.give.ensures.has c.give.ensures.refused
 
 pub returns-in-Some-clause-over : goal.returns-in-Some-clause-over
@@ -33,10 +33,11 @@ returns-in-Some-clause-over g c =
     (made_view c.args.made.now) c.in-Some.edit.middle c.requires.over c.edit_in_place.result c.edit_in_place.ensures.edited
 
 pub returns-in-Some-clause-gives : goal.returns-in-Some-clause-gives
-returns-in-Some-clause-gives g c = λ folder agrees.
+returns-in-Some-clause-gives g c = λ file_system agrees.
     let s = c.args.sources.now in
-    let keeps : Folder → Type 0 = g.F.Files.keeps (device_in s) in
+    let consistent : FileSystem → Type 0 = g.F.Files.consistent (device_in s) in
     let same : Grows (opened_in s) (opened_in s) = search rules in
-    edited_gives keeps (opened_in s) same (as_long_as_told keeps s.entries.items s.sound.as_long) c.args.store.now.entries.items
+    edited_gives consistent (opened_in s) same (as_long_as_reported consistent s.entries.items s.sound.as_long)
+    c.args.store.now.entries.items
     c.edit_in_place.new.store.entries.items c.requires.over c.args.target.now (made_view c.args.made.now) c.in-Some.edit.middle
-    c.edit_in_place.result c.edit_in_place.ensures.edited c.edit_in_place.ensures.refused folder agrees
+    c.edit_in_place.result c.edit_in_place.ensures.edited c.edit_in_place.ensures.refused file_system agrees

@@ -1,4 +1,4 @@
-use Rattle.cord_file.specs.Files.{as_long_as_told}
+use Rattle.cord_file.specs.Files.{as_long_as_reported}
 use Rattle.cord_file.specs.Sources.{device_in, opened_in}
 use Rattle.cord_plan.specs.Views.{made_view}
 use Rattle.cord_run.specs.declared.store.Content.TheVariants.{Long}
@@ -11,19 +11,19 @@ returns-clause-over g c =
     target_over (opened_in c.args.sources.now) (opened_in c.measure.new.sources) c.in_ok-len.ensures.grows
     c.args.store.now.entries.items
     c.args.store.now.entries.items c.give_long.new.store.entries.items c.requires.over (nothing_changed c.args.store.now.entries.items)
-    c.args.target.now (made_view c.args.made.now) (Long c.in_ok-len.len) c.in_ok-len.ensures.told.short
+    c.args.target.now (made_view c.args.made.now) (Long c.in_ok-len.len) c.in_ok-len.ensures.reported.short
     c.give_long.result
     c.give_long.ensures.has
 
 pub returns-clause-gives : goal.returns-clause-gives
-returns-clause-gives g c = λ folder agrees.
+returns-clause-gives g c = λ file_system agrees.
     let s = c.args.sources.now in
-    let before = c.in_ok-len.ensures.earlier folder agrees in
+    let before = c.in_ok-len.ensures.earlier file_system agrees in
     measured_target (opened_in s) (opened_in c.measure.new.sources) c.in_ok-len.ensures.grows c.args.store.now.entries.items
     c.args.store.now.entries.items c.give_long.new.store.entries.items c.requires.over (nothing_changed c.args.store.now.entries.items)
-    c.args.target.now (made_view c.args.made.now) (g.F.Files.keeps (device_in c.measure.new.sources)) folder agrees
-    (as_long_as_told (g.F.Files.keeps (device_in s)) s.entries.items s.sound.as_long folder before)
-    c.in_ok-len.len c.in_ok-len.ensures.told c.give_long.result c.give_long.ensures.has c.give_long.ensures.refused
+    c.args.target.now (made_view c.args.made.now) (g.F.Files.consistent (device_in c.measure.new.sources)) file_system agrees
+    (as_long_as_reported (g.F.Files.consistent (device_in s)) s.entries.items s.sound.as_long file_system before)
+    c.in_ok-len.len c.in_ok-len.ensures.reported c.give_long.result c.give_long.ensures.has c.give_long.ensures.refused
 
 pub returns-clause-stays : goal.returns-clause-stays
 returns-clause-stays g c =

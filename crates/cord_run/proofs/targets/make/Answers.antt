@@ -1,7 +1,7 @@
 use Rattle.std.proofs.Common.{◌≡◌, rules, subst}
 use Rattle.std.specs.Prelude.{IfOk, IfErr}
-use Rattle.cord_io.specs.Device.{Folder}
-use Rattle.cord_file.specs.Files.{as_long_as_told}
+use Rattle.cord_io.specs.Device.{FileSystem}
+use Rattle.cord_file.specs.Files.{as_long_as_reported}
 use Rattle.cord_file.specs.Sources.{device_in, opened_in}
 use Rattle.cord_plan.specs.Planned.{Made}
 use Rattle.cord_plan.specs.Views.{made_view}
@@ -18,39 +18,39 @@ pub returns-in-Some : goal.returns-in-Some
 returns-in-Some g c =
     let old = opened_in c.args.sources.now in
     let new = opened_in c.file_cord.new.sources in
-    let keeps : Folder → Type 0 = g.F.Files.keeps (device_in c.file_cord.new.sources) in
+    let consistent : FileSystem → Type 0 = g.F.Files.consistent (device_in c.file_cord.new.sources) in
     let entries = c.args.store.now.entries.items in
     let r = c.file_cord.result in
-    let told = c.file_cord.ensures in
+    let reported = c.file_cord.ensures in
     let is : file_made c.in-Some.reading c.in-Some.path.now ≡ made_view c.args.made.now = c.in-Some.ensures.some in
     record {
-      built = subst (λ (m : Made). IfOk r (IsMade keeps old new entries m)) is
-          (file_built keeps old entries c.in-Some.reading c.in-Some.path.now new r told.made);
-      refused = subst (λ (m : Made). IfErr r (IsUnmade keeps old entries m)) is
-          (file_unbuilt keeps old entries c.in-Some.reading c.in-Some.path.now r told.refused);
+      built = subst (λ (m : Made). IfOk r (IsMade consistent old new entries m)) is
+          (file_built consistent old entries c.in-Some.reading c.in-Some.path.now new r reported.made);
+      refused = subst (λ (m : Made). IfErr r (IsUnmade consistent old entries m)) is
+          (file_unbuilt consistent old entries c.in-Some.reading c.in-Some.path.now r reported.refused);
       same = search rules;
-      earlier = told.earlier;
-      grows = told.grows;
+      earlier = reported.earlier;
+      grows = reported.grows;
       fails = subst (λ (m : Made). IfErr r (FailsBy (IsFileMade m) ⊥)) is
-          (fails_reading _ _ ⊥ (of_file c.in-Some.reading c.in-Some.path.now) r told.refused);
-      counts = told.counts;
+          (fails_reading _ _ ⊥ (of_file c.in-Some.reading c.in-Some.path.now) r reported.refused);
+      counts = reported.counts;
     }
 
 pub returns-in-None : goal.returns-in-None
 returns-in-None g c =
     let s = c.args.sources.now in
-    let keeps : Folder → Type 0 = g.F.Files.keeps (device_in s) in
-    let told = as_long_as_told keeps s.entries.items s.sound.as_long in
+    let consistent : FileSystem → Type 0 = g.F.Files.consistent (device_in s) in
+    let reported = as_long_as_reported consistent s.entries.items s.sound.as_long in
     let entries = c.args.store.now.entries.items in
     let r = c.make_of_names.result in
     let made = made_view c.args.made.now in
     record {
-      built = names_made keeps (opened_in s) told entries c.requires.over made r
+      built = names_made consistent (opened_in s) reported entries c.requires.over made r
           c.make_of_names.ensures.built;
-      refused = names_unmade keeps (opened_in s) told entries c.requires.over made r
+      refused = names_unmade consistent (opened_in s) reported entries c.requires.over made r
           c.make_of_names.ensures.refused;
       same = c.make_of_names.ensures.same;
-      earlier = λ folder agrees. agrees;
+      earlier = λ file_system agrees. agrees;
       grows = search rules;
       fails = never_fails _ _ _ r c.make_of_names.ensures.refused;
       counts = no_device _ (g.F.Files.failures (device_in s)) r c.make_of_names.ensures.refused;

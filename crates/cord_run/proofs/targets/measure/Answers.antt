@@ -1,7 +1,7 @@
 use Rattle.std.proofs.Common.{◌≡◌, rules, sym, subst}
 use Rattle.std.specs.Prelude.{IfOk, IfErr}
-use Rattle.cord_io.specs.Device.{Folder}
-use Rattle.cord_file.specs.Files.{as_long_as_told}
+use Rattle.cord_io.specs.Device.{FileSystem}
+use Rattle.cord_file.specs.Files.{as_long_as_reported}
 use Rattle.cord_file.specs.Sources.{device_in, opened_in}
 use Rattle.cord_plan.specs.Planned.{Made}
 use Rattle.cord_plan.specs.Views.{made_view}
@@ -12,47 +12,47 @@ use Rattle.cord_run.specs.inner.Definitions.{file_made}
 use Rattle.cord_run.proofs.Failures.{fails_reading, never_fails}
 use Rattle.cord_run.proofs.Files.{file_measured, file_unmeasured, of_file, takes_memory}
 use Rattle.cord_run.proofs.Known.{file_extent}
-use Rattle.cord_run.proofs.TargetNames.{names_told, names_untold, no_device}
+use Rattle.cord_run.proofs.TargetNames.{names_reported, names_unreported, no_device}
 use Rattle.cord_run.proofs.targets.measure.Goals as goal
 
 pub returns-in-Some : goal.returns-in-Some
 returns-in-Some g c =
     let old = opened_in c.args.sources.now in
-    let keeps : Folder → Type 0 = g.F.Files.keeps (device_in c.opened_length.new.sources) in
+    let consistent : FileSystem → Type 0 = g.F.Files.consistent (device_in c.opened_length.new.sources) in
     let entries = c.args.store.now.entries.items in
     let r = c.opened_length.result in
-    let told = c.opened_length.ensures in
+    let reported = c.opened_length.ensures in
     let is : file_made c.in-Some.reading c.in-Some.path.now ≡ made_view c.args.made.now = c.in-Some.ensures.some in
     record {
-      told = subst (λ (m : Made). IfOk r (IsLength keeps old entries m)) is
-          (file_measured keeps old entries c.in-Some.reading c.in-Some.path.now r told.told);
+      reported = subst (λ (m : Made). IfOk r (IsLength consistent old entries m)) is
+          (file_measured consistent old entries c.in-Some.reading c.in-Some.path.now r reported.reported);
       extent = file_extent entries (made_view c.args.made.now) c.in-Some.reading c.in-Some.path.now is r;
-      refused = subst (λ (m : Made). IfErr r (IsUnmeasured keeps old entries m)) is
-          (file_unmeasured keeps old entries c.in-Some.reading c.in-Some.path.now r told.refused);
-      earlier = told.earlier;
-      grows = told.grows;
+      refused = subst (λ (m : Made). IfErr r (IsUnmeasured consistent old entries m)) is
+          (file_unmeasured consistent old entries c.in-Some.reading c.in-Some.path.now r reported.refused);
+      earlier = reported.earlier;
+      grows = reported.grows;
       fails = subst (λ (m : Made). IfErr r (FailsBy (IsFileMade m) ⊥)) is
-          (fails_reading _ _ ⊥ (of_file c.in-Some.reading c.in-Some.path.now) r told.refused);
-      counts = told.counts;
-      unread = told.unopened;
+          (fails_reading _ _ ⊥ (of_file c.in-Some.reading c.in-Some.path.now) r reported.refused);
+      counts = reported.counts;
+      unread = reported.unopened;
       unbuilt = λ free. absurd (takes_memory c.in-Some.reading c.in-Some.path.now (subst TakesNoMemory (sym is) free));
     }
 
 pub returns-in-None : goal.returns-in-None
 returns-in-None g c =
     let s = c.args.sources.now in
-    let keeps : Folder → Type 0 = g.F.Files.keeps (device_in s) in
-    let told = as_long_as_told keeps s.entries.items s.sound.as_long in
+    let consistent : FileSystem → Type 0 = g.F.Files.consistent (device_in s) in
+    let reported = as_long_as_reported consistent s.entries.items s.sound.as_long in
     let entries = c.args.store.now.entries.items in
     let r = c.measure_of_names.result in
     let made = made_view c.args.made.now in
     record {
-      told = names_told keeps (opened_in s) told entries c.requires.over made r
-          c.measure_of_names.ensures.told;
+      reported = names_reported consistent (opened_in s) reported entries c.requires.over made r
+          c.measure_of_names.ensures.reported;
       extent = c.measure_of_names.ensures.extent;
-      refused = names_untold keeps (opened_in s) told entries c.requires.over made r
+      refused = names_unreported consistent (opened_in s) reported entries c.requires.over made r
           c.measure_of_names.ensures.refused;
-      earlier = λ folder agrees. agrees;
+      earlier = λ file_system agrees. agrees;
       grows = search rules;
       fails = never_fails _ _ _ r c.measure_of_names.ensures.refused;
       counts = no_device _ (g.F.Files.failures (device_in s)) r c.measure_of_names.ensures.refused;

@@ -23,5 +23,5 @@ returns-clause-adds c = λ _.
     ∙ ap (λ n. left_after (verb_effect verb) number n c.into_added-added.result.path scope) c.into_added-added.ensures.name
     ∙ ap (λ p. left_after (verb_effect verb) number new.name p scope) c.into_added-added.ensures.path in
     adds verb number c.args.line.now old new (scope_of c.leave.new.self) statement c.args.statements.now.items
-    c.push.new.self.items c.in-Some.ensures (sym c.block_flaw.ensures ∙ nothing c.block_flaw.result (c.if-is_some.ensures)) says
+    c.push.new.self.items c.in-Some.ensures (sym c.block_error.ensures ∙ nothing c.block_error.result (c.if-is_some.ensures)) says
     left c.in_ok-push.ensures.items

@@ -5,19 +5,20 @@ use Rattle.cord_script.proofs.Readings.{reads_line, stops, too_many, is_wrong, r
 use Rattle.cord_script.proofs.Readings.{reached, left_found}
 use Rattle.cord_script.proofs.parser.parse.Goals as goal
 
-pub returns-then-size-gt-MAX_SCRIPT-clause-flaw : goal.returns-then-size-gt-MAX_SCRIPT-clause-flaw
-returns-then-size-gt-MAX_SCRIPT-clause-flaw c = λ n. inl (record { size = omega arith; line = refl; is = refl })
+pub returns-then-size-gt-MAX_SCRIPT-clause-first_error : goal.returns-then-size-gt-MAX_SCRIPT-clause-first_error
+returns-then-size-gt-MAX_SCRIPT-clause-first_error c = λ n. inl (record { size = omega arith; line = refl; is = refl })
 
-pub returns-then-number-gt-MAX_LINES-clause-flaw : goal.returns-then-number-gt-MAX_LINES-clause-flaw
-returns-then-number-gt-MAX_LINES-clause-flaw c = λ n.
+pub returns-then-number-gt-MAX_LINES-clause-first_error : goal.returns-then-number-gt-MAX_LINES-clause-first_error
+returns-then-number-gt-MAX_LINES-clause-first_error c = λ n.
     too_many c.args.script.now c.lines.rest.now c.lines.number (scope_of c.lines.context) c.lines.statements.items
     (omega arith) c.lines.invariant.read (some_bytes c.lines.rest.now (sym c.lines-test.ensures)) (omega (arith, c.lines.invariant.few))
 
-pub returns-in-Err-clause-flaw : goal.returns-in-Err-clause-flaw
-returns-in-Err-clause-flaw c = λ n.
+pub returns-in-Err-clause-first_error : goal.returns-in-Err-clause-first_error
+returns-in-Err-clause-first_error c = λ n.
     stops c.args.script.now c.lines.rest.now c.first_line.result.1.now c.first_line.result.0.now c.lines.number
     (scope_of c.lines.context) c.lines.statements.items c.in-Err.kind (omega arith) c.lines.invariant.read c.first_line.ensures.first
-    (is_wrong c.lines.number c.first_line.result.0.now (scope_of c.lines.context) c.in-Err.kind (omega arith) (c.in-Err.ensures.flaw n))
+    (is_wrong c.lines.number c.first_line.result.0.now (scope_of c.lines.context) c.in-Err.kind (omega arith)
+    (c.in-Err.ensures.first_error n))
 
 pub returns-in-Err-clause-no_memory : goal.returns-in-Err-clause-no_memory
 returns-in-Err-clause-no_memory c = λ n.
@@ -35,8 +36,8 @@ lines-preserved c = record {
       (omega (arith, c.lines.invariant.read.number)) c.lines.invariant.numbered c.in_default.ensures.takes;
 }
 
-pub returns-in-Some-clause-flaw : goal.returns-in-Some-clause-flaw
-returns-in-Some-clause-flaw c = λ n.
+pub returns-in-Some-clause-first_error : goal.returns-in-Some-clause-first_error
+returns-in-Some-clause-first_error c = λ n.
     leaves_open c.args.script.now c.lines.rest.now c.lines.number c.in-Some.refusal.line (scope_of c.lines.context)
     c.lines.statements.items
     c.in-Some.refusal.kind (omega arith) c.lines.invariant.few
@@ -51,4 +52,4 @@ returns-clause-reads c =
     subst (Reads c.args.script.now) (sym c.of.ensures)
     (read_whole c.args.script.now c.lines.rest.now c.lines.number (scope_of c.lines.context) c.lines.statements.items (omega arith)
     c.lines.invariant.few (no_bytes c.lines.rest.now (eqb-true (length c.lines.rest.now) 0 (sym c.lines-test.ensures)))
-    c.lines.invariant.read c.in_default-open_flaw.ensures)
+    c.lines.invariant.read c.in_default-open_error.ensures)

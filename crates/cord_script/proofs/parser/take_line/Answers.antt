@@ -12,7 +12,7 @@ returns-then-is_idle-clause-takes c =
     let kept = c.in_ok-take_statement.ensures.keeps c.if-branch.false in
     (None, (c.if-is_idle.ensures, kept.0), kept.1 ∙ sym (append-nil c.args.statements.now.items))
 
-pub returns-clause-flaw : goal.returns-clause-flaw
-returns-clause-flaw c = λ n.
+pub returns-clause-first_error : goal.returns-clause-first_error
+returns-clause-first_error c = λ n.
     subst (λ scope. HasWrong c.args.line.now scope c.refusal_of.result) (c.in_ok-take_statement.ensures.keeps c.if-branch.false).0
     (c.refusal_of.ensures n)

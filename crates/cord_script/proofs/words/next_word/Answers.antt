@@ -3,11 +3,11 @@ use Rattle.std.proofs.lemmas.Result.{err_from_is_err_and}
 use Rattle.cord_script.proofs.Worded.{begins_bad, quoted_next, plain_next}
 use Rattle.cord_script.proofs.words.next_word.Goals as goal
 
-pub returns-in_err-text-clause-flaw : goal.returns-in_err-text-clause-flaw
-returns-in_err-text-clause-flaw c =
+pub returns-in_err-text-clause-first_error : goal.returns-in_err-text-clause-first_error
+returns-in_err-text-clause-first_error c =
     let p = err_from_is_err_and c.from_residual.result c.from_residual.ensures.1 in
     rw (p.1, p.2) (λ n. begins_bad c.args.line.now c.tail-rest.result.now c.in-Some.inner.now c.blanks.result c.in-Some.first _
-    c.tail-rest.ensures c.in-Some.ensures c.if-first-eq34.true c.blanks.ensures.blank (c.in_err-text.ensures.flaw n))
+    c.tail-rest.ensures c.in-Some.ensures c.if-first-eq34.true c.blanks.ensures.blank (c.in_err-text.ensures.first_error n))
 
 pub returns-then-first-eq34-clause-word : goal.returns-then-first-eq34-clause-word
 returns-then-first-eq34-clause-word c =

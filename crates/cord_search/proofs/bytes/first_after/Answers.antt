@@ -1,5 +1,5 @@
 use Rattle.std.proofs.Common.{◌≡◌, ◌∙◌, refl, arith}
-use Rattle.cord_pos.specs.Stretches.{stretch_len, IsStretchOf}
+use Rattle.cord_pos.specs.Spans.{span_len, IsSpanOf}
 use Rattle.cord_search.proofs.Ranges.{cord_len}
 use Rattle.cord_search.proofs.Finding.{first_on, first_past, first_found, first_none}
 use Rattle.cord_search.proofs.Moving.{set_valid}
@@ -16,38 +16,39 @@ loop-place-init g c = record {
   reads = refl;
   lengths = refl;
   table = refl;
-  earlier = λ folder kept. kept;
+  earlier = λ file_system kept. kept;
 }
 
-pub stretch_from-stretch-requires-clause-inside : goal.stretch_from-stretch-requires-clause-inside
-stretch_from-stretch-requires-clause-inside g c = rw c.loop-place.invariant.cord
+pub span_from-span-requires-clause-inside : goal.span_from-span-requires-clause-inside
+span_from-span-requires-clause-inside g c = rw c.loop-place.invariant.cord
     (omega (arith, c.loop-place-test.true, c.len-len.ensures.stored))
 
 pub first_piece-requires-clause-fits : goal.first_piece-requires-clause-fits
 first_piece-requires-clause-fits g c =
     let x = c.args.x.now in
-    let stretch : IsStretchOf x c.loop-place.place c.stretch_from-stretch.result =
-    rw c.loop-place.invariant.cord at c.stretch_from-stretch.ensures.stretch in
-    rw c.loop-place.invariant.lengths (c.in_block-block.ensures.front.fits (g.S.Source.lengths c.args.src.now)
-    (stretch.fits (g.S.Source.lengths c.args.src.now) c.requires.fits))
+    let span : IsSpanOf x c.loop-place.place c.span_from-span.result =
+    rw c.loop-place.invariant.cord at c.span_from-span.ensures.span in
+    rw c.loop-place.invariant.lengths (c.in_block-block.ensures.prefix.fits (g.S.Source.lengths c.args.src.now)
+    (span.fits (g.S.Source.lengths c.args.src.now) c.requires.fits))
 
 pub loop-place-preserved-in-Some : goal.loop-place-preserved-in-Some
 loop-place-preserved-in-Some g c =
     let x = c.args.x.now in
-    let s = c.stretch_from-stretch.result in
-    let stretch : IsStretchOf x c.loop-place.place s = rw c.loop-place.invariant.cord at c.stretch_from-stretch.ensures.stretch in
-    let whole : c.in-Some.count ≡ stretch_len s = c.in-Some.ensures.len in
+    let s = c.span_from-span.result in
+    let span : IsSpanOf x c.loop-place.place s = rw c.loop-place.invariant.cord at c.span_from-span.ensures.span in
+    let whole : c.in-Some.count ≡ span_len s = c.in-Some.ensures.len in
     record {
       low = omega (arith, c.loop-place.invariant.low);
-      high = omega (arith, whole, stretch.inside, c.len-len.ensures.stored);
-      none = λ folder kept.
-          let told = g.met.S.Source.lengths_of_table c.args.src.now folder (c.loop-place.invariant.earlier folder kept) in
-          let none = first_past (g.S.Source.lengths c.args.src.now) (g.S.Source.table c.args.src.now folder) x s c.args.byte c.args.from
-          c.loop-place.place told c.requires.fits c.set-position.ensures.sound stretch c.in-Some.ensures.without
-          (c.loop-place.invariant.none folder kept) in
+      high = omega (arith, whole, span.inside, c.len-len.ensures.stored);
+      none = λ file_system kept.
+          let reported = g.met.S.Source.lengths_of_table c.args.src.now file_system (c.loop-place.invariant.earlier file_system kept) in
+          let none = first_past (g.S.Source.lengths c.args.src.now) (g.S.Source.table c.args.src.now file_system) x s c.args.byte
+          c.args.from
+          c.loop-place.place reported c.requires.fits c.set-position.ensures.sound span c.in-Some.ensures.without
+          (c.loop-place.invariant.none file_system kept) in
           rw whole none;
-      cord = c.stretch_from-stretch.ensures.cord ∙ c.loop-place.invariant.cord;
-      valid = c.stretch_from-stretch.ensures.valid;
+      cord = c.span_from-span.ensures.cord ∙ c.loop-place.invariant.cord;
+      valid = c.span_from-span.ensures.valid;
       reads = c.loop-place.invariant.reads;
       lengths = c.loop-place.invariant.lengths;
       table = c.loop-place.invariant.table;
@@ -55,53 +56,54 @@ loop-place-preserved-in-Some g c =
     }
 
 pub returns-in-Some-memchr-clause-first : goal.returns-in-Some-memchr-clause-first
-returns-in-Some-memchr-clause-first g c = λ folder kept.
-    let t = g.S.Source.table c.args.src.now folder in
+returns-in-Some-memchr-clause-first g c = λ file_system kept.
+    let t = g.S.Source.table c.args.src.now file_system in
     let x = c.args.x.now in
     let place = c.loop-place.place in
     let piece = c.in_ok-piece.piece.now in
-    let before = c.in_ok-piece.ensures.read.earlier folder kept in
-    let told = g.met.S.Source.lengths_of_table c.args.src.now folder (c.loop-place.invariant.earlier folder before) in
-    let stretch : IsStretchOf x place c.stretch_from-stretch.result =
-    rw c.loop-place.invariant.cord at c.stretch_from-stretch.ensures.stretch in
+    let before = c.in_ok-piece.ensures.read.earlier file_system kept in
+    let reported = g.met.S.Source.lengths_of_table c.args.src.now file_system (c.loop-place.invariant.earlier file_system before) in
+    let span : IsSpanOf x place c.span_from-span.result =
+    rw c.loop-place.invariant.cord at c.span_from-span.ensures.span in
     let block = c.in_block-block.ensures in
-    let text = block_piece (g.S.Source.lengths c.args.src.now) t x place c.stretch_from-stretch.result c.in_block-block.result piece told
-    c.requires.fits stretch block.some block.few block.front c.in_ok-piece.ensures.inside
-    (rw c.loop-place.invariant.table at c.in_ok-piece.ensures.text folder kept) in
+    let text = block_piece (g.S.Source.lengths c.args.src.now) t x place c.span_from-span.result c.in_block-block.result piece reported
+    c.requires.fits span block.some block.few block.prefix c.in_ok-piece.ensures.inside
+    (rw c.loop-place.invariant.table at c.in_ok-piece.ensures.text file_system kept) in
     first_found t x piece c.args.byte c.args.from place c.in-Some-memchr.found _ c.in-Some-memchr.is c.memchr.ensures
-    c.loop-place.invariant.low text (c.loop-place.invariant.none folder before)
+    c.loop-place.invariant.low text (c.loop-place.invariant.none file_system before)
 
 pub loop-place-preserved : goal.loop-place-preserved
 loop-place-preserved g c =
     let x = c.args.x.now in
     let place = c.loop-place.place in
-    let stretch : IsStretchOf x place c.stretch_from-stretch.result =
-    rw c.loop-place.invariant.cord at c.stretch_from-stretch.ensures.stretch in
+    let span : IsSpanOf x place c.span_from-span.result =
+    rw c.loop-place.invariant.cord at c.span_from-span.ensures.span in
     let block = c.in_block-block.ensures in
     record {
       low = omega (arith, c.loop-place.invariant.low);
-      high = omega (arith, c.in_ok-piece.ensures.inside, block.few, stretch.inside, c.len-len.ensures.stored);
-      none = λ folder kept.
-          let t = g.S.Source.table c.args.src.now folder in
+      high = omega (arith, c.in_ok-piece.ensures.inside, block.few, span.inside, c.len-len.ensures.stored);
+      none = λ file_system kept.
+          let t = g.S.Source.table c.args.src.now file_system in
           let piece = c.in_ok-piece.piece.now in
-          let before = c.in_ok-piece.ensures.read.earlier folder kept in
-          let told = g.met.S.Source.lengths_of_table c.args.src.now folder (c.loop-place.invariant.earlier folder before) in
-          let text = block_piece (g.S.Source.lengths c.args.src.now) t x place c.stretch_from-stretch.result c.in_block-block.result piece
-          told c.requires.fits stretch block.some block.few block.front c.in_ok-piece.ensures.inside
-          (rw c.loop-place.invariant.table at c.in_ok-piece.ensures.text folder kept) in
-          first_on t x piece c.args.byte c.args.from place _ c.in-None.is c.memchr.ensures text (c.loop-place.invariant.none folder before);
-      cord = c.stretch_from-stretch.ensures.cord ∙ c.loop-place.invariant.cord;
-      valid = c.stretch_from-stretch.ensures.valid;
+          let before = c.in_ok-piece.ensures.read.earlier file_system kept in
+          let reported = g.met.S.Source.lengths_of_table c.args.src.now file_system (c.loop-place.invariant.earlier file_system before) in
+          let text = block_piece (g.S.Source.lengths c.args.src.now) t x place c.span_from-span.result c.in_block-block.result piece
+          reported c.requires.fits span block.some block.few block.prefix c.in_ok-piece.ensures.inside
+          (rw c.loop-place.invariant.table at c.in_ok-piece.ensures.text file_system kept) in
+          first_on t x piece c.args.byte c.args.from place _ c.in-None.is c.memchr.ensures text
+          (c.loop-place.invariant.none file_system before);
+      cord = c.span_from-span.ensures.cord ∙ c.loop-place.invariant.cord;
+      valid = c.span_from-span.ensures.valid;
       reads = c.in_ok-piece.ensures.read.count ∙ c.loop-place.invariant.reads;
       lengths = c.first_piece.ensures.read.lengths ∙ c.loop-place.invariant.lengths;
       table = c.first_piece.ensures.read.table ∙ c.loop-place.invariant.table;
-      earlier = λ folder kept. c.loop-place.invariant.earlier folder (c.in_ok-piece.ensures.read.earlier folder kept);
+      earlier = λ file_system kept. c.loop-place.invariant.earlier file_system (c.in_ok-piece.ensures.read.earlier file_system kept);
     }
 
 pub returns-clause-first : goal.returns-clause-first
-returns-clause-first g c = λ folder kept.
-    let t = g.S.Source.table c.args.src.now folder in
-    let told = g.met.S.Source.lengths_of_table c.args.src.now folder (c.loop-place.invariant.earlier folder kept) in
-    let len = cord_len (g.S.Source.lengths c.args.src.now) t c.args.x.now told c.set-position.ensures.sound c.requires.fits in
+returns-clause-first g c = λ file_system kept.
+    let t = g.S.Source.table c.args.src.now file_system in
+    let reported = g.met.S.Source.lengths_of_table c.args.src.now file_system (c.loop-place.invariant.earlier file_system kept) in
+    let len = cord_len (g.S.Source.lengths c.args.src.now) t c.args.x.now reported c.set-position.ensures.sound c.requires.fits in
     first_none t c.args.x.now c.args.byte c.args.from c.loop-place.place (omega (arith, c.loop-place-test.false, c.len-len.ensures.stored))
-    len (c.loop-place.invariant.none folder kept)
+    len (c.loop-place.invariant.none file_system kept)

@@ -1,6 +1,6 @@
 use Rattle.std.proofs.Common.{◌≡◌, ◌+◌, ◌≤◌}
 use Rattle.std.specs.Prelude.{IsSome}
-use Rattle.cord_io.specs.Device.{Folder}
+use Rattle.cord_io.specs.Device.{FileSystem}
 use Rattle.cord_search.specs.inner.Pieces.{HasNot}
 use Rattle.cord_search.proofs.bytes.last_before.Given as goal
 
@@ -8,13 +8,14 @@ use Rattle.cord_search.proofs.bytes.last_before.Given as goal
 abbrev pub invariant-loop-end : goal.invariant-loop-end
 invariant-loop-end g l = record {
   high : l.end ≤ l.at + 1;
-  none : (folder : Folder) → g.S.Source.keeps l.src folder → HasNot (g.S.Source.table l.initial.src folder) l.x l.byte l.end (l.at + 1);
+  none : (file_system : FileSystem) → g.S.Source.consistent l.src file_system → HasNot (g.S.Source.table l.initial.src file_system) l.x
+      l.byte l.end (l.at + 1);
   cord : l.position.cord ≡ l.x;
   valid : IsSome l.position.index;
   reads : g.S.Source.failures l.src ≡ g.S.Source.failures l.initial.src;
   lengths : g.S.Source.lengths l.src ≡ g.S.Source.lengths l.initial.src;
   table : g.S.Source.table l.src ≡ g.S.Source.table l.initial.src;
-  earlier : (folder : Folder) → g.S.Source.keeps l.src folder → g.S.Source.keeps l.initial.src folder;
+  earlier : (file_system : FileSystem) → g.S.Source.consistent l.src file_system → g.S.Source.consistent l.initial.src file_system;
 }
 
 abbrev pub decreases-loop-end : goal.decreases-loop-end

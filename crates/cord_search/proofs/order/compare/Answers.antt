@@ -1,9 +1,9 @@
 use Rattle.std.proofs.Common.{◌+◌, ◌≤◌, ◌<◌, ◌∙◌, sym, arith}
 use Rattle.std.specs.Prelude.{min}
 use Rattle.cord_core.specs.Cord.{text_len}
-use Rattle.cord_io.specs.Device.{Folder}
+use Rattle.cord_io.specs.Device.{FileSystem}
 use Rattle.cord_search.specs.inner.Pieces.{IsPieceOf}
-use Rattle.cord_search.proofs.Ranges.{cord_len, front_within}
+use Rattle.cord_search.proofs.Ranges.{cord_len, prefix_within}
 use Rattle.cord_search.proofs.Sharing.{alike_on}
 use Rattle.cord_search.proofs.Comparing.{same_on, different, no_different, range_len, cord_limit}
 use Rattle.cord_search.proofs.order.compare.Given.{Over}
@@ -11,21 +11,22 @@ use Rattle.cord_search.proofs.order.compare.Goals.{In_ok-other-in-Apart}
 use Rattle.cord_search.proofs.order.compare.Goals as goal
 
 -- what was read of the two texts are pieces of them
-texts_are : (g : Over) (c : In_ok-other-in-Apart g) (folder : Folder) → g.S.Source.keeps c.first_piece-in-Apart.new.src folder →
-    IsPieceOf (g.S.Source.table c.args.src.now folder) c.args.x.now (c.args.i + c.loop-done.done) c.in_ok-piece-in-Apart.piece.now ×
-    IsPieceOf (g.S.Source.table c.args.src.now folder) c.args.y.now (c.args.j + c.loop-done.done) c.in_ok-other-in-Apart.other.now
-texts_are g c folder kept =
-    let t = g.S.Source.table c.args.src.now folder in
+texts_are : (g : Over) (c : In_ok-other-in-Apart g) (file_system : FileSystem) → g.S.Source.consistent c.first_piece-in-Apart.new.src
+    file_system →
+    IsPieceOf (g.S.Source.table c.args.src.now file_system) c.args.x.now (c.args.i + c.loop-done.done) c.in_ok-piece-in-Apart.piece.now ×
+    IsPieceOf (g.S.Source.table c.args.src.now file_system) c.args.y.now (c.args.j + c.loop-done.done) c.in_ok-other-in-Apart.other.now
+texts_are g c file_system kept =
+    let t = g.S.Source.table c.args.src.now file_system in
     let lengths = g.S.Source.lengths c.args.src.now in
-    let after = c.in_ok-other-in-Apart.ensures.read.earlier folder kept in
-    let before = c.in_ok-piece-in-Apart.ensures.read.earlier folder after in
-    let told = g.met.S.Source.lengths_of_table c.args.src.now folder (c.loop-done.invariant.earlier folder before) in (
-      front_within lengths t c.args.x.now (c.args.i + c.loop-done.done) c.in-Apart.stretch c.in_ok-piece-in-Apart.piece.now told
+    let after = c.in_ok-other-in-Apart.ensures.read.earlier file_system kept in
+    let before = c.in_ok-piece-in-Apart.ensures.read.earlier file_system after in
+    let reported = g.met.S.Source.lengths_of_table c.args.src.now file_system (c.loop-done.invariant.earlier file_system before) in (
+      prefix_within lengths t c.args.x.now (c.args.i + c.loop-done.done) c.in-Apart.span c.in_ok-piece-in-Apart.piece.now reported
           c.requires.left_fits c.in-Apart.ensures.ahead.0 c.in_ok-piece-in-Apart.ensures.inside
-          (rw c.loop-done.invariant.table at c.in_ok-piece-in-Apart.ensures.text folder after),
-      front_within lengths t c.args.y.now (c.args.j + c.loop-done.done) c.in-Apart.other c.in_ok-other-in-Apart.other.now told
+          (rw c.loop-done.invariant.table at c.in_ok-piece-in-Apart.ensures.text file_system after),
+      prefix_within lengths t c.args.y.now (c.args.j + c.loop-done.done) c.in-Apart.other c.in_ok-other-in-Apart.other.now reported
           c.requires.right_fits c.in-Apart.ensures.ahead.1 c.in_ok-other-in-Apart.ensures.inside
-          (rw (c.first_piece.ensures.read.table, c.loop-done.invariant.table) at c.in_ok-other-in-Apart.ensures.text folder kept),
+          (rw (c.first_piece.ensures.read.table, c.loop-done.invariant.table) at c.in_ok-other-in-Apart.ensures.text file_system kept),
     )
 
 pub overflow_add-i : goal.overflow_add-i
@@ -51,11 +52,11 @@ first_piece-requires-in-Apart-clause-fits g c = rw (c.first_piece.ensures.read.l
 pub loop-done-preserved-in-Same : goal.loop-done-preserved-in-Same
 loop-done-preserved-in-Same g c = record {
   in_range = omega (arith, c.in-Same.ensures.ahead.1, c.loop-done-test.true, c.loop-done.invariant.in_range);
-  same = λ folder kept.
-      let told = g.met.S.Source.lengths_of_table c.args.src.now folder (c.loop-done.invariant.earlier folder kept) in
-      alike_on (g.S.Source.lengths c.args.src.now) (g.S.Source.table c.args.src.now folder) c.args.x.now c.args.i c.args.y.now c.args.j
-      c.loop-done.done c.in-Same.count told c.requires.left_fits c.requires.right_fits c.in-Same.ensures.ahead.2
-      (c.loop-done.invariant.same folder kept);
+  same = λ file_system kept.
+      let reported = g.met.S.Source.lengths_of_table c.args.src.now file_system (c.loop-done.invariant.earlier file_system kept) in
+      alike_on (g.S.Source.lengths c.args.src.now) (g.S.Source.table c.args.src.now file_system) c.args.x.now c.args.i c.args.y.now c.args.j
+      c.loop-done.done c.in-Same.count reported c.requires.left_fits c.requires.right_fits c.in-Same.ensures.ahead.2
+      (c.loop-done.invariant.same file_system kept);
   left_way = c.in-Same.ensures.left_way;
   right_way = c.in-Same.ensures.right_way;
   reads = c.loop-done.invariant.reads;
@@ -73,39 +74,39 @@ loop-done-preserved g c = record {
     c.in-Apart.ensures.ahead.3,
     c.loop-done-test.true,
   );
-  same = λ folder kept.
-      let t = g.S.Source.table c.args.src.now folder in
+  same = λ file_system kept.
+      let t = g.S.Source.table c.args.src.now file_system in
       let done = c.loop-done.done in
       let n = c.min-count.result in
       let piece = c.in_ok-piece-in-Apart.piece.now in
       let other = c.in_ok-other-in-Apart.other.now in
       let lengths = g.S.Source.lengths c.args.src.now in
-      let after = c.in_ok-other-in-Apart.ensures.read.earlier folder kept in
-      let before = c.in_ok-piece-in-Apart.ensures.read.earlier folder after in
-      let told = g.met.S.Source.lengths_of_table c.args.src.now folder (c.loop-done.invariant.earlier folder before) in
-      let texts = texts_are g (goal.at.loop-done-preserved g c).In_ok-other-in-Apart folder kept in
+      let after = c.in_ok-other-in-Apart.ensures.read.earlier file_system kept in
+      let before = c.in_ok-piece-in-Apart.ensures.read.earlier file_system after in
+      let reported = g.met.S.Source.lengths_of_table c.args.src.now file_system (c.loop-done.invariant.earlier file_system before) in
+      let texts = texts_are g (goal.at.loop-done-preserved g c).In_ok-other-in-Apart file_system kept in
       same_on t c.args.x.now c.args.i c.args.y.now c.args.j done n piece other (omega (arith, c.min-count.ensures))
       (omega (arith, c.min-count.ensures)) texts.0 texts.1 (sym c.in-Equal.is ∙ c.order_of.ensures)
-      (c.loop-done.invariant.same folder before);
+      (c.loop-done.invariant.same file_system before);
   left_way = c.in-Apart.ensures.left_way;
   right_way = c.in-Apart.ensures.right_way;
   reads = c.in_ok-other-in-Apart.ensures.read.count ∙ (c.in_ok-piece-in-Apart.ensures.read.count ∙ c.loop-done.invariant.reads);
   lengths = c.first_piece-in-Apart.ensures.read.lengths ∙ (c.first_piece.ensures.read.lengths ∙ c.loop-done.invariant.lengths);
   table = c.first_piece-in-Apart.ensures.read.table ∙ (c.first_piece.ensures.read.table ∙ c.loop-done.invariant.table);
-  earlier = λ folder kept. c.loop-done.invariant.earlier folder
-      (c.in_ok-piece-in-Apart.ensures.read.earlier folder (c.in_ok-other-in-Apart.ensures.read.earlier folder kept));
+  earlier = λ file_system kept. c.loop-done.invariant.earlier file_system
+      (c.in_ok-piece-in-Apart.ensures.read.earlier file_system (c.in_ok-other-in-Apart.ensures.read.earlier file_system kept));
 }
 
 pub returns-in_default-clause-order : goal.returns-in_default-clause-order
-returns-in_default-clause-order g c = λ folder kept.
-    let t = g.S.Source.table c.args.src.now folder in
+returns-in_default-clause-order g c = λ file_system kept.
+    let t = g.S.Source.table c.args.src.now file_system in
     let done = c.loop-done.done in
     let n = c.min-count.result in
     let piece = c.in_ok-piece-in-Apart.piece.now in
     let other = c.in_ok-other-in-Apart.other.now in
-    let after = c.in_ok-other-in-Apart.ensures.read.earlier folder kept in
-    let before = c.in_ok-piece-in-Apart.ensures.read.earlier folder after in
-    let texts = texts_are g (goal.at.returns-in_default-clause-order g c).In_ok-other-in-Apart folder kept in
+    let after = c.in_ok-other-in-Apart.ensures.read.earlier file_system kept in
+    let before = c.in_ok-piece-in-Apart.ensures.read.earlier file_system after in
+    let texts = texts_are g (goal.at.returns-in_default-clause-order g c).In_ok-other-in-Apart file_system kept in
     different t c.args.x.now c.args.i c.args.left c.args.y.now c.args.j c.args.right done n piece other c.order_of.result
     (omega (
       arith,
@@ -123,17 +124,17 @@ returns-in_default-clause-order g c = λ folder kept.
       c.loop-done-test.true,
     )) (omega (arith, c.min-count.ensures))
     (omega (arith, c.min-count.ensures)) texts.0 texts.1 c.order_of.ensures c.in_default.not-Equal
-    (c.loop-done.invariant.same folder before)
+    (c.loop-done.invariant.same file_system before)
 
 pub returns-clause-order : goal.returns-clause-order
-returns-clause-order g c = λ folder kept.
-    let t = g.S.Source.table c.args.src.now folder in
+returns-clause-order g c = λ file_system kept.
+    let t = g.S.Source.table c.args.src.now file_system in
     let lengths = g.S.Source.lengths c.args.src.now in
-    let told = g.met.S.Source.lengths_of_table c.args.src.now folder (c.loop-done.invariant.earlier folder kept) in
+    let reported = g.met.S.Source.lengths_of_table c.args.src.now file_system (c.loop-done.invariant.earlier file_system kept) in
     let left = range_len t c.args.x.now c.args.i c.args.left
-    (cord_len lengths t c.args.x.now told c.requires.left_sound c.requires.left_fits) c.requires.left_inside in
+    (cord_len lengths t c.args.x.now reported c.requires.left_sound c.requires.left_fits) c.requires.left_inside in
     let right = range_len t c.args.y.now c.args.j c.args.right
-    (cord_len lengths t c.args.y.now told c.requires.right_sound c.requires.right_fits) c.requires.right_inside in
+    (cord_len lengths t c.args.y.now reported c.requires.right_sound c.requires.right_fits) c.requires.right_inside in
     rw c.cmp.ensures (no_different t c.args.x.now c.args.i c.args.left c.args.y.now c.args.j c.args.right c.loop-done.done
     (omega (arith, c.min-both.ensures, c.loop-done.invariant.in_range)) (omega (arith, c.min-both.ensures, c.loop-done-test.false))
-    left right (c.loop-done.invariant.same folder kept))
+    left right (c.loop-done.invariant.same file_system kept))

@@ -1,5 +1,5 @@
 use Rattle.std.proofs.Common.{◌≡◌, ◌-◌, ◌≤◌}
-use Rattle.cord_io.specs.Device.{Folder}
+use Rattle.cord_io.specs.Device.{FileSystem}
 use Rattle.cord_search.specs.inner.Ahead.{IsWay}
 use Rattle.cord_search.specs.inner.Pieces.{AreSame}
 use Rattle.cord_search.proofs.periods.common_len.Given as goal
@@ -8,13 +8,14 @@ use Rattle.cord_search.proofs.periods.common_len.Given as goal
 abbrev pub invariant-loop-done : goal.invariant-loop-done
 invariant-loop-done g l = record {
   in_range : l.done ≤ l.most;
-  same : (folder : Folder) → g.S.Source.keeps l.src folder → AreSame (g.S.Source.table l.initial.src folder) l.x l.i l.y l.j l.done;
+  same : (file_system : FileSystem) → g.S.Source.consistent l.src file_system → AreSame (g.S.Source.table l.initial.src file_system) l.x l.i
+      l.y l.j l.done;
   left_way : IsWay l.x l.way;
   right_way : IsWay l.y l.other_way;
   reads : g.S.Source.failures l.src ≡ g.S.Source.failures l.initial.src;
   lengths : g.S.Source.lengths l.src ≡ g.S.Source.lengths l.initial.src;
   table : g.S.Source.table l.src ≡ g.S.Source.table l.initial.src;
-  earlier : (folder : Folder) → g.S.Source.keeps l.src folder → g.S.Source.keeps l.initial.src folder;
+  earlier : (file_system : FileSystem) → g.S.Source.consistent l.src file_system → g.S.Source.consistent l.initial.src file_system;
 }
 
 abbrev pub decreases-loop-done : goal.decreases-loop-done

@@ -1,20 +1,21 @@
 use Rattle.std.proofs.Common.{refl, ap, arith}
-use Rattle.cord_pos.specs.Stretches.{stretch_bytes}
-use Rattle.cord_pos.specs.declared.stretch.Stretch.{Stretch}
+use Rattle.cord_pos.specs.Spans.{span_bytes}
+use Rattle.cord_pos.specs.declared.span.Span.{Span}
 use Rattle.cord_search.proofs.Ranges.{whole_part, run_part, func_part}
 use Rattle.cord_search.proofs.pieces.first_piece.Goals as goal
 
 pub returns-in-Bytes-clause-text : goal.returns-in-Bytes-clause-text
-returns-in-Bytes-clause-text g c = λ folder kept. whole_part (g.S.Source.table c.args.src.now folder) c.args.stretch c.in-Bytes.bytes.now 0
-    (λ t. ap (λ (s : Stretch). stretch_bytes t s) c.in-Bytes.is) refl
+returns-in-Bytes-clause-text g c = λ file_system kept. whole_part (g.S.Source.table c.args.src.now file_system) c.args.span
+    c.in-Bytes.bytes.now 0
+    (λ t. ap (λ (s : Span). span_bytes t s) c.in-Bytes.is) refl
 
 pub returns-in-Run-clause-text : goal.returns-in-Run-clause-text
-returns-in-Run-clause-text g c = λ folder kept. run_part (g.S.Source.table c.args.src.now folder) c.args.stretch _ c.in-Run.byte
-    c.in-Run.len 0 _ (λ t. ap (λ (s : Stretch). stretch_bytes t s) c.in-Run.is) (omega (arith, c.piece_len.ensures.inside))
+returns-in-Run-clause-text g c = λ file_system kept. run_part (g.S.Source.table c.args.src.now file_system) c.args.span _ c.in-Run.byte
+    c.in-Run.len 0 _ (λ t. ap (λ (s : Span). span_bytes t s) c.in-Run.is) (omega (arith, c.piece_len.ensures.inside))
     (c.fill.ensures.after (λ y e. e))
 
 pub returns-in_ok-read-in-Func-clause-text : goal.returns-in_ok-read-in-Func-clause-text
-returns-in_ok-read-in-Func-clause-text g c = λ folder kept. func_part (g.S.Source.table c.args.src.now folder) c.args.stretch
+returns-in_ok-read-in-Func-clause-text g c = λ file_system kept. func_part (g.S.Source.table c.args.src.now file_system) c.args.span
     c.read.new.out c.in-Func.id.0 c.in-Func.start c.in-Func.len c.in-Func.start 0
-    (λ t. ap (λ (s : Stretch). stretch_bytes t s) c.in-Func.is) (omega arith) (omega (arith, c.piece_len-in-Func.ensures.inside))
-    (c.in_ok-read-in-Func.ensures.bytes folder kept)
+    (λ t. ap (λ (s : Span). span_bytes t s) c.in-Func.is) (omega arith) (omega (arith, c.piece_len-in-Func.ensures.inside))
+    (c.in_ok-read-in-Func.ensures.bytes file_system kept)

@@ -1,6 +1,6 @@
 use Rattle.std.proofs.Common.{◌≡◌, ◌-◌, ◌≤◌, length}
 use Rattle.std.specs.Prelude.{IsSome}
-use Rattle.cord_io.specs.Device.{Folder}
+use Rattle.cord_io.specs.Device.{FileSystem}
 use Rattle.cord_search.specs.inner.Pieces.{IsFilled}
 use Rattle.cord_search.proofs.pieces.gather_by.Given as goal
 
@@ -8,14 +8,15 @@ use Rattle.cord_search.proofs.pieces.gather_by.Given as goal
 abbrev pub invariant-loop-done : goal.invariant-loop-done
 invariant-loop-done g l = record {
   in_range : l.done ≤ length l.out;
-  filled : (folder : Folder) → g.S.Source.keeps l.src folder → IsFilled (g.S.Source.table l.initial.src folder) l.initial.position.cord
+  filled : (file_system : FileSystem) → g.S.Source.consistent l.src file_system → IsFilled (g.S.Source.table l.initial.src file_system)
+      l.initial.position.cord
       l.place l.done l.out;
   cord : l.position.cord ≡ l.initial.position.cord;
   valid : IsSome l.position.index;
   reads : g.S.Source.failures l.src ≡ g.S.Source.failures l.initial.src;
   lengths : g.S.Source.lengths l.src ≡ g.S.Source.lengths l.initial.src;
   table : g.S.Source.table l.src ≡ g.S.Source.table l.initial.src;
-  earlier : (folder : Folder) → g.S.Source.keeps l.src folder → g.S.Source.keeps l.initial.src folder;
+  earlier : (file_system : FileSystem) → g.S.Source.consistent l.src file_system → g.S.Source.consistent l.initial.src file_system;
 }
 
 abbrev pub decreases-loop-done : goal.decreases-loop-done

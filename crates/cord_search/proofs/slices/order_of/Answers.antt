@@ -3,4 +3,4 @@ use Rattle.cord_search.proofs.Comparing.{cmp_behind}
 use Rattle.cord_search.proofs.slices.order_of.Goals as goal
 
 pub returns : goal.returns
-returns c = c.cmp.ensures ∙ cmp_behind c.args.left.now c.args.right.now c.common_front-same.result c.common_front-same.ensures.same
+returns c = c.cmp.ensures ∙ cmp_behind c.args.left.now c.args.right.now c.common_prefix-same.result c.common_prefix-same.ensures.same

@@ -8,16 +8,17 @@ use Rattle.cord_search.proofs.substring.first_behind.Goals as goal
 pub loop-head-preserved-then-skipped-gt0 : goal.loop-head-preserved-then-skipped-gt0
 loop-head-preserved-then-skipped-gt0 g c = record {
   low = omega (arith, c.loop-head.invariant.low);
-  none = λ folder kept.
-      let t = g.S.Source.table c.args.src.now folder in
+  none = λ file_system kept.
+      let t = g.S.Source.table c.args.src.now file_system in
       let lengths = g.S.Source.lengths c.args.src.now in
       let head = c.args.finder.now in
-      let told : HasLengths lengths t = g.met.S.Source.lengths_of_table c.args.src.now folder (c.loop-head.invariant.earlier folder kept) in
-      misfit_on lengths t c.args.x.now c.args.start c.loop-head.place c.misfits-skipped.result c.stretch_from-stretch.result head told
-      c.set-position.ensures.sound c.requires.fits (rw c.loop-head.invariant.cord at c.stretch_from-stretch.ensures.stretch)
-      (rw c.needle-head.ensures at c.misfits-skipped.ensures.misfit) (c.loop-head.invariant.none folder kept);
-  cord = c.stretch_from-stretch.ensures.cord ∙ c.loop-head.invariant.cord;
-  valid = c.stretch_from-stretch.ensures.valid;
+      let reported : HasLengths lengths t = g.met.S.Source.lengths_of_table c.args.src.now file_system
+      (c.loop-head.invariant.earlier file_system kept) in
+      misfit_on lengths t c.args.x.now c.args.start c.loop-head.place c.misfits-skipped.result c.span_from-span.result head reported
+      c.set-position.ensures.sound c.requires.fits (rw c.loop-head.invariant.cord at c.span_from-span.ensures.span)
+      (rw c.needle-head.ensures at c.misfits-skipped.ensures.misfit) (c.loop-head.invariant.none file_system kept);
+  cord = c.span_from-span.ensures.cord ∙ c.loop-head.invariant.cord;
+  valid = c.span_from-span.ensures.valid;
   reads = c.loop-head.invariant.reads;
   lengths = c.loop-head.invariant.lengths;
   table = c.loop-head.invariant.table;
@@ -27,43 +28,43 @@ loop-head-preserved-then-skipped-gt0 g c = record {
 pub loop-head-preserved : goal.loop-head-preserved
 loop-head-preserved g c = record {
   low = omega (arith, c.loop-head.invariant.low);
-  none = λ folder kept.
-      let t = g.S.Source.table c.args.src.now folder in
+  none = λ file_system kept.
+      let t = g.S.Source.table c.args.src.now file_system in
       let window = c.in_ok-window.window.now in
       let head = c.args.finder.now in
-      let before = c.in_ok-window.ensures.read.earlier folder kept in
+      let before = c.in_ok-window.ensures.read.earlier file_system kept in
       let text : IsPieceOf t c.args.x.now c.loop-head.place window =
-      rw (c.loop-head.invariant.table, c.stretch_from-stretch.ensures.cord, c.loop-head.invariant.cord)
-      at c.in_ok-window.ensures.text folder kept in
+      rw (c.loop-head.invariant.table, c.span_from-span.ensures.cord, c.loop-head.invariant.cord)
+      at c.in_ok-window.ensures.text file_system kept in
       let enough : length head ≤ length window = rw c.needle-head.ensures at c.in_ok-window.ensures.enough in
       rw c.needle-head.ensures (window_none t c.args.x.now c.args.start c.loop-head.place window head c.find.result c.in-None.is
-      c.find.ensures enough text (c.loop-head.invariant.none folder before));
-  cord = c.in_ok-window.ensures.cord ∙ c.stretch_from-stretch.ensures.cord ∙ c.loop-head.invariant.cord;
+      c.find.ensures enough text (c.loop-head.invariant.none file_system before));
+  cord = c.in_ok-window.ensures.cord ∙ c.span_from-span.ensures.cord ∙ c.loop-head.invariant.cord;
   valid = c.in_ok-window.ensures.valid;
   reads = c.in_ok-window.ensures.read.count ∙ c.loop-head.invariant.reads;
   lengths = c.window_at.ensures.read.lengths ∙ c.loop-head.invariant.lengths;
   table = c.window_at.ensures.read.table ∙ c.loop-head.invariant.table;
-  earlier = λ folder kept. c.loop-head.invariant.earlier folder (c.in_ok-window.ensures.read.earlier folder kept);
+  earlier = λ file_system kept. c.loop-head.invariant.earlier file_system (c.in_ok-window.ensures.read.earlier file_system kept);
 }
 
 pub returns-in-Some-clause-first : goal.returns-in-Some-clause-first
-returns-in-Some-clause-first g c = λ folder kept.
-    let t = g.S.Source.table c.args.src.now folder in
+returns-in-Some-clause-first g c = λ file_system kept.
+    let t = g.S.Source.table c.args.src.now file_system in
     let window = c.in_ok-window.window.now in
     let head = c.args.finder.now in
-    let before = c.in_ok-window.ensures.read.earlier folder kept in
+    let before = c.in_ok-window.ensures.read.earlier file_system kept in
     let text : IsPieceOf t c.args.x.now c.loop-head.place window =
-    rw (c.loop-head.invariant.table, c.stretch_from-stretch.ensures.cord, c.loop-head.invariant.cord)
-    at c.in_ok-window.ensures.text folder kept in
+    rw (c.loop-head.invariant.table, c.span_from-span.ensures.cord, c.loop-head.invariant.cord)
+    at c.in_ok-window.ensures.text file_system kept in
     window_some t c.args.x.now c.args.start c.loop-head.place c.in-Some.found window head c.find.result c.in-Some.is c.requires.some
-    c.find.ensures c.loop-head.invariant.low text (c.loop-head.invariant.none folder before)
+    c.find.ensures c.loop-head.invariant.low text (c.loop-head.invariant.none file_system before)
 
 pub returns-clause-first : goal.returns-clause-first
-returns-clause-first g c = λ folder kept.
-    let t = g.S.Source.table c.args.src.now folder in
+returns-clause-first g c = λ file_system kept.
+    let t = g.S.Source.table c.args.src.now file_system in
     let lengths = g.S.Source.lengths c.args.src.now in
-    let told = g.met.S.Source.lengths_of_table c.args.src.now folder (c.loop-head.invariant.earlier folder kept) in
+    let reported = g.met.S.Source.lengths_of_table c.args.src.now file_system (c.loop-head.invariant.earlier file_system kept) in
     let long : length c.needle-head.result.now ≡ length c.args.finder.now = ap (λ (ys : List ℕ). length ys) c.needle-head.ensures in
     stands_none t c.args.x.now c.args.finder.now c.args.start c.loop-head.place
     (omega (arith, c.lies_inside.ensures.outside c.loop-head-test.false, c.len.ensures.stored, long))
-    (cord_len lengths t c.args.x.now told c.set-position.ensures.sound c.requires.fits) (c.loop-head.invariant.none folder kept)
+    (cord_len lengths t c.args.x.now reported c.set-position.ensures.sound c.requires.fits) (c.loop-head.invariant.none file_system kept)

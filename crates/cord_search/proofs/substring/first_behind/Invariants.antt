@@ -1,6 +1,6 @@
 use Rattle.std.proofs.Common.{◌≡◌, ◌+◌, ◌-◌, ◌≤◌}
 use Rattle.std.specs.Prelude.{IsSome}
-use Rattle.cord_io.specs.Device.{Folder}
+use Rattle.cord_io.specs.Device.{FileSystem}
 use Rattle.cord_core.specs.Cord.{text_len}
 use Rattle.cord_search.specs.inner.Pieces.{StandsNot}
 use Rattle.cord_search.proofs.substring.first_behind.Given as goal
@@ -9,13 +9,14 @@ use Rattle.cord_search.proofs.substring.first_behind.Given as goal
 abbrev pub invariant-loop-head : goal.invariant-loop-head
 invariant-loop-head g l = record {
   low : l.start ≤ l.place;
-  none : (folder : Folder) → g.S.Source.keeps l.src folder → StandsNot (g.S.Source.table l.initial.src folder) l.x l.finder l.start l.place;
+  none : (file_system : FileSystem) → g.S.Source.consistent l.src file_system → StandsNot (g.S.Source.table l.initial.src file_system) l.x
+      l.finder l.start l.place;
   cord : l.position.cord ≡ l.x;
   valid : IsSome l.position.index;
   reads : g.S.Source.failures l.src ≡ g.S.Source.failures l.initial.src;
   lengths : g.S.Source.lengths l.src ≡ g.S.Source.lengths l.initial.src;
   table : g.S.Source.table l.src ≡ g.S.Source.table l.initial.src;
-  earlier : (folder : Folder) → g.S.Source.keeps l.src folder → g.S.Source.keeps l.initial.src folder;
+  earlier : (file_system : FileSystem) → g.S.Source.consistent l.src file_system → g.S.Source.consistent l.initial.src file_system;
 }
 
 abbrev pub decreases-loop-head : goal.decreases-loop-head

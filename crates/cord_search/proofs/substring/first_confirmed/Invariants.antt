@@ -1,5 +1,5 @@
 use Rattle.std.proofs.Common.{◌≡◌, ◌+◌, ◌-◌, ◌≤◌}
-use Rattle.cord_io.specs.Device.{Folder}
+use Rattle.cord_io.specs.Device.{FileSystem}
 use Rattle.cord_core.specs.Cord.{bytes_of}
 use Rattle.cord_search.specs.inner.Pieces.{StandsNot}
 use Rattle.cord_search.proofs.substring.first_confirmed.Given as goal
@@ -8,12 +8,12 @@ use Rattle.cord_search.proofs.substring.first_confirmed.Given as goal
 abbrev pub invariant-loop-place : goal.invariant-loop-place
 invariant-loop-place g l = record {
   low : l.start ≤ l.place;
-  none : (folder : Folder) → g.S.Source.keeps l.src folder → StandsNot (g.S.Source.table l.initial.src folder) l.x
-      (bytes_of (g.S.Source.table l.initial.src folder) l.s) l.start l.place;
+  none : (file_system : FileSystem) → g.S.Source.consistent l.src file_system → StandsNot (g.S.Source.table l.initial.src file_system) l.x
+      (bytes_of (g.S.Source.table l.initial.src file_system) l.s) l.start l.place;
   reads : g.S.Source.failures l.src ≡ g.S.Source.failures l.initial.src;
   lengths : g.S.Source.lengths l.src ≡ g.S.Source.lengths l.initial.src;
   table : g.S.Source.table l.src ≡ g.S.Source.table l.initial.src;
-  earlier : (folder : Folder) → g.S.Source.keeps l.src folder → g.S.Source.keeps l.initial.src folder;
+  earlier : (file_system : FileSystem) → g.S.Source.consistent l.src file_system → g.S.Source.consistent l.initial.src file_system;
 }
 
 abbrev pub decreases-loop-place : goal.decreases-loop-place

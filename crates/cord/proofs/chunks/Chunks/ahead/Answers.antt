@@ -1,10 +1,10 @@
-use Rattle.cord.proofs.Chunking.{stretch_plain, chunk_ahead}
+use Rattle.cord.proofs.Chunking.{span_plain, chunk_ahead}
 use Rattle.cord.proofs.chunks.Chunks.ahead.Goals as goal
 
 pub of-requires-clause-plain : goal.of-requires-clause-plain
-of-requires-clause-plain c = stretch_plain c.self.inside.position.cord c.self.invariant c.self.inside.position.index c.in-Some.stretch
-    c.in-Some.ensures.stretch
+of-requires-clause-plain c = span_plain c.self.inside.position.cord c.self.invariant c.self.inside.position.index c.in-Some.span
+    c.in-Some.ensures.span
 
 pub returns-in-Some : goal.returns-in-Some
 returns-in-Some c = rw (← c.self.view_is) (chunk_ahead c.self.inside.position.cord c.self.invariant c.self.inside.position.index
-    c.in-Some.stretch c.of.result c.in-Some.ensures.stretch c.of.ensures.bytes c.of.ensures.len)
+    c.in-Some.span c.of.result c.in-Some.ensures.span c.of.ensures.bytes c.of.ensures.len)

@@ -1,7 +1,7 @@
 use Rattle.std.proofs.Common.{◌≤◌}
 use Rattle.std.proofs.lemmas.Result.{on_ok_weaker}
 use Rattle.cord_node.specs.Tree.{count_of, depth_of}
-use Rattle.cord_node.specs.Kept.{parts}
+use Rattle.cord_node.specs.PartsFrom.{parts}
 use Rattle.cord_node.proofs.TreeLemmas.{count_limit, count_positive}
 use Rattle.cord_balance.specs.Fib.{IsSlotOf}
 use Rattle.cord_balance.specs.inner.Forest.{forest_parts, piece_parts}
@@ -21,8 +21,8 @@ put_right-requires-clause-left_fits c =
     rw (← c.deref.ensures, ← c.part_count.ensures.stored) c.slot_of-slot.ensures in
     gathered_fits c.slot_of-slot.result (count_of c.args.node.value) c.in_ok-small.small i c.in_ok-small.ensures.gathered
 
-pub merge-requires-clause-behind : goal.merge-requires-clause-behind
-merge-requires-clause-behind c =
+pub merge-requires-clause-beyond : goal.merge-requires-clause-beyond
+merge-requires-clause-beyond c =
     let i : IsSlotOf (count_of c.args.node.value) c.slot_of-slot.result =
     rw (← c.deref.ensures, ← c.part_count.ensures.stored) c.slot_of-slot.ensures in
     let d : depth_of c.in_ok-joined.joined.value ≤ c.slot_of-slot.result =
@@ -31,8 +31,9 @@ merge-requires-clause-behind c =
     c.in_ok-joined.ensures.alone c.in_ok-joined.ensures.depth in
     AllFrom-lower (depth_of c.in_ok-joined.joined.value) c.slot_of-slot.result c.gather.new.forest.items d c.in_ok-small.ensures.from
 
-pub returns-clause-kept : goal.returns-clause-kept
-returns-clause-kept c = on_ok_weaker c.merge.result (λ k. kept_insert (forest_parts c.args.forest.now.items)
+pub returns-clause-parts_from : goal.returns-clause-parts_from
+returns-clause-parts_from c = on_ok_weaker c.merge.result (λ k. kept_insert (forest_parts c.args.forest.now.items)
     (forest_parts c.gather.new.forest.items) (piece_parts c.in_ok-small.small) (parts c.args.node.value)
-    (parts c.in_ok-joined.joined.value) (forest_parts c.merge.new.forest.items) c.in_ok-small.ensures.kept c.in_ok-joined.ensures.kept k)
-    c.merge.ensures.kept
+    (parts c.in_ok-joined.joined.value) (forest_parts c.merge.new.forest.items) c.in_ok-small.ensures.parts_from
+    c.in_ok-joined.ensures.parts_from k)
+    c.merge.ensures.parts_from

@@ -21,7 +21,7 @@ loop-piece-init c =
     let i : IsSlotOf (count_of c.args.node.value) c.slot_of-slot.result =
     rw (← c.deref.ensures, ← c.part_count.ensures.stored) c.slot_of-slot.ensures in
     merging_start c.args.forest.now.items c.args.node c.slot_of-slot.result c.requires.forest c.requires.sound i c.requires.shallow
-    c.requires.behind
+    c.requires.beyond
 
 pub overflow_add-slot : goal.overflow_add-slot
 overflow_add-slot c =
@@ -60,7 +60,7 @@ loop-piece-preserved c =
       depth = c.in_ok-joined.ensures.depth_bound;
       depth_is = c.in_ok-joined.ensures.depth;
       count = c.in_ok-joined.ensures.count;
-      kept = c.in_ok-joined.ensures.kept;
+      parts_from = c.in_ok-joined.ensures.parts_from;
     } in
     merging_step c.args.forest.now.items c.pop_below.new.forest.items c.in-Some.piece c.args.node c.loop-piece.joined c.in_ok-joined.joined
     c.loop-piece.slot c.slot_of-slot-in-Some.result (rw (← c.in-Some.ensures.taken) c.loop-piece.invariant) c.in-Some.ensures.below u i
@@ -78,5 +78,6 @@ returns-clause-text c = rw (c.in_ok-push.ensures.items, forest_cells-snoc, c.in_
 pub returns-clause-len : goal.returns-clause-len
 returns-clause-len c = rw (c.in_ok-push.ensures.items, forest_len-snoc, c.in_default.ensures.unchanged) (sym c.loop-piece.invariant.len)
 
-pub returns-clause-kept : goal.returns-clause-kept
-returns-clause-kept c = rw (c.in_ok-push.ensures.items, forest_parts-snoc, c.in_default.ensures.unchanged) c.loop-piece.invariant.kept
+pub returns-clause-parts_from : goal.returns-clause-parts_from
+returns-clause-parts_from c = rw (c.in_ok-push.ensures.items, forest_parts-snoc, c.in_default.ensures.unchanged)
+    c.loop-piece.invariant.parts_from

@@ -4,7 +4,7 @@ use Rattle.cord_node.specs.Tree.{len_of, depth_of, count_of}
 use Rattle.cord_node.proofs.TreeLemmas.{count_within_len}
 use Rattle.cord_balance.proofs.ForestLemmas.{joined_shallow}
 use Rattle.cord_balance.proofs.Inserting.{right_depth, right_joined, balanced_alone}
-use Rattle.cord_node.proofs.KeptLemmas.{Kept-self}
+use Rattle.cord_node.proofs.PartsFromLemmas.{PartsFrom-self}
 use Rattle.cord_balance.proofs.forest.slots.put_right.Goals as goal
 
 pub join-requires-clause-shallow : goal.join-requires-clause-shallow
@@ -24,8 +24,8 @@ returns-clause-shallow c = joined_shallow c.in-Some.left.value c.args.right.valu
     (c.requires.left_shallow c.in-Some.left c.in-Some.is) (c.requires.left_fits c.in-Some.left c.in-Some.is) c.requires.balanced
     c.in_ok-node.ensures.depth_bound)
 
-pub returns-in_default-clause-kept : goal.returns-in_default-clause-kept
-returns-in_default-clause-kept c = rw c.in_default.is (Kept-self _)
+pub returns-in_default-clause-parts_from : goal.returns-in_default-clause-parts_from
+returns-in_default-clause-parts_from c = rw c.in_default.is (PartsFrom-self _)
 
 pub returns-in_default-clause-shallow : goal.returns-in_default-clause-shallow
 returns-in_default-clause-shallow c = balanced_alone (depth_of c.args.right.value) (count_of c.args.right.value) c.requires.balanced

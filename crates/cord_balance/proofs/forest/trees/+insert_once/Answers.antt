@@ -4,23 +4,23 @@ use Rattle.std.proofs.lemmas.Result.{on_ok_weaker}
 use Rattle.std.proofs.lemmas.List.Elements.{All-push}
 use Rattle.cord_node.specs.declared.Node.{Node}
 use Rattle.cord_node.specs.Tree.{len_of, IsSound}
-use Rattle.cord_node.specs.Kept.{parts}
-use Rattle.cord_balance.specs.declared.forest.known.Known.{Known}
+use Rattle.cord_node.specs.PartsFrom.{parts}
+use Rattle.cord_balance.specs.declared.forest.balanced_trees.Known.{Known}
 use Rattle.cord_balance.specs.inner.Forest.{IsForm, IsKnown, forest_parts}
 use Rattle.cord_balance.proofs.Inserting.{kept_two}
 use Rattle.cord_balance.proofs.Forms.{IsPut, form_put, cat_put, form_of_put, right_some}
 use Rattle.cord_balance.proofs.forest.trees.+insert_once.Goals.{In_ok-insert_tree-2}
 use Rattle.cord_balance.proofs.forest.trees.+insert_once.Goals as goal
 
-pub returns-then-strong_count-alone-clause-kept : goal.returns-then-strong_count-alone-clause-kept
-returns-then-strong_count-alone-clause-kept t c = rw (← c.as_ref.ensures, c.in-Cat.is)
+pub returns-then-strong_count-alone-clause-parts_from : goal.returns-then-strong_count-alone-clause-parts_from
+returns-then-strong_count-alone-clause-parts_from t c = rw (← c.as_ref.ensures, c.in-Cat.is)
     (on_ok_weaker c.insert_once-then-strong_count-alone.result (λ k. kept_two (forest_parts c.args.forest.now.items)
     (parts c.in-Cat.left.value) (parts c.in-Cat.right.value) (forest_parts c.insert_once.new.forest.items)
-    (forest_parts c.insert_once-then-strong_count-alone.new.forest.items) c.in_ok-insert_once.ensures.kept k)
-    c.insert_once-then-strong_count-alone.ensures.kept)
+    (forest_parts c.insert_once-then-strong_count-alone.new.forest.items) c.in_ok-insert_once.ensures.parts_from k)
+    c.insert_once-then-strong_count-alone.ensures.parts_from)
 
-pub returns-in-Some-clause-kept : goal.returns-in-Some-clause-kept
-returns-in-Some-clause-kept t c =
+pub returns-in-Some-clause-parts_from : goal.returns-in-Some-clause-parts_from
+returns-in-Some-clause-parts_from t c =
     let old = c.args.forest.now.items in
     let new = c.insert_tree-in-Some.new.forest.items in
     let n = c.args.node.now.value in
@@ -29,9 +29,9 @@ returns-in-Some-clause-kept t c =
     let put : IsPut old new form = record {
       text = c.in_ok-insert_tree.ensures.text;
       len = c.in_ok-insert_tree.ensures.len;
-      kept = c.in_ok-insert_tree.ensures.kept;
+      parts_from = c.in_ok-insert_tree.ensures.parts_from;
     } in
-    (form_put old new n form is put).kept
+    (form_put old new n form is put).parts_from
 
 pub gather_all-requires-clause-some : goal.gather_all-requires-clause-some
 gather_all-requires-clause-some t c =
@@ -51,18 +51,18 @@ form_is t c =
     let one : IsPut own mid c.in-Cat.left.value = record {
       text = c.in_ok-insert_once-2.ensures.text;
       len = c.in_ok-insert_once-2.ensures.len;
-      kept = c.in_ok-insert_once-2.ensures.kept;
+      parts_from = c.in_ok-insert_once-2.ensures.parts_from;
     } in
     let two : IsPut mid all c.in-Cat.right.value = record {
       text = c.in_ok-insert_once-3.ensures.text;
       len = c.in_ok-insert_once-3.ensures.len;
-      kept = c.in_ok-insert_once-3.ensures.kept;
+      parts_from = c.in_ok-insert_once-3.ensures.parts_from;
     } in
     let both : IsPut own all n =
     cat_put own mid all n _ c.in-Cat.left.value _ c.in-Cat.right.value _ _ _ _ (sym c.as_ref.ensures ∙ c.in-Cat.is)
     c.requires.sound one two in
     form_of_put own all n form c.new-own.ensures.items both c.in_ok-form.ensures.sound c.in_ok-form.ensures.text
-    c.in_ok-form.ensures.len c.in_ok-form.ensures.kept
+    c.in_ok-form.ensures.len c.in_ok-form.ensures.parts_from
 
 pub returns-clause-known : goal.returns-clause-known
 returns-clause-known t c =
@@ -75,8 +75,8 @@ returns-clause-known t c =
     subst (λ (ks : List Known). All IsKnown ks) (sym c.in_ok-push.ensures.items)
     (All-push IsKnown c.insert_once-3.new.known.items _ c.in_ok-insert_once-3.ensures.known pair)
 
-pub returns-clause-kept : goal.returns-clause-kept
-returns-clause-kept t c =
+pub returns-clause-parts_from : goal.returns-clause-parts_from
+returns-clause-parts_from t c =
     let n = c.args.node.now.value in
     let form = c.in_ok-form.form.value in
     let old = c.args.forest.now.items in
@@ -84,6 +84,6 @@ returns-clause-kept t c =
     let put : IsPut old new form = record {
       text = c.in_ok-insert_tree-2.ensures.text;
       len = c.in_ok-insert_tree-2.ensures.len;
-      kept = c.in_ok-insert_tree-2.ensures.kept;
+      parts_from = c.in_ok-insert_tree-2.ensures.parts_from;
     } in
-    (form_put old new n form (form_is t (goal.at.returns-clause-kept t c).In_ok-insert_tree-2) put).kept
+    (form_put old new n form (form_is t (goal.at.returns-clause-parts_from t c).In_ok-insert_tree-2) put).parts_from

@@ -35,7 +35,7 @@ empty_spec 𝓤 𝓛 𝓜 𝓡 wired =
     (λ κs. ((λ h. heap_val ∷ []), tt)) (λ κs. (heap_laws.lowers.val_is, tt)) (λ κs qs bounds a g are.
     let y : W.Ghost = ((κs, qs, bounds, a, (heap_val ∷ [], tt)), g) in
     let made : Handle =
-    record { at = null_ptr; alloc = a.0; referent = Nothing; text = text_by Nothing; told = refl; testable = lit< tt } in
+    record { at = null_ptr; alloc = a.0; referent = Nothing; text = text_by Nothing; reported = refl; testable = lit< tt } in
     qed 𝓛 ((‵ ftrue ⊛ ‵ (heap.the_row.own_val a.0 (heap_val ∷ [])) ⊛ ‵ ftrue) ∷ ‵ ftrue ∷ []) ∵ keep ! [] $
     enter ! _ _ _ _ _ $ alloc_all ! (λ l. pass_all ! refl (heap_typed, tt) $
     sets ! (agg ! (and_then ! (lit ! tt) (and_then ! (get ! refl) (no_more !)))) refl (handle_typed 𝓛 made) $

@@ -53,7 +53,7 @@ module _ {M : Type 1} (𝓤 : Ura M) (𝓛 : Logic 𝓤) (𝓜 : Model 𝓤 𝓛
   Post = (walk_of 𝓛 f.ended stayed (f.clauses 𝓛 𝓜.mem 𝓡.returns)).post y
 
   abbrev as_if : (p : Ptr) → Testable p → Handle
-  as_if p t = record { at = p; alloc = h.alloc; referent = h.referent; text = h.text; told = h.told; testable = t }
+  as_if p t = record { at = p; alloc = h.alloc; referent = h.referent; text = h.text; reported = h.reported; testable = t }
 
   -- by the pointer's form
   at : (p : Ptr) → Testable p → ent 𝓤 (sem 𝓛 (handle_owns p h.referent))

@@ -52,15 +52,15 @@ by_form (block_ptr b o) at_null at_block = at_block b o refl
 
 module _ {M : Type 1} {𝓤 : Ura M} (𝓛 : Logic 𝓤) (at_b at_o : ℕ) (h : Handle) (b o : ℕ) where
   -- the handle at (at_b, at_o) without what it leads to, while that is lent
-  abbrev Kept : Fml
-  Kept = fsep (frees (bare (lone R.mir)) (block_ptr b o)) (cell_at full_share H.mir (word (block_ptr b o) ∷ []) at_b at_o)
+  abbrev PartsFrom : Fml
+  PartsFrom = fsep (frees (bare (lone R.mir)) (block_ptr b o)) (cell_at full_share H.mir (word (block_ptr b o) ∷ []) at_b at_o)
 
   -- the handle with what came back
-  returned : h.at ≡ block_ptr b o → (w : Referent) → ent 𝓤 (sep 𝓤 (sem 𝓛 ((mem R).own_at w b o)) (sem 𝓛 Kept))
+  returned : h.at ≡ block_ptr b o → (w : Referent) → ent 𝓤 (sep 𝓤 (sem 𝓛 ((mem R).own_at w b o)) (sem 𝓛 PartsFrom))
       (sem 𝓛 ((mem H).own_at (with_referent h w) at_b at_o))
   unfolding part_of
   returned e w =
-      qed 𝓛 (‵ (part_at R full_share w b o) ∷ ‵ Kept ∷ []) ∵ move ! (1 ∷ []) $ fsplit ! $ move ! (2 ∷ 0 ∷ []) $ fjoin ! $
+      qed 𝓛 (‵ (part_at R full_share w b o) ∷ ‵ PartsFrom ∷ []) ∵ move ! (1 ∷ []) $ fsplit ! $ move ! (2 ∷ 0 ∷ []) $ fjoin ! $
       rewrite ! 0 (λ (p : Ptr). ‵ (handle_owns p w)) (sym e) refl $ packs ! (with_referent h w) $ move ! (1 ∷ []) $
       rewrite ! 0 (λ (p : Ptr). ‵ (cell_at full_share H.mir (word p ∷ []) at_b at_o)) (sym e) refl $ fjoin ! $
       fpack ! (List Val) (λ us. fsep (cell_at full_share H.mir us at_b at_o) (H.own_val (with_referent h w) us)) (handle_val h ∷ []) $ done !
@@ -116,9 +116,10 @@ lent_spec 𝓤 𝓛 𝓜 𝓡 wired =
     sets ! (of_opd ! (get ! refl)) refl (tt, tt) $
     sets ! (agg ! (and_then ! (lit ! tt) (and_then ! (get ! refl) (no_more !)))) refl (tt, (record { fits = lit< tt }, (tt, tt))) $
     move ! (1 ∷ 2 ∷ []) $ fjoin ! $ move ! (2 ∷ 3 ∷ 4 ∷ 1 ∷ 0 ∷ []) $ group ! 5 $
-    use1 𝓛 (later (some (λ (γ' : GName). raw (Part 𝓛 H R (with_referent d) (named 0) κ q ab ao b o γ (sem 𝓛 (Kept 𝓛 ab ao d b o))
+    use1 𝓛 (later (some (λ (γ' : GName). raw (Part 𝓛 H R (with_referent d) (named 0) κ q ab ao b o γ (sem 𝓛 (PartsFrom 𝓛 ab ao d b o))
     (returned 𝓛 ab ao d b o e) d.referent γ'))))
-    (lends_Part 𝓛 H R (with_referent d) (named 0) κ q ab ao b o γ (sem 𝓛 (Kept 𝓛 ab ao d b o)) (returned 𝓛 ab ao d b o e) (H.coded.code d)
+    (lends_Part 𝓛 H R (with_referent d) (named 0) κ q ab ao b o γ (sem 𝓛 (PartsFrom 𝓛 ab ao d b o)) (returned 𝓛 ab ao d b o e)
+    (H.coded.code d)
     (H.coded.code d) d.referent) $ await ! tt $ pick ! (λ γ'.
     let loan : MutBor Referent = record { ref_ptr = (b, o); ghost_name = γ'; now = d.referent } in
     use1 𝓛 (‵ (Lent.own_val loan (vptr b o ∷ [])) ⊛ ‵ (flft κ q) ⊛ ‵ (follows H R γ γ' (with_referent d))) (id⊢ 𝓤 _) $ split3 ! $

@@ -20,7 +20,7 @@ use Rattle.cord_raw.specs.inner.Ownership.{frees}
 use Rattle.cord_c.specs.Handles.{handle_owns}
 use Rattle.cord_c.specs.Referent.{text_by}
 use Rattle.cord_c.specs.declared.handle.Handle.{Handle}
-use Rattle.cord_c.proofs.Handles.{heap_typed, RawReferent, owner_val, owner_tells, owner_typed, handle_val, handle_typed, packs, held}
+use Rattle.cord_c.proofs.Handles.{heap_typed, RawReferent, owner_val, owner_reports, owner_typed, handle_val, handle_typed, packs, held}
 use Rattle.cord_c.proofs.Handles.{tested}
 use Rattle.cord_c.specs.contracts.handle.Handle.of as f
 use Rattle.cord_c.proofs.handle.Handle.of.Statement.{statement}
@@ -34,13 +34,13 @@ of_spec 𝓤 𝓛 𝓜 𝓡 wired =
     let c = f.clauses 𝓛 𝓜.mem 𝓡.returns in let W = walk_of 𝓛 f.ended stayed c in let 𝓣 = tables 𝓤 𝓛.H 𝓜 𝓡 𝓡.env in
     proved 𝓛 f.ended stayed c 𝓜 𝓡 (Goes-blank 𝓛 0 (plain (λ _. RawReferent)) yes (λ κs x w. tt), tt)
     f.Key.name code.function (code.unfolded 𝓤 𝓛.H 𝓜 𝓡 wired)
-    (λ κs. ((λ r. owner_val r ∷ []), tt)) (λ κs. (owner_tells, tt)) (λ κs qs bounds a g are.
+    (λ κs. ((λ r. owner_val r ∷ []), tt)) (λ κs. (owner_reports, tt)) (λ κs qs bounds a g are.
     let r = a.0 in let y : W.Ghost = ((κs, qs, bounds, a, (owner_val r ∷ [], tt)), g) in
     qed 𝓛 ((‵ ftrue ⊛ ‵ (RawReferent.own_val r (owner_val r ∷ [])) ⊛ ‵ ftrue) ∷ ‵ ftrue ∷ []) ∵ split ! $ drop ! $ split ! $ fsplit ! $ keep
     ! (1 ∷ []) $
     use1 𝓛 (given (Testable r.at) (‵ (box_owns frees referent.the_row r.at r.value))) (tested 𝓛 r.at r.value) $ learn ! (λ t.
     use1 𝓛 (‵ (handle_owns r.at r.value)) (held 𝓛 r.at r.value) $
-    let made : Handle = record { at = r.at; alloc = r.alloc; referent = r.value; text = text_by r.value; told = refl; testable = t } in
+    let made : Handle = record { at = r.at; alloc = r.alloc; referent = r.value; text = text_by r.value; reported = refl; testable = t } in
     enter ! _ _ _ _ _ $ alloc_all ! (λ l. pass_all ! refl (owner_typed 𝓛 r, tt) $
     sets ! (of_opd ! (get_in ! (fld ! refl (stop !)) (sub ! 0 refl (whole !)))) refl (Ptr-Good r.at) $
     sets ! (of_opd ! (get_in ! (fld ! refl (stop !)) (sub ! 1 refl (whole !)))) refl heap_typed $

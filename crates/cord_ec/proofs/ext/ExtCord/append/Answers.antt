@@ -1,7 +1,7 @@
 use Rattle.std.proofs.Common.{◌≡◌, ℕ, ◌+◌, ◌≤◌, List, [], ◌∷◌, ◌++◌, length, length-append, map, ap, subst, arith}
 use Rattle.std.proofs.lemmas.Grind.{common_steps}
 use Rattle.cord_node.specs.Tree.{Cell, known}
-use Rattle.cord_node.specs.Kept.{Part}
+use Rattle.cord_node.specs.PartsFrom.{Part}
 use Rattle.cord_core.specs.Cord.{text, parts_of}
 use Rattle.cord_io.specs.declared.TheConstants.{MAX_LEN}
 use Rattle.cord_raw.specs.declared.buffer.TheConstants.RawBuf.{CAP}
@@ -50,6 +50,6 @@ returns-clause-gathered c =
     let before : List Part = parts_of c.self.inside.cord ++ leaf_parts c.self.inside.buffer in
     let longer : List Part = parts_of c.begin_next.new.cord in
     let begun : Gathered 1 before (longer ++ leaf_parts c.begin_next.new.buffer) =
-    rw c.in_ok-begin_next.ensures.begun (leaf_begun before longer (c.args.byte ∷ []) (omega arith) c.in_ok-begin_next.ensures.kept) in
+    rw c.in_ok-begin_next.ensures.begun (leaf_begun before longer (c.args.byte ∷ []) (omega arith) c.in_ok-begin_next.ensures.parts_from) in
     subst (λ (old : List Part). Gathered 1 old (longer ++ leaf_parts c.begin_next.new.buffer))
     (ap (λ (g : Growth). g.parts) c.self.view_is) begun

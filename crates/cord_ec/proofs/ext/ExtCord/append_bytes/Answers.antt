@@ -1,7 +1,7 @@
 use Rattle.std.proofs.Common.{◌≡◌, ℕ, ◌+◌, ◌≤◌, List, ◌++◌, length, length-append, map, ap, subst, arith}
 use Rattle.std.proofs.lemmas.Grind.{common_steps}
 use Rattle.cord_node.specs.Tree.{Cell, known}
-use Rattle.cord_node.specs.Kept.{Part}
+use Rattle.cord_node.specs.PartsFrom.{Part}
 use Rattle.cord_core.specs.Cord.{text, parts_of}
 use Rattle.cord_io.specs.declared.TheConstants.{MAX_LEN}
 use Rattle.cord_raw.specs.declared.buffer.TheConstants.RawBuf.{CAP}
@@ -51,5 +51,5 @@ returns-clause-gathered c = λ k few.
     let before : List Part = parts_of c.self.inside.cord ++ leaf_parts c.self.inside.buffer in
     let longer : List Part = parts_of c.in_ok-longer.longer in
     subst (λ (old : List Part). Gathered k old (longer ++ leaf_parts c.clear.new.self)) (ap (λ (g : Growth). g.parts) c.self.view_is)
-    (leaves_added before (parts_of c.in_ok-so_far.so_far) longer c.clear.new.self k c.clear.ensures c.in_ok-so_far.ensures.kept
+    (leaves_added before (parts_of c.in_ok-so_far.so_far) longer c.clear.new.self k c.clear.ensures c.in_ok-so_far.ensures.parts_from
     (c.in_ok-longer.ensures.gathered k few))

@@ -4,7 +4,7 @@ use Rattle.std.specs.Prelude.{Option}
 use Rattle.cord_raw.specs.declared.buffer.TheConstants.RawBuf.{CAP}
 use Rattle.cord_node.specs.declared.Node.{Node}
 use Rattle.cord_node.specs.Tree.{Cell, known}
-use Rattle.cord_node.specs.Kept.{Part}
+use Rattle.cord_node.specs.PartsFrom.{Part}
 use Rattle.cord_core.specs.Cord.{text, text_len, parts_of}
 use Rattle.cord_ec.specs.Gathered.{Growth, Gathered, leaf_parts}
 use Rattle.cord_edit.specs.declared.gap.Gap.{Gap}
@@ -12,53 +12,55 @@ use Rattle.cord_edit.specs.Edits.{edited}
 use Rattle.cord_edit.specs.inner.Gaps.{gap_bytes}
 use Rattle.cord_ec.proofs.Leaves.{tail_grown}
 use Rattle.cord_edit.proofs.Lists.{insert_clamped}
-use Rattle.cord_edit.proofs.Steps.{gapped, typed_behind, typed_in_front}
+use Rattle.cord_edit.proofs.Steps.{gapped, typed_after, typed_before}
 use Rattle.cord_edit.proofs.Editing.{edited_by}
-use Rattle.cord_edit.proofs.Parting.{more, front_grown, as_before}
+use Rattle.cord_edit.proofs.Parting.{more, prefix_grown, as_before}
 use Rattle.cord_edit.proofs.buffer.EditBuffer.insert.Goals as goal
 
 pub returns-then-bytes-len-clause-gathered : goal.returns-then-bytes-len-clause-gathered
 returns-then-bytes-len-clause-gathered c = λ k few. as_before (2 + k) c.args.self.now.parts
 
-pub returns-then-fits_behind-clause-text : goal.returns-then-fits_behind-clause-text
-returns-then-fits_behind-clause-text c = typed_behind (text c.self.inside.cord) c.args.self.now.text (gap_bytes c.self.inside.gap)
+pub returns-then-fits_after-clause-text : goal.returns-then-fits_after-clause-text
+returns-then-fits_after-clause-text c = typed_after (text c.self.inside.cord) c.args.self.now.text (gap_bytes c.self.inside.gap)
     c.self.inside.front c.self.inside.back (text_len c.self.inside.cord) c.len-len.result (ap (λ (g : Growth). g.text) c.self.view_is)
     c.self.invariant.3 c.self.invariant.0 c.self.invariant.1 c.len-len.ensures.value c.args.bytes.now (gap_bytes c.append.new.self)
     c.min-at.result c.args.at c.append.ensures c.min-at.ensures (omega (arith, c.if-at-self.true, c.len.ensures.value))
 
-pub returns-then-fits_behind-clause-over : goal.returns-then-fits_behind-clause-over
-returns-then-fits_behind-clause-over c = edited_by c.args.at 0 c.args.bytes.now c.args.self.now.text _ (returns-then-fits_behind-clause-text c)
+pub returns-then-fits_after-clause-over : goal.returns-then-fits_after-clause-over
+returns-then-fits_after-clause-over c = edited_by c.args.at 0 c.args.bytes.now c.args.self.now.text _
+    (returns-then-fits_after-clause-text c)
 
-pub returns-then-fits_behind-clause-gathered : goal.returns-then-fits_behind-clause-gathered
-returns-then-fits_behind-clause-gathered c = λ k few.
+pub returns-then-fits_after-clause-gathered : goal.returns-then-fits_after-clause-gathered
+returns-then-fits_after-clause-gathered c = λ k few.
     let ps : List Part = parts_of c.self.inside.cord in
     let g : List ℕ = gap_bytes c.self.inside.gap in
     let b : List ℕ = c.args.bytes.now in
-    let fits : length (g ++ b) ≤ CAP = omega (arith, length-append g b, c.fits_behind.ensures.most c.if-fits_behind.true) in
+    let fits : length (g ++ b) ≤ CAP = omega (arith, length-append g b, c.fits_after.ensures.most c.if-fits_after.true) in
     subst (λ (old : List Part). Gathered (2 + k) old (ps ++ leaf_parts (gap_bytes c.append.new.self)))
     (ap (λ (e : Growth). e.parts) c.self.view_is)
     (subst (λ (h : List ℕ). Gathered (2 + k) (ps ++ leaf_parts g) (ps ++ leaf_parts h)) (sym c.append.ensures)
     (more k (2 + k) (ps ++ leaf_parts g) (ps ++ leaf_parts (g ++ b)) (omega arith) (tail_grown ps g b k fits few)))
 
-pub returns-then-fits_in_front-clause-text : goal.returns-then-fits_in_front-clause-text
-returns-then-fits_in_front-clause-text c = typed_in_front (text c.self.inside.cord) c.args.self.now.text (gap_bytes c.self.inside.gap)
+pub returns-then-fits_before-clause-text : goal.returns-then-fits_before-clause-text
+returns-then-fits_before-clause-text c = typed_before (text c.self.inside.cord) c.args.self.now.text (gap_bytes c.self.inside.gap)
     c.self.inside.front c.self.inside.back (text_len c.self.inside.cord) c.len-len.result (ap (λ (g : Growth). g.text) c.self.view_is)
     c.self.invariant.3 c.self.invariant.0 c.self.invariant.1 c.len-len.ensures.value c.args.bytes.now (gap_bytes c.prepend.new.self)
     c.min-at.result c.args.at c.prepend.ensures c.min-at.ensures (omega arith)
 
-pub returns-then-fits_in_front-clause-over : goal.returns-then-fits_in_front-clause-over
-returns-then-fits_in_front-clause-over c = edited_by c.args.at 0 c.args.bytes.now c.args.self.now.text _ (returns-then-fits_in_front-clause-text c)
+pub returns-then-fits_before-clause-over : goal.returns-then-fits_before-clause-over
+returns-then-fits_before-clause-over c = edited_by c.args.at 0 c.args.bytes.now c.args.self.now.text _
+    (returns-then-fits_before-clause-text c)
 
-pub returns-then-fits_in_front-clause-gathered : goal.returns-then-fits_in_front-clause-gathered
-returns-then-fits_in_front-clause-gathered c = λ k few.
+pub returns-then-fits_before-clause-gathered : goal.returns-then-fits_before-clause-gathered
+returns-then-fits_before-clause-gathered c = λ k few.
     let ps : List Part = parts_of c.self.inside.cord in
     let g : List ℕ = gap_bytes c.self.inside.gap in
     let b : List ℕ = c.args.bytes.now in
-    let fits : length (b ++ g) ≤ CAP = omega (arith, length-append b g, c.fits_in_front.ensures.most c.if-fits_in_front.true) in
+    let fits : length (b ++ g) ≤ CAP = omega (arith, length-append b g, c.fits_before.ensures.most c.if-fits_before.true) in
     subst (λ (old : List Part). Gathered (2 + k) old (ps ++ leaf_parts (gap_bytes c.prepend.new.self)))
     (ap (λ (e : Growth). e.parts) c.self.view_is)
     (subst (λ (h : List ℕ). Gathered (2 + k) (ps ++ leaf_parts g) (ps ++ leaf_parts h)) (sym c.prepend.ensures)
-    (more k (2 + k) (ps ++ leaf_parts g) (ps ++ leaf_parts (b ++ g)) (omega arith) (front_grown ps g b k fits few)))
+    (more k (2 + k) (ps ++ leaf_parts g) (ps ++ leaf_parts (b ++ g)) (omega arith) (prefix_grown ps g b k fits few)))
 
 pub returns-clause-text : goal.returns-clause-text
 returns-clause-text c = c.in_ok-insert_apart.ensures.text

@@ -3,13 +3,13 @@ use Rattle.std.specs.Prelude.{is_ok, is_some, slice_get}
 use Rattle.std.specs.String.{string_bytes}
 use Rattle.std.proofs.lemmas.List.{length-map}
 use Rattle.cord_io.specs.declared.TheConstants.{MAX_LEN}
-use Rattle.cord_io.specs.Device.{Folder, file_at, bytes_at, HandsOut}
+use Rattle.cord_io.specs.Device.{FileSystem, file_at, bytes_at, HandsOut}
 use Rattle.cord_file.specs.declared.TheConstants.{MAX_FILES}
 use Rattle.cord_file.specs.declared.files.OpenFile.{OpenFile}
-use Rattle.cord_file.specs.Files.{told_of, opened_of}
+use Rattle.cord_file.specs.Files.{reported_of, opened_of}
 use Rattle.cord_file.specs.Opening.{Opens}
-use Rattle.cord_file.proofs.Growing.{opens_behind, last_place}
-use Rattle.cord_file.proofs.BlockParts.{kept_behind, kept_earlier, sound_moved}
+use Rattle.cord_file.proofs.Growing.{opens_after, last_place}
+use Rattle.cord_file.proofs.BlockParts.{kept_after, kept_earlier, sound_moved}
 use Rattle.cord_file.proofs.Holding.{each_pushed, opened_more, IsFound, found_there, holds_file}
 use Rattle.cord_file.proofs.sources.Sources.add.Goals as goal
 
@@ -18,7 +18,7 @@ invariant_of-self g c =
     let old = c.args.self.now in
     record {
       few = old.few;
-      sound = sound_moved (g.F.Files.keeps old.files) (g.F.Files.keeps c.open.new.self) (g.F.Files.opened old.files)
+      sound = sound_moved (g.F.Files.consistent old.files) (g.F.Files.consistent c.open.new.self) (g.F.Files.opened old.files)
           (g.F.Files.opened c.open.new.self) old.entries.items old.cache.entries c.open.ensures.earlier
           (λ n h. c.in_err-no.ensures.none_opened n) old.sound;
     }
@@ -28,7 +28,7 @@ invariant_of-self-then-len-gt-MAX_LEN g c =
     let old = c.args.self.now in
     record {
       few = old.few;
-      sound = sound_moved (g.F.Files.keeps old.files) (g.F.Files.keeps c.open.new.self) (g.F.Files.opened old.files)
+      sound = sound_moved (g.F.Files.consistent old.files) (g.F.Files.consistent c.open.new.self) (g.F.Files.opened old.files)
           (g.F.Files.opened c.open.new.self) old.entries.items old.cache.entries c.open.ensures.earlier c.in_ok-no.ensures.opened.kept
           old.sound;
     }
@@ -41,30 +41,32 @@ invariant_of-self-2 g c =
     let path : string_bytes file.path ≡ c.args.path.now = c.in_ok-kept.ensures.ok in
     let hands : HandsOut (g.F.Files.opened old.files) (g.F.Files.opened c.open.new.self) file.no.0 c.args.path.now file.len =
     c.in_ok-no.ensures.opened in
-    let Keeps : Folder → Type 0 = g.F.Files.keeps c.open.new.self in
-    let earlier : (folder : Folder) → Keeps folder → g.F.Files.keeps old.files folder = c.open.ensures.earlier in
-    let found : (folder : Folder) → Keeps folder → IsFound folder (string_bytes file.path) file.len =
-    λ folder kept. subst (λ p. IsFound folder p file.len) (sym path) (found_there folder _ _ (c.in_ok-no.ensures.found folder kept)) in
+    let Keeps : FileSystem → Type 0 = g.F.Files.consistent c.open.new.self in
+    let earlier : (file_system : FileSystem) → Keeps file_system → g.F.Files.consistent old.files file_system = c.open.ensures.earlier in
+    let found : (file_system : FileSystem) → Keeps file_system → IsFound file_system (string_bytes file.path) file.len =
+    λ file_system kept. subst (λ p. IsFound file_system p file.len) (sym path)
+    (found_there file_system _ _ (c.in_ok-no.ensures.found file_system kept)) in
     record {
       few = search rules;
       sound = record {
-        handed_out = each_pushed (λ f. g.F.Files.opened c.open.new.self f.no.0 ≡ Some (told_of f)) files _ file
+        handed_out = each_pushed (λ f. g.F.Files.opened c.open.new.self f.no.0 ≡ Some (reported_of f)) files _ file
             (is_ok c.push.result) c.push.ensures.items
             (λ k f h. let was = old.sound.handed_out k f h in hands.kept f.no.0 (ap is_some was) ∙ was)
-            (hands.told ∙ ap (λ p. Some (p, file.len)) (sym path));
+            (hands.reported ∙ ap (λ p. Some (p, file.len)) (sym path));
         short_enough = each_pushed (λ f. f.len ≤ MAX_LEN) files _ file (is_ok c.push.result) c.push.ensures.items old.sound.short_enough
             (search rules);
-        there = each_pushed (λ f. (folder : Folder) → Keeps folder →
-            file_at folder (string_bytes f.path) ≡ Some (bytes_at folder (string_bytes f.path))) files _ file
+        there = each_pushed (λ f. (file_system : FileSystem) → Keeps file_system →
+            file_at file_system (string_bytes f.path) ≡ Some (bytes_at file_system (string_bytes f.path))) files _ file
             (is_ok c.push.result) c.push.ensures.items
-            (λ k f h folder kept. old.sound.there k f h folder (earlier folder kept))
-            (λ folder kept. (found folder kept).0);
-        as_long = each_pushed (λ f. (folder : Folder) → Keeps folder → length (bytes_at folder (string_bytes f.path)) ≡ f.len) files _ file
+            (λ k f h file_system kept. old.sound.there k f h file_system (earlier file_system kept))
+            (λ file_system kept. (found file_system kept).0);
+        as_long = each_pushed (λ f. (file_system : FileSystem) → Keeps file_system → length (bytes_at file_system (string_bytes f.path)) ≡
+            f.len) files _ file
             (is_ok c.push.result) c.push.ensures.items
-            (λ k f h folder kept. old.sound.as_long k f h folder (earlier folder kept))
-            (λ folder kept. (found folder kept).1);
-        cached = kept_behind Keeps files _ file (is_ok c.push.result) _ c.push.ensures.items
-            (kept_earlier (g.F.Files.keeps old.files) Keeps files old.cache.entries earlier old.sound.cached);
+            (λ k f h file_system kept. old.sound.as_long k f h file_system (earlier file_system kept))
+            (λ file_system kept. (found file_system kept).1);
+        cached = kept_after Keeps files _ file (is_ok c.push.result) _ c.push.ensures.items
+            (kept_earlier (g.F.Files.consistent old.files) Keeps files old.cache.entries earlier old.sound.cached);
       };
     }
 
@@ -76,25 +78,26 @@ returns-clause-opens g c =
     let path : string_bytes file.path ≡ c.args.path.now = c.in_ok-kept.ensures.ok in
     let more : opened_of c.push.new.self.items ≡ opened_of files ++ (c.args.path.now, file.len) ∷ [] =
     ap opened_of c.in_ok-push.ensures.items ∙ opened_more files file c.args.path.now path in
-    let count : length (opened_of files) ≡ length files = length-map files told_of in
+    let count : length (opened_of files) ≡ length files = length-map files reported_of in
     let room : length (opened_of files) < MAX_FILES = search rules in
     let limit : file.len ≤ MAX_LEN = search rules in
     let id : length (opened_of files) + 2 ≡ c.len-2.result + 2 = search rules in
     subst (λ n. Opens (opened_of files) (opened_of c.push.new.self.items) c.args.path.now n file.len) id
     (subst (λ new. Opens (opened_of files) new c.args.path.now (length (opened_of files) + 2) file.len) (sym more)
-    (opens_behind (opened_of files) c.args.path.now file.len c.requires room limit))
+    (opens_after (opened_of files) c.args.path.now file.len c.requires room limit))
 
 pub returns-clause-file : goal.returns-clause-file
-returns-clause-file g c = λ folder kept.
+returns-clause-file g c = λ file_system kept.
     let old = c.args.self.now in
     let files = old.entries.items in
     let file : OpenFile = record { path = c.in_ok-kept.kept; no = c.in_ok-no.no; len = c.in_ok-no.len } in
     let path : string_bytes file.path ≡ c.args.path.now = c.in_ok-kept.ensures.ok in
     let more : opened_of c.push.new.self.items ≡ opened_of files ++ (c.args.path.now, file.len) ∷ [] =
     ap opened_of c.in_ok-push.ensures.items ∙ opened_more files file c.args.path.now path in
-    let count : length (opened_of files) ≡ length files = length-map files told_of in
+    let count : length (opened_of files) ≡ length files = length-map files reported_of in
     let id : c.len-2.result + 2 ≡ suc (suc (length (opened_of files))) = search rules in
     let slot : slice_get (opened_of c.push.new.self.items) (length (opened_of files)) ≡ Some (c.args.path.now, file.len) =
     ap (λ xs. slice_get xs (length (opened_of files))) more ∙ last_place (opened_of files) (c.args.path.now, file.len) in
-    holds_file folder (opened_of c.push.new.self.items) c.args.path.now (c.len-2.result + 2) file.len (length (opened_of files)) id slot
-    (found_there folder _ _ (c.in_ok-no.ensures.found folder kept))
+    holds_file file_system (opened_of c.push.new.self.items) c.args.path.now (c.len-2.result + 2) file.len (length (opened_of files)) id
+    slot
+    (found_there file_system _ _ (c.in_ok-no.ensures.found file_system kept))

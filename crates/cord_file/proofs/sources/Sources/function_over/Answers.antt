@@ -1,6 +1,6 @@
 use Rattle.std.proofs.Common.{◌≤◌, arith}
 use Rattle.cord_io.specs.declared.TheConstants.{MAX_LEN}
-use Rattle.cord_file.specs.Files.{as_long_as_told}
+use Rattle.cord_file.specs.Files.{as_long_as_reported}
 use Rattle.cord_file.proofs.EntryBytes.{entry_limit}
 use Rattle.cord_file.proofs.CordTexts.{func_over, text_over}
 use Rattle.cord_file.proofs.sources.Sources.function_over.Goals as goal
@@ -16,8 +16,8 @@ returns-clause-cord g c = func_over c.args.self.now.entries.items c.args.id.0 c.
     c.in_ok-cord.ensures.over
 
 pub returns-clause-text : goal.returns-clause-text
-returns-clause-text g c = λ folder kept.
+returns-clause-text g c = λ file_system kept.
     let self = c.args.self.now in
-    text_over folder self.entries.items c.args.id.0 c.args.len _
-    (as_long_as_told (g.F.Files.keeps self.files) self.entries.items self.sound.as_long folder kept) c.requires.len
+    text_over file_system self.entries.items c.args.id.0 c.args.len _
+    (as_long_as_reported (g.F.Files.consistent self.files) self.entries.items self.sound.as_long file_system kept) c.requires.len
     c.in_ok-cord.ensures.over

@@ -17,8 +17,8 @@ invariant_of-result g c = record {
     short_enough = subst (Each _) (sym c.new-entries.ensures.items) (each_none _);
     there = subst (Each _) (sym c.new-entries.ensures.items) (each_none _);
     as_long = subst (Each _) (sym c.new-entries.ensures.items) (each_none _);
-    cached = subst (λ b. AreCached (g.F.Files.keeps c.args.files) c.new-entries.result.items b.entries) (sym c.in-Ok.ensures)
-        (kept_none (g.F.Files.keeps c.args.files) c.new-entries.result.items);
+    cached = subst (λ b. AreCached (g.F.Files.consistent c.args.files) c.new-entries.result.items b.entries) (sym c.in-Ok.ensures)
+        (kept_none (g.F.Files.consistent c.args.files) c.new-entries.result.items);
   };
 }
 

@@ -5,8 +5,8 @@ use Rattle.std.specs.Option.{option_map}
 use Rattle.std.specs.String.{string_bytes}
 use Rattle.std.proofs.lemmas.Option.{slice_get-map, slice_get_read}
 use Rattle.cord_file.specs.declared.files.OpenFile.{OpenFile}
-use Rattle.cord_file.specs.Entries.{Opened, id_in, lengths_in}
-use Rattle.cord_file.specs.Files.{told_of, opened_of}
+use Rattle.cord_file.specs.FileTable.{Opened, id_in, lengths_in}
+use Rattle.cord_file.specs.Files.{reported_of, opened_of}
 use Rattle.cord_file.specs.Opening.{Grows, Opens}
 use Rattle.cord_file.proofs.Growing.{grows_same, grows_opened, opens_again}
 use Rattle.cord_file.proofs.Holding.{file_at_place, holds_file, IsFound}
@@ -36,13 +36,13 @@ returns-in-Some-clause-opens g c =
     let inside : n < length files = subst (λ xs. n < length xs) c.deref.ensures.value c.in-Some.ensures.inside in
     let here : slice_get files n ≡ Some e = slice_get_read files _ n e refl inside c.index.ensures in
     let id : n + 2 ≡ suc (suc n) = omega arith in
-    let told : lengths_in (opened_of files) (n + 2) ≡ Some e.len =
+    let reported : lengths_in (opened_of files) (n + 2) ≡ Some e.len =
     ap (lengths_in (opened_of files)) id
-    ∙ ap (option_map (λ file. file.1)) (slice_get-map told_of files n ∙ ap (option_map told_of) here) in
-    opens_again (opened_of files) path (n + 2) e.len found told (self.sound.short_enough n e here)
+    ∙ ap (option_map (λ file. file.1)) (slice_get-map reported_of files n ∙ ap (option_map reported_of) here) in
+    opens_again (opened_of files) path (n + 2) e.len found reported (self.sound.short_enough n e here)
 
 pub returns-in-Some-clause-file : goal.returns-in-Some-clause-file
-returns-in-Some-clause-file g c = λ folder kept.
+returns-in-Some-clause-file g c = λ file_system kept.
     let self = c.args.self.now in
     let files = self.entries.items in
     let n = c.in-Some.place in
@@ -57,7 +57,8 @@ returns-in-Some-clause-file g c = λ folder kept.
     let at : string_bytes e.path ≡ path = ap (λ f. string_bytes f.path) (sym same) ∙ file.2 in
     let id : n + 2 ≡ suc (suc n) = omega arith in
     let slot : slice_get (opened_of files) n ≡ Some (path, e.len) =
-    slice_get-map told_of files n ∙ ap (option_map told_of) here ∙ ap (λ p. Some (p, e.len)) at in
-    let there : IsFound folder path e.len =
-    subst (λ p. IsFound folder p e.len) at (self.sound.there n e here folder kept, self.sound.as_long n e here folder kept) in
-    holds_file folder (opened_of files) path (n + 2) e.len n id slot there
+    slice_get-map reported_of files n ∙ ap (option_map reported_of) here ∙ ap (λ p. Some (p, e.len)) at in
+    let there : IsFound file_system path e.len =
+    subst (λ p. IsFound file_system p e.len) at (self.sound.there n e here file_system kept, self.sound.as_long n e here file_system kept)
+    in
+    holds_file file_system (opened_of files) path (n + 2) e.len n id slot there

@@ -3,8 +3,8 @@ use Rattle.std.specs.Prelude.{slice_get}
 use Rattle.std.proofs.lemmas.Option.{slice_get_read}
 use Rattle.cord_file.specs.declared.blocks.TheConstants.{BLOCK}
 use Rattle.cord_file.specs.declared.files.OpenFile.{OpenFile}
-use Rattle.cord_file.proofs.EntryBytes.{of_told}
-use Rattle.cord_file.proofs.BlockParts.{inside_opened, of_slot, block_of_told, sound_moved}
+use Rattle.cord_file.proofs.EntryBytes.{of_reported}
+use Rattle.cord_file.proofs.BlockParts.{inside_opened, of_slot, block_of_reported, sound_moved}
 use Rattle.cord_file.proofs.sources.Sources.read_block.Goals as goal
 
 pub index-file-requires : goal.index-file-requires
@@ -14,15 +14,15 @@ index-file-requires g c =
     inside_opened self.entries.items c.args.place (λ file. c.args.number * BLOCK < file.len) c.requires.inside in
     search rules
 
-pub read_block-requires-clause-told : goal.read_block-requires-clause-told
-read_block-requires-clause-told g c =
+pub read_block-requires-clause-reported : goal.read_block-requires-clause-reported
+read_block-requires-clause-reported g c =
     let self = c.args.self.now in
     let file : OpenFile = c.index-file.result.now in
     let inside : c.args.place < length self.entries.items =
     inside_opened self.entries.items c.args.place (λ f. c.args.number * BLOCK < f.len) c.requires.inside in
     let here : slice_get self.entries.items c.args.place ≡ Some file =
     slice_get_read self.entries.items (length self.entries.items) c.args.place file refl inside c.index-file.ensures in
-    of_told (λ n. file.len ≡ n) (g.F.Files.opened self.files file.no.0) file (self.sound.handed_out c.args.place file here) refl
+    of_reported (λ n. file.len ≡ n) (g.F.Files.opened self.files file.no.0) file (self.sound.handed_out c.args.place file here) refl
 
 pub read_block-requires-clause-inside : goal.read_block-requires-clause-inside
 read_block-requires-clause-inside g c =
@@ -49,19 +49,19 @@ invariant_of-self g c =
     let self = c.args.self.now in
     record {
       few = self.few;
-      sound = sound_moved (g.F.Files.keeps self.files) (g.F.Files.keeps c.read_block.new.files) (g.F.Files.opened self.files)
+      sound = sound_moved (g.F.Files.consistent self.files) (g.F.Files.consistent c.read_block.new.files) (g.F.Files.opened self.files)
           (g.F.Files.opened c.read_block.new.files) self.entries.items self.cache.entries c.read_block.ensures.earlier
           (λ n h. c.read_block.ensures.opened n) self.sound;
     }
 
 pub returns-clause-block : goal.returns-clause-block
-returns-clause-block g c = λ folder is.
+returns-clause-block g c = λ file_system is.
     let self = c.args.self.now in
     let file : OpenFile = c.index-file.result.now in
     let inside : c.args.place < length self.entries.items =
     inside_opened self.entries.items c.args.place (λ f. c.args.number * BLOCK < f.len) c.requires.inside in
     let here : slice_get self.entries.items c.args.place ≡ Some file =
     slice_get_read self.entries.items (length self.entries.items) c.args.place file refl inside c.index-file.ensures in
-    block_of_told c.read_block.result folder (g.F.Files.opened self.files file.no.0) (slice_get self.entries.items c.args.place)
+    block_of_reported c.read_block.result file_system (g.F.Files.opened self.files file.no.0) (slice_get self.entries.items c.args.place)
     file c.args.number
-    c.read_block.new.block (self.sound.handed_out c.args.place file here) here (c.read_block.ensures.block folder is)
+    c.read_block.new.block (self.sound.handed_out c.args.place file here) here (c.read_block.ensures.block file_system is)

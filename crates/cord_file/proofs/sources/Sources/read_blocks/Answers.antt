@@ -17,15 +17,15 @@ loop-done-preserved g c =
     let here : slice_get loop.self.entries.items c.args.place ≡ at = ap (λ xs. slice_get xs c.args.place) loop.invariant.entries in
     record {
       done = search rules;
-      earlier = λ folder kept. loop.invariant.earlier folder (c.in_ok-read_one.ensures.files.earlier folder kept);
+      earlier = λ file_system kept. loop.invariant.earlier file_system (c.in_ok-read_one.ensures.files.earlier file_system kept);
       entries = c.read_one.ensures.files.entries ∙ loop.invariant.entries;
       opened = λ n. c.read_one.ensures.files.opened n ∙ loop.invariant.opened n;
       count = search rules;
-      bytes = λ folder kept.
-          let read : AreRead folder at (c.args.start + loop.done) part =
-          subst (λ o. AreRead folder o (c.args.start + loop.done) part) here (c.in_ok-read_one.ensures.bytes folder kept) in
-          more_read (λ f. string_bytes f.path) folder at loop.done size _ c.args.start loop.out part loop.invariant.done
+      bytes = λ file_system kept.
+          let read : AreRead file_system at (c.args.start + loop.done) part =
+          subst (λ o. AreRead file_system o (c.args.start + loop.done) part) here (c.in_ok-read_one.ensures.bytes file_system kept) in
+          more_read (λ f. string_bytes f.path) file_system at loop.done size _ c.args.start loop.out part loop.invariant.done
           (omega (arith, count))
-          (loop.invariant.bytes folder (c.in_ok-read_one.ensures.files.earlier folder kept))
-          (all_read folder at (c.args.start + loop.done) size part count read);
+          (loop.invariant.bytes file_system (c.in_ok-read_one.ensures.files.earlier file_system kept))
+          (all_read file_system at (c.args.start + loop.done) size part count read);
     }

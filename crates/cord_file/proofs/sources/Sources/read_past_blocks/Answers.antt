@@ -3,9 +3,9 @@ use Rattle.std.specs.Prelude.{slice_get}
 use Rattle.std.proofs.lemmas.Option.{slice_get_read}
 use Rattle.cord_io.specs.declared.TheConstants.{MAX_LEN}
 use Rattle.cord_file.specs.declared.files.OpenFile.{OpenFile}
-use Rattle.cord_file.proofs.EntryBytes.{of_told}
+use Rattle.cord_file.proofs.EntryBytes.{of_reported}
 use Rattle.cord_file.proofs.BlockParts.{inside_opened, of_slot, sound_moved}
-use Rattle.cord_file.proofs.Ranges.{read_of_told}
+use Rattle.cord_file.proofs.Ranges.{read_of_reported}
 use Rattle.cord_file.proofs.sources.Sources.read_past_blocks.Goals as goal
 
 pub index-file-requires : goal.index-file-requires
@@ -24,7 +24,7 @@ read_range-requires-clause-inside g c =
     inside_opened files c.args.place (λ f. c.args.start + length c.args.out.now ≤ f.len) c.requires.inside in
     let here : slice_get files c.args.place ≡ Some file =
     slice_get_read files (length files) c.args.place file refl inside c.index-file.ensures in
-    of_told (λ n. c.args.start + length c.args.out.now ≤ n) (g.F.Files.opened self.files file.no.0) file
+    of_reported (λ n. c.args.start + length c.args.out.now ≤ n) (g.F.Files.opened self.files file.no.0) file
     (self.sound.handed_out c.args.place file here) (of_slot (λ f. c.args.start + length c.args.out.now ≤ f.len) here c.requires.inside)
 
 pub read_range-requires-clause-limit : goal.read_range-requires-clause-limit
@@ -44,12 +44,12 @@ read_range-requires-clause-limit g c =
 pub invariant_of-self-clause-sound : goal.invariant_of-self-clause-sound
 invariant_of-self-clause-sound g c =
     let self = c.args.self.now in
-    sound_moved (g.F.Files.keeps self.files) (g.F.Files.keeps c.read_range.new.files) (g.F.Files.opened self.files)
+    sound_moved (g.F.Files.consistent self.files) (g.F.Files.consistent c.read_range.new.files) (g.F.Files.opened self.files)
     (g.F.Files.opened c.read_range.new.files) self.entries.items self.cache.entries c.read_range.ensures.earlier
     (λ n h. c.read_range.ensures.opened n) self.sound
 
 pub returns-clause-bytes : goal.returns-clause-bytes
-returns-clause-bytes g c = λ folder kept.
+returns-clause-bytes g c = λ file_system kept.
     let self = c.args.self.now in
     let files = self.entries.items in
     let file : OpenFile = c.index-file.result.now in
@@ -57,5 +57,6 @@ returns-clause-bytes g c = λ folder kept.
     inside_opened files c.args.place (λ f. c.args.start + length c.args.out.now ≤ f.len) c.requires.inside in
     let here : slice_get files c.args.place ≡ Some file =
     slice_get_read files (length files) c.args.place file refl inside c.index-file.ensures in
-    read_of_told c.read_range.result folder (g.F.Files.opened self.files file.no.0) (slice_get files c.args.place) file c.args.start
-    c.read_range.new.out (self.sound.handed_out c.args.place file here) here (c.read_range.ensures.bytes folder kept)
+    read_of_reported c.read_range.result file_system (g.F.Files.opened self.files file.no.0) (slice_get files c.args.place) file
+    c.args.start
+    c.read_range.new.out (self.sound.handed_out c.args.place file here) here (c.read_range.ensures.bytes file_system kept)

@@ -10,8 +10,8 @@ use Rattle.cord_io.specs.declared.faults.CordError.TheVariants.{NoMemory, TooLon
 use Rattle.cord_file.specs.Faults.{file_error_of}
 use Rattle.cord_file.specs.FileCords.{IsReadRefusal}
 use Rattle.cord_file.specs.declared.faults.FileError.{FileError}
-use Rattle.cord_file.specs.Entries.{lengths_in, table_in}
-use Rattle.cord_file.specs.Files.{opened_of, as_long_as_told}
+use Rattle.cord_file.specs.FileTable.{lengths_in, table_in}
+use Rattle.cord_file.specs.Files.{opened_of, as_long_as_reported}
 use Rattle.cord_file.proofs.EntryBytes.{in_slot, entry_limit}
 use Rattle.cord_file.proofs.CordTexts.{entry_bytes}
 use Rattle.cord_file.proofs.sources.Sources.read_whole.Goals as goal
@@ -19,9 +19,9 @@ use Rattle.cord_file.proofs.sources.Sources.read_whole.Goals as goal
 pub read_file_whole-requires : goal.read_file_whole-requires
 read_file_whole-requires g c =
     let files = c.args.self.now.entries.items in
-    let told : IsSomeAnd (lengths_in (opened_of files) c.args.id.0) (λ n. n ≡ c.args.len) =
+    let reported : IsSomeAnd (lengths_in (opened_of files) c.args.id.0) (λ n. n ≡ c.args.len) =
     subst (λ o. IsSomeAnd o (λ n. n ≡ c.args.len)) (sym c.requires.len) refl in
-    record { file = in_slot (λ n. n ≡ c.args.len) files c.args.id.0 c.requires.file told }
+    record { file = in_slot (λ n. n ≡ c.args.len) files c.args.id.0 c.requires.file reported }
 
 pub returns-clause-cord : goal.returns-clause-cord
 returns-clause-cord g c =
@@ -34,17 +34,17 @@ returns-clause-cord g c =
     }
 
 pub returns-clause-text : goal.returns-clause-text
-returns-clause-text g c = λ folder kept.
+returns-clause-text g c = λ file_system kept.
     let self = c.args.self.now in
     let files = self.entries.items in
     let items : rc_slice_items c.in_ok-shared.shared ≡ c.in_ok-bytes.bytes.items = c.in_ok-shared.ensures in
-    let told = as_long_as_told (g.F.Files.keeps self.files) files self.sound.as_long folder
-    (c.in_ok-bytes.ensures.files.earlier folder kept) in
-    c.in_ok-cord.ensures.over.bytes (table_in (opened_of files) folder) ∙ items
-    ∙ entry_bytes folder files c.args.id.0 c.args.len c.in_ok-bytes.bytes.items c.requires.file told c.requires.len
-    c.in_ok-bytes.ensures.len (c.in_ok-bytes.ensures.bytes folder kept)
+    let reported = as_long_as_reported (g.F.Files.consistent self.files) files self.sound.as_long file_system
+    (c.in_ok-bytes.ensures.files.earlier file_system kept) in
+    c.in_ok-cord.ensures.over.bytes (table_in (opened_of files) file_system) ∙ items
+    ∙ entry_bytes file_system files c.args.id.0 c.args.len c.in_ok-bytes.bytes.items c.requires.file reported c.requires.len
+    c.in_ok-bytes.ensures.len (c.in_ok-bytes.ensures.bytes file_system kept)
 
--- bytes that aren't too long for a cord are refused for want of memory alone
+-- bytes that aren't too long for a cord are refused only when out of memory
 refusal : {A : Type 0} (r : Result A FileError) (e : CordError) → IsErrAnd r (λ f. f ≡ file_error_of e) → IsRefusal e → (e ≡ TooLong → ⊥) →
     IfErr r IsReadRefusal
 refusal (Ok x) e gives known short = tt

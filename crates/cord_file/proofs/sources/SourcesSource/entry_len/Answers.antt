@@ -21,6 +21,6 @@ returns-in-None g c =
     let files : List OpenFile = c.args.self.now.entries.items in
     let past : 2 ≤ c.args.id.0 = search rules in
     let value : c.deref.result.now ≡ files = c.deref.ensures.value in
-    let behind : length c.deref.result.now ≤ c.args.id.0 - 2 = search rules in
+    let beyond : length c.deref.result.now ≤ c.args.id.0 - 2 = search rules in
     sym (length_of_file files c.args.id.0 None past (slice_get_past files (c.args.id.0 - 2)
-    (subst (λ xs. length xs ≤ c.args.id.0 - 2) value behind)))
+    (subst (λ xs. length xs ≤ c.args.id.0 - 2) value beyond)))

@@ -13,18 +13,18 @@ read_file-requires g c =
     }
 
 pub returns-in-0-clause-bytes : goal.returns-in-0-clause-bytes
-returns-in-0-clause-bytes g c = λ folder kept.
+returns-in-0-clause-bytes g c = λ file_system kept.
     let self = c.args.self.now in
     let same : length c.fill.new.out ≡ length c.args.out.now = c.fill.auto.out in
     let below : c.args.id.0 < 2 = c.in-0.is in
     let range : c.args.start + length c.args.out.now ≤ MAX_LEN =
     function_limit (opened_of self.entries.items) c.args.id.0 (c.args.start + length c.args.out.now) below c.requires.inside in
     let limit : c.args.start + length c.fill.new.out ≤ MAX_LEN = subst (λ n. c.args.start + n ≤ MAX_LEN) (sym same) range in
-    function_bytes folder (opened_of self.entries.items) c.args.id.0 c.args.start c.fill.new.out below limit c.fill.ensures
+    function_bytes file_system (opened_of self.entries.items) c.args.id.0 c.args.start c.fill.new.out below limit c.fill.ensures
 
 pub returns-in_default-clause-bytes : goal.returns-in_default-clause-bytes
-returns-in_default-clause-bytes g c = λ folder kept.
+returns-in_default-clause-bytes g c = λ file_system kept.
     let self = c.args.self.now in
     let past : 2 ≤ c.args.id.0 = search rules in
-    entry_read_ok c.read_file.result folder self.entries.items c.args.id.0 c.args.start c.read_file.new.out past
-    (c.read_file.ensures.bytes folder kept)
+    entry_read_ok c.read_file.result file_system self.entries.items c.args.id.0 c.args.start c.read_file.new.out past
+    (c.read_file.ensures.bytes file_system kept)

@@ -1,27 +1,27 @@
 use Rattle.std.proofs.Common.{◌≡◌, [], ◌∷◌, ◌++◌, length, subst, rules}
 use Rattle.std.specs.Prelude.{is_ok}
 use Rattle.cord_io.specs.Given.{AgreesWithReaders}
-use Rattle.cord_io.specs.Told.{has_len, is_missing, Agrees}
+use Rattle.cord_io.specs.Reported.{has_len, is_missing, Agrees}
 use Rattle.cord_io.specs.inner.Missing.{after_finding}
 use Rattle.cord_io.proofs.OpenedFiles.{handed_out, readers_beside, given_beside, given_pushed, given_len, missing_before}
 use Rattle.cord_io.proofs.disk.DiskFilesFiles.open.Goals as goal
 
-pub returns-in-Err-NotFound-clause-told : goal.returns-in-Err-NotFound-clause-told
-returns-in-Err-NotFound-clause-told g c = search rules
+pub returns-in-Err-NotFound-clause-reported : goal.returns-in-Err-NotFound-clause-reported
+returns-in-Err-NotFound-clause-reported g c = search rules
 
 pub returns-in-Err-NotFound-clause-not_found : goal.returns-in-Err-NotFound-clause-not_found
-returns-in-Err-NotFound-clause-not_found g c = λ folder agrees _.
-    let all : Agrees folder (is_missing c.args.path.now ∷ c.args.self.now.answers.trace.told) =
-    subst (Agrees folder) (returns-in-Err-NotFound-clause-told g c) agrees in
+returns-in-Err-NotFound-clause-not_found g c = λ file_system agrees _.
+    let all : Agrees file_system (is_missing c.args.path.now ∷ c.args.self.now.answers.trace.reported) =
+    subst (Agrees file_system) (returns-in-Err-NotFound-clause-reported g c) agrees in
     all.0
 
-pub returns-then-is_ok-clause-told : goal.returns-then-is_ok-clause-told
-returns-then-is_ok-clause-told g c = search rules
+pub returns-then-is_ok-clause-reported : goal.returns-then-is_ok-clause-reported
+returns-then-is_ok-clause-reported g c = search rules
 
 pub returns-then-is_ok-clause-found : goal.returns-then-is_ok-clause-found
-returns-then-is_ok-clause-found g c = λ folder agrees.
-    let all : Agrees folder (has_len c.args.path.now c.in-Ok.file.len ∷ c.args.self.now.answers.trace.told) =
-    subst (Agrees folder) (returns-then-is_ok-clause-told g c) agrees in
+returns-then-is_ok-clause-found g c = λ file_system agrees.
+    let all : Agrees file_system (has_len c.args.path.now c.in-Ok.file.len ∷ c.args.self.now.answers.trace.reported) =
+    subst (Agrees file_system) (returns-then-is_ok-clause-reported g c) agrees in
     all.0
 
 pub returns-then-is_ok-clause-opened : goal.returns-then-is_ok-clause-opened
@@ -32,22 +32,24 @@ returns-then-is_ok-clause-opened g c =
     handed_out files c.push.new.self.items c.in-Ok.file c.in-Ok-try_from.no c.args.path.now pushed last c.in-Ok.ensures.path
 
 pub returns-then-is_ok-clause-machine_earlier : goal.returns-then-is_ok-clause-machine_earlier
-returns-then-is_ok-clause-machine_earlier g c = λ folder agrees.
+returns-then-is_ok-clause-machine_earlier g c = λ file_system agrees.
     let files = c.args.self.now.answers.opened.items in
     let pushed : c.push.new.self.items ≡ files ++ c.in-Ok.file ∷ [] = search rules in (
-      subst (Agrees folder) c.in-Ok.ensures.missing agrees.0,
-      readers_beside folder files c.push.new.self.items c.in-Ok.file pushed agrees.1,
+      subst (Agrees file_system) c.in-Ok.ensures.missing agrees.0,
+      readers_beside file_system files c.push.new.self.items c.in-Ok.file pushed agrees.1,
     )
 
 -- what was opened before stays where the file isn't kept
 pub returns-clause-machine_earlier : goal.returns-clause-machine_earlier
-returns-clause-machine_earlier g c = λ folder agrees.
+returns-clause-machine_earlier g c = λ file_system agrees.
     let old = c.args.self.now.answers in
     let new = c.match-opened_file.self.answers in
     let opened : new.opened.items ≡ old.opened.items = search rules in
-    let missing : new.machine.trace.told ≡ after_finding c.args.path.now c.opened_file.result old.machine.trace.told = search rules in (
-      missing_before folder c.args.path.now c.opened_file.result old.machine.trace.told new.machine.trace.told missing agrees.0,
-      subst (AgreesWithReaders folder) opened agrees.1,
+    let missing : new.machine.trace.reported ≡ after_finding c.args.path.now c.opened_file.result old.machine.trace.reported = search rules
+    in (
+      missing_before file_system c.args.path.now c.opened_file.result old.machine.trace.reported new.machine.trace.reported missing
+          agrees.0,
+      subst (AgreesWithReaders file_system) opened agrees.1,
     )
 
 -- what is told of it is what the machine gave
@@ -55,7 +57,7 @@ pub invariant_of-self-in-Ok-try_from : goal.invariant_of-self-in-Ok-try_from
 invariant_of-self-in-Ok-try_from g c =
     let answers = c.opened_file.new.self.answers in
     record {
-      given = given_pushed answers.machine.trace.told answers.opened.items c.push.new.self.items c.in-Ok.file answers.trace.told
+      given = given_pushed answers.machine.trace.reported answers.opened.items c.push.new.self.items c.in-Ok.file answers.trace.reported
           (is_ok c.push.result) c.push.ensures.items answers.given;
     }
 
@@ -64,9 +66,10 @@ invariant_of-self-then-is_ok g c =
     let answers = c.opened_file.new.self.answers in
     let file = c.in-Ok.file in
     let pushed : c.push.new.self.items ≡ answers.opened.items ++ file ∷ [] = search rules in
-    let beside = given_beside answers.machine.trace.told answers.opened.items c.push.new.self.items file answers.trace.told pushed
+    let beside = given_beside answers.machine.trace.reported answers.opened.items c.push.new.self.items file answers.trace.reported pushed
     answers.given in
     record {
-      given = given_len answers.machine.trace.told answers.opened.items c.push.new.self.items file c.args.path.now answers.trace.told
-          c.then-self-then-is_ok.result.told pushed c.in-Ok.ensures.len c.then-self-then-is_ok.ensures beside;
+      given = given_len answers.machine.trace.reported answers.opened.items c.push.new.self.items file c.args.path.now
+          answers.trace.reported
+          c.then-self-then-is_ok.result.reported pushed c.in-Ok.ensures.len c.then-self-then-is_ok.ensures beside;
     }

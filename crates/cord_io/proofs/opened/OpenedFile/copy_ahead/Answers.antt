@@ -6,11 +6,11 @@ use Rattle.cord_io.proofs.Ahead.{part_ahead}
 use Rattle.cord_io.proofs.opened.OpenedFile.copy_ahead.Goals as goal
 
 pub returns-clause-bytes : goal.returns-clause-bytes
-returns-clause-bytes g c = λ folder agrees.
+returns-clause-bytes g c = λ file_system agrees.
     let self = c.args.self.now in
-    let text : List ℕ = bytes_at folder (string_bytes self.reader.path) in
+    let text : List ℕ = bytes_at file_system (string_bytes self.reader.path) in
     let k : ℕ = c.copy_from.result in
-    let behind : self.start ≤ c.args.start = c.in_ok-skipped.ensures.0 in
+    let after : self.start ≤ c.args.start = c.in_ok-skipped.ensures.0 in
     let skipped : c.in_ok-skipped.skipped ≡ c.args.start - self.start = c.in_ok-skipped.ensures.1 in
     let value : take self.count c.deref.result.now ≡ take self.count self.bytes.items = ap (take self.count) c.deref.ensures.value in
     let count : length (take self.count c.deref.result.now) ≡ self.count =
@@ -20,5 +20,5 @@ returns-clause-bytes g c = λ folder agrees.
     let copied : take k c.copy_from.new.out ≡ take k (drop (c.args.start - self.start) (take self.count self.bytes.items)) =
     c.copy_from.ensures.bytes ∙ ap (λ n. take k (drop n (take self.count c.deref.result.now))) skipped
     ∙ ap (λ xs. take k (drop (c.args.start - self.start) xs)) value in
-    part_ahead self.start c.args.start self.count k self.bytes.items text c.copy_from.new.out behind fits
-    (self.ahead.same folder agrees) copied
+    part_ahead self.start c.args.start self.count k self.bytes.items text c.copy_from.new.out after fits
+    (self.ahead.same file_system agrees) copied

@@ -14,7 +14,7 @@ use denote.Steps.{nothing}
 use denote.Triple.Entry.{alive}
 use denote.Triple.Walked.{Stays, stay_dropped, Goes-dropped, walk_of, ends_at, says}
 use Rattle.std.proofs.raw_atomic.Walks.{proved}
-use Rattle.cord_io.specs.inner.Answers.{told_by}
+use Rattle.cord_io.specs.inner.Answers.{reported_by}
 use Rattle.cord_io.specs.declared.trace.Trace.{Trace}
 use Rattle.cord_io.specs.contracts.trace.Trace.{the_row as Row}
 use Rattle.cord_io.specs.contracts.trace.Answer as arg
@@ -30,12 +30,13 @@ pub then_spec : {M : Type 1} → statement M
 then_spec 𝓤 𝓛 𝓜 𝓡 wired =
     let c = f.clauses 𝓛 𝓜.mem 𝓡.returns in let W = walk_of 𝓛 f.ended stayed c in
     let self_goes = Goes-dropped 𝓛 3 (RefOf (0 ∷ []) tt (plain (λ _. Row)) (λ _. tt)) yes (λ κs x w. refl) in
-    let told_goes = Goes-dropped 𝓛 3 (RefOf (1 ∷ []) tt (plain (λ κs. arg.the_row (named_lft 3 2 tt κs))) (λ _. tt)) yes (λ κs x w. refl) in
-    proved 𝓛 f.ended stayed c 𝓜 𝓡 (self_goes, (told_goes, tt)) f.Key.name code.function (code.unfolded 𝓤 𝓛.H 𝓜 𝓡 wired)
+    let reported_goes = Goes-dropped 𝓛 3 (RefOf (1 ∷ []) tt (plain (λ κs. arg.the_row (named_lft 3 2 tt κs))) (λ _. tt)) yes
+    (λ κs x w. refl) in
+    proved 𝓛 f.ended stayed c 𝓜 𝓡 (self_goes, (reported_goes, tt)) f.Key.name code.function (code.unfolded 𝓤 𝓛.H 𝓜 𝓡 wired)
     (λ κs. (shr_vals, (shr_vals, tt)))
     (λ κs. (shr_Tells (named 0) κs.0 Row, (shr_Tells (named 1) κs.1.0 (arg.the_row (named_lft 3 2 tt κs)), tt))) (λ κs qs bounds a n are.
     let y : W.Ghost = ((κs, qs, bounds, a, (shr_vals a.0, (shr_vals a.1.0, tt))), n) in
-    let made : Trace = record { told = told_by a.1.0.now ∷ a.0.now.told } in
+    let made : Trace = record { reported = reported_by a.1.0.now ∷ a.0.now.reported } in
     qed 𝓛 ((raw (alive 𝓛 f.signature κs qs) ⊛ ‵ (owns (types_at f.signature.params κs) a y.0.4)) ∷ raw ((c κs a).requires n) ∷ []) ∵
     -- [the tokens]
     split ! $ keep ! (0 ∷ []) $

@@ -3,7 +3,7 @@ use Rattle.std.proofs.lemmas.List.{take_all}
 use Rattle.cord_lines.specs.declared.counting.Counts.{Counts}
 use Rattle.cord_lines.specs.declared.blocks.Block.{Block}
 use Rattle.cord_lines.specs.inner.Blocks.{total, AreSumsOf}
-use Rattle.cord_lines.proofs.Sums.{sum_of_all, few_sum_next, then_sum, sums_front, sums_all, sums_as, starts_inside}
+use Rattle.cord_lines.proofs.Sums.{sum_of_all, few_sum_next, then_sum, sums_prefix, sums_all, sums_as, starts_inside}
 use Rattle.cord_lines.proofs.blocks.Blocks.group_with.Goals as goal
 
 pub plus-after-requires : goal.plus-after-requires
@@ -37,7 +37,7 @@ returns-then-target-of c =
     record {
       inside = omega (arith, start, ap (λ (y : List Block). length y) c.self.view_is);
       before = c.loop-index.invariant.sum ∙ ap (λ (y : List Counts). sum_of_all (take c.loop-index.index y)) c.deref-sum-items.ensures.value
-          ∙ sums_front c.loop-index.index c.self.inside.sums.items c.self.inside.blocks.items c.self.invariant
+          ∙ sums_prefix c.loop-index.index c.self.inside.sums.items c.self.inside.blocks.items c.self.invariant
           ∙ ap (λ (y : List Block). total (take (c.loop-index.index * 256) y)) c.self.view_is;
       most = c.loop-index.invariant.most;
     }

@@ -11,8 +11,8 @@ use denote.Memory.{part_at, part_of}
 use denote.Sharing.{said, beside}
 use denote.SharingLaws.{some_shr_laws, beside_shr_laws}
 use denote.Hidden.{guarded, guarded_shr_laws}
-use Rattle.cord_mark.specs.inner.Ownership.{telling, told}
-use Rattle.cord_mark.proofs.Told.{told_shr_laws}
+use Rattle.cord_mark.specs.inner.Ownership.{reporting, reported}
+use Rattle.cord_mark.proofs.Reported.{reported_shr_laws}
 use Rattle.cord_mark.specs.contracts.mark.Mark as C
 use Rattle.cord_mark.proofs.mark.Mark.TheLaw.Statement.{statement}
 
@@ -21,13 +21,14 @@ unfolding part_of
 shares = record {
   shr_laws = λ d b o.
       let P : Fml = part_at C.the_written full_share d b o in
-      some_shr_laws GName (λ γ. beside (said (told γ d b o)) (guarded (γ, 0) P)) (λ γ.
-      beside_shr_laws (said (told γ d b o)) (guarded (γ, 0) P) (told_shr_laws γ d b o) (guarded_shr_laws (γ, 0) P));
+      some_shr_laws GName (λ γ. beside (said (reported γ d b o)) (guarded (γ, 0) P)) (λ γ.
+      beside_shr_laws (said (reported γ d b o)) (guarded (γ, 0) P) (reported_shr_laws γ d b o) (guarded_shr_laws (γ, 0) P));
   shares = λ M 𝓤 𝓛 d κ ts b o inc sp.
       let P : Fml = part_at C.the_written full_share d b o in
       qed 𝓛 (‵ (fbor κ P) ∷ raw (lfts 𝓛 ts) ∷ []) ∵ updating ! $
-      use0 𝓛 (later (some (λ (γ : GName). ‵ (told γ d b o)))) (via 𝓤 _ (own_new 𝓛 telling (d, (b, o))) (basic 𝓛 _)) $ await ! tt $ pick !
+      use0 𝓛 (later (some (λ (γ : GName). ‵ (reported γ d b o)))) (via 𝓤 _ (own_new 𝓛 reporting (d, (b, o))) (basic 𝓛 _)) $ await ! tt $
+      pick !
       (λ γ. move ! (1 ∷ []) $
       use1 𝓛 (later (‵ (na_bor κ (γ, 0) P))) (bor_na 𝓛 κ (γ, 0) P) $ await ! tt $ move ! (1 ∷ 0 ∷ []) $ fjoin ! $
-      fpack ! GName (λ (g : GName). fsep (told g d b o) (na_bor κ (g, 0) P)) γ $ now ! $ done !);
+      fpack ! GName (λ (g : GName). fsep (reported g d b o) (na_bor κ (g, 0) P)) γ $ now ! $ done !);
 }

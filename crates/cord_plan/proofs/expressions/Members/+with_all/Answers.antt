@@ -2,16 +2,16 @@ use Rattle.std.proofs.Common.{◌<◌, map, rules, sym, ap, ◌∙◌}
 use Rattle.cord_plan.specs.Exprs.{Exprs, append}
 use Rattle.cord_plan.specs.Views.{members_of, members_view, shared_view}
 use Rattle.cord_plan.proofs.Appending.{append_thrice}
-use Rattle.cord_plan.proofs.Halves.{front_lighter, halves_None, halves_Some}
+use Rattle.cord_plan.proofs.Halves.{prefix_lighter, halves_None, halves_Some}
 use Rattle.cord_plan.proofs.MemberTexts.{weights}
 use Rattle.cord_plan.proofs.Sharing.{made_as}
 use Rattle.cord_plan.proofs.expressions.Members.+with_all.Goals as goal
 
 pub with_all-requires : goal.with_all-requires
 with_all-requires t c =
-    let below : weights (members_view c.in-Some.front.now) < weights (members_view c.args.others.now) =
-    front_lighter (members_view c.args.others.now) c.halves.result.0 c.halves.result.1.now c.halves.ensures.members
-    c.halves.ensures.after c.in-Some.front c.in-Some.is in
+    let below : weights (members_view c.in-Some.prefix.now) < weights (members_view c.args.others.now) =
+    prefix_lighter (members_view c.args.others.now) c.halves.result.0 c.halves.result.1.now c.halves.ensures.members
+    c.halves.ensures.after c.in-Some.prefix c.in-Some.is in
     search (rules, below)
 
 pub returns-in-None-clause-made : goal.returns-in-None-clause-made
@@ -28,7 +28,7 @@ returns-in_ok-with_all-in-Some-clause-made t c =
     let rest = members_of (map shared_view c.halves.result.1.now) in
     made_as c.with_each-in-Some.result _ _
     (ap (λ (es : Exprs). append es rest) c.in_ok-with_all-in-Some.ensures.made
-    ∙ (append_thrice (members_view c.args.self) (members_view c.in-Some.front.now) rest
+    ∙ (append_thrice (members_view c.args.self) (members_view c.in-Some.prefix.now) rest
     ∙ ap (λ (es : Exprs). append (members_view c.args.self) es)
-    (sym (halves_Some others c.halves.result.0 c.halves.result.1.now c.halves.ensures.members c.in-Some.front c.in-Some.is))))
+    (sym (halves_Some others c.halves.result.0 c.halves.result.1.now c.halves.ensures.members c.in-Some.prefix c.in-Some.is))))
     c.with_each-in-Some.ensures.made

@@ -1,6 +1,6 @@
 use Rattle.std.proofs.Common.{◌/◌, arith}
 use Rattle.cord_plan.specs.declared.flow.liveness.Group.{Group}
-use Rattle.cord_plan.proofs.Told.{live_more, groups_more}
+use Rattle.cord_plan.proofs.LivenessTables.{live_more, groups_more}
 use Rattle.cord_plan.proofs.flow.liveness.groups_of.Goals as goal
 
 pub loop-group-preserved : goal.loop-group-preserved

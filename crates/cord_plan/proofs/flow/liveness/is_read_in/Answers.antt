@@ -3,8 +3,8 @@ use Rattle.std.specs.Prelude.{slice_get}
 use Rattle.std.proofs.lemmas.List.{at_drop_all}
 use Rattle.std.proofs.lemmas.Option.{slice_get_read}
 use Rattle.cord_syntax.specs.declared.statements.Statement.{Statement}
-use Rattle.cord_plan.specs.inner.Ahead.{later_in}
-use Rattle.cord_plan.proofs.Onward.{assigned_here, passed_here, read_here}
+use Rattle.cord_plan.specs.inner.StraightLine.{later_in}
+use Rattle.cord_plan.proofs.StraightLineReads.{assigned_here, passed_here, read_here}
 use Rattle.cord_plan.proofs.flow.liveness.is_read_in.Goals as goal
 
 pub returns-then-reads : goal.returns-then-reads

@@ -1,7 +1,7 @@
-use Rattle.cord_plan.proofs.Words.{behind_bits}
+use Rattle.cord_plan.proofs.Words.{after_bits}
 use Rattle.cord_plan.proofs.flow.liveness.successor_word.Goals as goal
 
 pub returns-in-Some : goal.returns-in-Some
 returns-in-Some c =
-    λ i. behind_bits c.args.words.now i c.args.successors.first c.in-Some.second c.args.successors.second c.word_at-first.result
+    λ i. after_bits c.args.words.now i c.args.successors.first c.in-Some.second c.args.successors.second c.word_at-first.result
     c.word_at.result c.in-Some.is (c.word_at-first.ensures.bits i) (c.word_at.ensures.bits i)

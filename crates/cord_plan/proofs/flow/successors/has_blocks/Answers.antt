@@ -3,7 +3,7 @@ use Rattle.std.specs.Prelude.{slice_get}
 use Rattle.std.proofs.Math.Nat.{eq-or-lt_of_le}
 use Rattle.std.proofs.lemmas.Bool.Decides.{leb_tells}
 use Rattle.std.proofs.lemmas.Option.{slice_get_past, slice_get_read}
-use Rattle.cord_plan.specs.Forced.{is_block_at}
+use Rattle.cord_plan.specs.Inlined.{is_block_at}
 use Rattle.cord_plan.proofs.flow.successors.has_blocks.Goals as goal
 
 pub loop-statement-preserved : goal.loop-statement-preserved

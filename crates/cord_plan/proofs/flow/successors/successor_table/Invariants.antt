@@ -1,7 +1,7 @@
 use Rattle.std.proofs.Common.{◌≡◌, ℕ, ◌<◌, ◌≤◌, ◌+◌, ◌-◌, map, reverse, length}
 use Rattle.std.specs.Prelude.{vec_len, vec_capacity}
 use Rattle.cord_meaning.specs.Paths.{open_at}
-use Rattle.cord_plan.specs.Unread.{successors}
+use Rattle.cord_plan.specs.Liveness.{successors}
 use Rattle.cord_plan.specs.inner.Liveness.{shape_view, places_at}
 use Rattle.cord_plan.proofs.flow.successors.successor_table.Given as goal
 
@@ -10,5 +10,5 @@ invariant-loop-p l = record {
   opened : reverse l.blocks.items ≡ open_at (map shape_view l.shapes) l.p;
   size : length l.found.items ≡ l.p;
   room : vec_len l.found + (length l.shapes - l.p) ≤ vec_capacity l.found;
-  told : (k : ℕ) → k < l.p → places_at l.found.items k ≡ successors (map shape_view l.shapes) k;
+  reported : (k : ℕ) → k < l.p → places_at l.found.items k ≡ successors (map shape_view l.shapes) k;
 }

@@ -6,8 +6,8 @@ use Rattle.cord_plan.specs.Exprs.{Expr}
 use Rattle.cord_plan.specs.declared.operations.Operation.{Operation}
 use Rattle.cord_plan.specs.inner.Choices.{choice_view, simple_operands}
 use Rattle.cord_syntax.specs.Readings.{operand_names}
-use Rattle.cord_plan.specs.inner.Known.{IsFrom, IsKnown}
-use Rattle.cord_plan.specs.inner.Liveness.{tells}
+use Rattle.cord_plan.specs.inner.ExpressionFacts.{IsFrom, IsKnown}
+use Rattle.cord_plan.specs.inner.Liveness.{reports}
 use Rattle.cord_plan.specs.inner.Steps.{operation_expression}
 use Rattle.cord_plan.specs.Views.{expr_view, operation_view}
 use Rattle.cord_plan.specs.declared.planner.expressions.LineExpression.{LineExpression}
@@ -21,8 +21,8 @@ table_size os n size = length-map (map operation_view os) operation_expression �
 -- what the expression of a line is, is told of what is made with it
 made_with : (r : Result LineExpression CordError) (o : Option Expr) (P : Option Expr → Type 0) → P o →
     IfOk r (λ t. option_map expr_view t.expression ≡ o) → IfOk r (λ t. P (option_map expr_view t.expression))
-made_with r o P told made = IfOk-weaker r (λ t. option_map expr_view t.expression ≡ o) (λ t. P (option_map expr_view t.expression))
-    (λ t is. subst P (sym is) told) made
+made_with r o P reported made = IfOk-weaker r (λ t. option_map expr_view t.expression ≡ o) (λ t. P (option_map expr_view t.expression))
+    (λ t is. subst P (sym is) reported) made
 
 pub returns-in-Nothing-clause-known : goal.returns-in-Nothing-clause-known
 returns-in-Nothing-clause-known c =
@@ -39,7 +39,8 @@ returns-in-One-clause-known c =
     let x = c.in-One.operand.now in
     let listed : operand_names line.operands ≡ x ∷ [] = ap operand_names c.in-One.is in
     let simple : simple_operands line.statement.now ≡ Some (x ∷ []) = c.requires.operands ∙ ap Some listed in
-    let from : IsFrom table x (choice_view c.choose-choice.result) = choice_from line.statements.now (tells line.recent.now.later.now) table
+    let from : IsFrom table x (choice_view c.choose-choice.result) = choice_from line.statements.now (reports line.recent.now.later.now)
+    table
     line.place line.statement.now x (operand_names line.operands) [] (choice_view c.choose-choice.result) c.choose-choice.ensures in
     made_with c.taking-in-One.result _ (λ o. IsKnown t (table ++ o ∷ []) c.note_one.new.self)
     (c.note_one.ensures t table x c.requires.known (table_size c.args.operations.now line.place c.requires.long)
@@ -54,10 +55,11 @@ returns-in-Two-clause-known c =
     let y = c.in-Two.right.now in
     let listed : operand_names line.operands ≡ x ∷ y ∷ [] = ap operand_names c.in-Two.is in
     let simple : simple_operands line.statement.now ≡ Some (x ∷ y ∷ []) = c.requires.operands ∙ ap Some listed in
-    let left : IsFrom table x (choice_view c.choose-first.result) = choice_from line.statements.now (tells line.recent.now.later.now) table
+    let left : IsFrom table x (choice_view c.choose-first.result) = choice_from line.statements.now (reports line.recent.now.later.now)
+    table
     line.place line.statement.now x (operand_names line.operands) [] (choice_view c.choose-first.result) c.choose-first.ensures in
     let right : IsFrom table y (choice_view c.choose-second.result) =
-    choice_from line.statements.now (tells line.recent.now.later.now) table line.place line.statement.now y (operand_names line.operands)
+    choice_from line.statements.now (reports line.recent.now.later.now) table line.place line.statement.now y (operand_names line.operands)
     (choice_view c.choose-first.result ∷ []) (choice_view c.choose-second.result) c.choose-second.ensures in
     made_with c.taking-in-Two.result _ (λ o. IsKnown t (table ++ o ∷ []) c.note_two.new.self)
     (c.note_two.ensures t table x y c.requires.known (table_size c.args.operations.now line.place c.requires.long) simple

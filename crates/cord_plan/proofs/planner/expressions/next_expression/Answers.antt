@@ -1,9 +1,9 @@
 use Rattle.std.proofs.Common.{◌≡◌, None, map, rules}
 use Rattle.cord_plan.specs.inner.Choices.{simple_operands}
-use Rattle.cord_plan.specs.inner.Liveness.{tells}
+use Rattle.cord_plan.specs.inner.Liveness.{reports}
 use Rattle.cord_plan.specs.Views.{operation_view}
 use Rattle.cord_plan.specs.inner.Steps.{operation_expression}
-use Rattle.cord_plan.proofs.Extending.{never_told}
+use Rattle.cord_plan.proofs.Extending.{never_reported}
 use Rattle.cord_plan.proofs.Marked.{next_without}
 use Rattle.cord_plan.proofs.Known.{known_more}
 use Rattle.cord_plan.proofs.planner.expressions.next_expression.Goals as goal
@@ -11,7 +11,7 @@ use Rattle.cord_plan.proofs.planner.expressions.next_expression.Goals as goal
 pub returns-in_default-clause-made : goal.returns-in_default-clause-made
 returns-in_default-clause-made c =
     let none : simple_operands c.args.statement.now ≡ None = search rules in
-    next_without c.args.statements.now (tells c.args.recent.now.later.now) c.args.place c.args.statement.now
+    next_without c.args.statements.now (reports c.args.recent.now.later.now) c.args.place c.args.statement.now
     (map operation_view c.args.operations.now) none
 
 pub returns-in_default-clause-known : goal.returns-in_default-clause-known
@@ -19,5 +19,5 @@ returns-in_default-clause-known c = known_more c.args.recent.now.later.now.numbe
     (map operation_expression (map operation_view c.args.operations.now)) None c.args.known.now c.requires.known
 
 pub returns-in_default-clause-extends : goal.returns-in_default-clause-extends
-returns-in_default-clause-extends c = never_told c.args.statements.now (tells c.args.recent.now.later.now) c.args.place
+returns-in_default-clause-extends c = never_reported c.args.statements.now (reports c.args.recent.now.later.now) c.args.place
     c.args.statement.now (map operation_view c.args.operations.now)

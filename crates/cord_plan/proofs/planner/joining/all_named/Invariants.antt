@@ -1,5 +1,5 @@
 use Rattle.std.proofs.Common.{◌≡◌, map, take}
-use Rattle.cord_plan.specs.Forced as plain
+use Rattle.cord_plan.specs.Inlined as plain
 use Rattle.cord_plan.specs.inner.Choices.{choice_view}
 use Rattle.cord_plan.proofs.planner.joining.all_named.Given as goal
 

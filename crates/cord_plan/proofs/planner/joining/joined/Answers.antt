@@ -1,6 +1,6 @@
 use Rattle.std.proofs.Common.{ap, ◌∙◌}
-use Rattle.cord_plan.specs.Exprs.{Exprs, append, in_front, nothing}
-use Rattle.cord_plan.specs.Forced.{expr_of}
+use Rattle.cord_plan.specs.Exprs.{Exprs, append, preceding, nothing}
+use Rattle.cord_plan.specs.Inlined.{expr_of}
 use Rattle.cord_plan.specs.inner.Choices.{choice_view}
 use Rattle.cord_plan.proofs.Joined.{more_joined}
 use Rattle.cord_plan.proofs.planner.joining.joined.Goals as goal
@@ -8,5 +8,5 @@ use Rattle.cord_plan.proofs.planner.joining.joined.Goals as goal
 pub choices-preserved : goal.choices-preserved
 choices-preserved c =
     c.in_ok-members.ensures.made
-    ∙ (ap (λ (ms : Exprs). append ms (in_front (expr_of (choice_view c.choice-item.result)) nothing)) c.choices.invariant
+    ∙ (ap (λ (ms : Exprs). append ms (preceding (expr_of (choice_view c.choice-item.result)) nothing)) c.choices.invariant
     ∙ more_joined c.args.choices.now c.choices.choice-index c.choice-item.result c.choices-test.true c.choice-item.is)

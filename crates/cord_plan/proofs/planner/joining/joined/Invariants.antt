@@ -1,6 +1,6 @@
 use Rattle.std.proofs.Common.{◌≡◌, map, take}
 use Rattle.cord_plan.specs.Exprs.{members}
-use Rattle.cord_plan.specs.Forced.{expr_of}
+use Rattle.cord_plan.specs.Inlined.{expr_of}
 use Rattle.cord_plan.specs.inner.Choices.{choice_view}
 use Rattle.cord_plan.specs.Views.{members_view}
 use Rattle.cord_plan.proofs.planner.joining.joined.Given as goal

@@ -1,6 +1,6 @@
 use Rattle.std.proofs.Common.{map, pos, ◌∙◌}
 use Rattle.cord_operands.specs.declared.operands.Number.TheVariants.{Numeral}
-use Rattle.cord_plan.specs.Forced.{expr_of}
+use Rattle.cord_plan.specs.Inlined.{expr_of}
 use Rattle.cord_plan.specs.inner.Choices.{choice_view}
 use Rattle.cord_plan.specs.Views.{members_view, shared_view}
 use Rattle.cord_plan.proofs.Joined.{joined_more}

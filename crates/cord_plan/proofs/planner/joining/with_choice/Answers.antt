@@ -1,8 +1,8 @@
 use Rattle.std.proofs.Common.{ap}
-use Rattle.cord_plan.specs.Forced.{expr_of}
+use Rattle.cord_plan.specs.Inlined.{expr_of}
 use Rattle.cord_plan.specs.inner.Choices.{choice_view}
 use Rattle.cord_plan.specs.Views.{members_view, shared_view}
-use Rattle.cord_plan.specs.declared.planner.choosing.Choice.{Choice}
+use Rattle.cord_plan.specs.declared.planner.operand_choices.Choice.{Choice}
 use Rattle.cord_plan.proofs.Joined.{added_name}
 use Rattle.cord_plan.proofs.Sharing.{made_as}
 use Rattle.cord_plan.proofs.planner.joining.with_choice.Goals as goal

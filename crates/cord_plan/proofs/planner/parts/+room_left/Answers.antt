@@ -5,7 +5,7 @@ use Rattle.cord_plan.specs.Exprs.{parts, parts_of}
 use Rattle.cord_plan.specs.inner.Choices.{room_left}
 use Rattle.cord_plan.specs.Views.{expr_view, members_of, members_view, shared_view}
 use Rattle.cord_plan.proofs.ExprViews.{view-Name}
-use Rattle.cord_plan.proofs.Halves.{front_falls, halves_None, halves_Some, rest_falls}
+use Rattle.cord_plan.proofs.Halves.{prefix_falls, halves_None, halves_Some, rest_falls}
 use Rattle.cord_plan.proofs.PartSums.{none_for_more, room_for_more, parts_both, parts_member}
 use Rattle.cord_plan.proofs.MemberTexts.{weight, weights, member_there}
 use Rattle.cord_plan.proofs.planner.parts.+room_left.Goals as goal
@@ -22,7 +22,7 @@ room_left_all-room_left-after-requires t c =
 
 pub room_left_all-returns-in-None : goal.room_left_all-returns-in-None
 room_left_all-returns-in-None t c =
-    let told : c.match-expression.after ≡ room_left (parts (shared_view c.member-item.result)) c.loop-member.rest =
+    let reported : c.match-expression.after ≡ room_left (parts (shared_view c.member-item.result)) c.loop-member.rest =
     elim c.match-expression.branch [
       | room_left_all-in-Name w ↦ let view : shared_view c.member-item.result ≡ plain.name w.in-Name.field-0 =
           ap expr_view (sym c.as_ref-expression.ensures ∙ w.in-Name.is) ∙ view-Name w.in-Name.field-0 in search (rules, view)
@@ -34,11 +34,11 @@ room_left_all-returns-in-None t c =
     ≡ room_left (parts (shared_view c.member-item.result) + rest) c.loop-member.rest =
     c.loop-member.invariant ∙ ap (λ (n : ℕ). room_left n c.loop-member.rest)
     (parts_member c.args.members.now c.loop-member.member-index c.member-item.result c.loop-member-test.true c.member-item.is) in
-    none_for_more (parts (shared_view c.member-item.result)) rest c.loop-member.rest (sym c.in-None.is ∙ told) ∙ sym first
+    none_for_more (parts (shared_view c.member-item.result)) rest c.loop-member.rest (sym c.in-None.is ∙ reported) ∙ sym first
 
 pub room_left_all-loop-member-preserved : goal.room_left_all-loop-member-preserved
 room_left_all-loop-member-preserved t c =
-    let told : c.match-expression.after ≡ room_left (parts (shared_view c.member-item.result)) c.loop-member.rest =
+    let reported : c.match-expression.after ≡ room_left (parts (shared_view c.member-item.result)) c.loop-member.rest =
     elim c.match-expression.branch [
       | room_left_all-in-Name w ↦ let view : shared_view c.member-item.result ≡ plain.name w.in-Name.field-0 =
           ap expr_view (sym c.as_ref-expression.ensures ∙ w.in-Name.is) ∙ view-Name w.in-Name.field-0 in search (rules, view)
@@ -50,7 +50,7 @@ room_left_all-loop-member-preserved t c =
     ≡ room_left (parts (shared_view c.member-item.result) + rest) c.loop-member.rest =
     c.loop-member.invariant ∙ ap (λ (n : ℕ). room_left n c.loop-member.rest)
     (parts_member c.args.members.now c.loop-member.member-index c.member-item.result c.loop-member-test.true c.member-item.is) in
-    first ∙ room_for_more (parts (shared_view c.member-item.result)) rest c.loop-member.rest c.in-Some.less (sym c.in-Some.is ∙ told)
+    first ∙ room_for_more (parts (shared_view c.member-item.result)) rest c.loop-member.rest c.in-Some.less (sym c.in-Some.is ∙ reported)
 
 pub room_left_members-room_left_all-requires : goal.room_left_members-room_left_all-requires
 room_left_members-room_left_all-requires t c =
@@ -60,9 +60,9 @@ room_left_members-room_left_all-requires t c =
 
 pub room_left_members-room_left_members-requires : goal.room_left_members-room_left_members-requires
 room_left_members-room_left_members-requires t c =
-    let below : weights (members_view c.in-Some.front.now) + 1 < weights (members_view c.args.members.now) + 1 =
-    front_falls (members_view c.args.members.now) c.halves.result.0 c.halves.result.1.now c.halves.ensures.members
-    c.halves.ensures.after c.in-Some.front c.in-Some.is in
+    let below : weights (members_view c.in-Some.prefix.now) + 1 < weights (members_view c.args.members.now) + 1 =
+    prefix_falls (members_view c.args.members.now) c.halves.result.0 c.halves.result.1.now c.halves.ensures.members
+    c.halves.ensures.after c.in-Some.prefix c.in-Some.is in
     search (rules, below)
 
 pub room_left_members-room_left_all-requires-in-Some-room_left_members :
@@ -80,20 +80,20 @@ room_left_members-returns-in-None t c =
 
 pub room_left_members-returns-in-Some-room_left_members : goal.room_left_members-returns-in-Some-room_left_members
 room_left_members-returns-in-Some-room_left_members t c =
-    let front = members_view c.in-Some.front.now in
+    let prefix = members_view c.in-Some.prefix.now in
     let rest = members_of (map shared_view c.halves.result.1.now) in
     c.room_left_all-in-Some-room_left_members.ensures
-    ∙ sym (parts_both (members_view c.args.members.now) front rest c.args.room
+    ∙ sym (parts_both (members_view c.args.members.now) prefix rest c.args.room
     (halves_Some (members_view c.args.members.now) c.halves.result.0 c.halves.result.1.now c.halves.ensures.members
-    c.in-Some.front c.in-Some.is)
-    ∙ room_for_more (parts_of front) (parts_of rest) c.args.room c.in-Some-room_left_members.less
+    c.in-Some.prefix c.in-Some.is)
+    ∙ room_for_more (parts_of prefix) (parts_of rest) c.args.room c.in-Some-room_left_members.less
     (sym c.in-Some-room_left_members.is ∙ c.room_left_members.ensures))
 
 pub room_left_members-returns-in-None-room_left_members : goal.room_left_members-returns-in-None-room_left_members
 room_left_members-returns-in-None-room_left_members t c =
-    let front = members_view c.in-Some.front.now in
+    let prefix = members_view c.in-Some.prefix.now in
     let rest = members_of (map shared_view c.halves.result.1.now) in
-    none_for_more (parts_of front) (parts_of rest) c.args.room (sym c.in-None-room_left_members.is ∙ c.room_left_members.ensures)
-    ∙ sym (parts_both (members_view c.args.members.now) front rest c.args.room
+    none_for_more (parts_of prefix) (parts_of rest) c.args.room (sym c.in-None-room_left_members.is ∙ c.room_left_members.ensures)
+    ∙ sym (parts_both (members_view c.args.members.now) prefix rest c.args.room
     (halves_Some (members_view c.args.members.now) c.halves.result.0 c.halves.result.1.now c.halves.ensures.members
-    c.in-Some.front c.in-Some.is))
+    c.in-Some.prefix c.in-Some.is))

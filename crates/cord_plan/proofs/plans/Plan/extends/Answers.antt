@@ -2,14 +2,14 @@ use Rattle.std.proofs.Common.{◌≡◌, Bool, true, false, List, get_or, map, s
 use Rattle.cord_plan.specs.declared.operations.Operation.{Operation}
 use Rattle.cord_plan.specs.Extending.{Extends}
 use Rattle.cord_plan.specs.Views.{operation_view}
-use Rattle.cord_plan.proofs.Extending.{told_there}
+use Rattle.cord_plan.proofs.Extending.{reported_there}
 use Rattle.cord_plan.proofs.plans.Plan.extends.Goals as goal
 
 pub returns : goal.returns
 returns c = λ is.
     let place = c.args.place in
     let items = c.self.inside.extending.items in
-    let told : get_or items place false ≡ true =
-    ap (λ (xs : List Bool). get_or xs place false) (sym c.deref.ensures.value) ∙ (sym c.is_told.ensures ∙ is) in
+    let reported : get_or items place false ≡ true =
+    ap (λ (xs : List Bool). get_or xs place false) (sym c.deref.ensures.value) ∙ (sym c.is_reported.ensures ∙ is) in
     subst (λ (os : List Operation). Extends (map operation_view os) place) c.self.view_is
-    (c.self.invariant.extending place (told_there items place told))
+    (c.self.invariant.extending place (reported_there items place reported))

@@ -2,7 +2,7 @@ use Rattle.std.proofs.Common.{List, sym, subst}
 use Rattle.std.specs.Prelude.{All}
 use Rattle.cord_plan.specs.Verbatim.{KeepsNoOther}
 use Rattle.cord_plan.specs.Planned.{Operation}
-use Rattle.cord_plan.proofs.Kept.{trivial_keeps}
+use Rattle.cord_plan.proofs.MeaningKept.{trivial_keeps}
 use Rattle.cord_plan.proofs.OnlyKept.{kept_trivial}
 use Rattle.cord_plan.proofs.plans.Plan.trivial.Goals as goal
 
@@ -11,7 +11,7 @@ of-requires-2 c =
     record {
       kept = subst (λ (os : List Operation). All KeepsNoOther os) (sym c.in_ok-operations.ensures.made)
           (kept_trivial c.statements-statements.result.now);
-      extending = rw c.new.ensures.items (λ place told. let bad : ⊥ = cc in absurd bad);
+      extending = rw c.new.ensures.items (λ place reported. let bad : ⊥ = cc in absurd bad);
       distinct = c.into_names.ensures;
     }
 

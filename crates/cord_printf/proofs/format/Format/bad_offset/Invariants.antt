@@ -5,7 +5,7 @@ use Rattle.cord_printf.proofs.format.Format.bad_offset.Given as goal
 
 abbrev pub invariant-pieces : goal.invariant-pieces
 invariant-pieces l = record {
-  split : (front : List ℕ) × (l.bytes ≡ front ++ l.rest);
+  split : (prefix : List ℕ) × (l.bytes ≡ prefix ++ l.rest);
   read : (pieces : List Piece) × HasPieces l.bytes pieces l.rest;
 }
 

@@ -4,7 +4,7 @@ use Rattle.cord_printf.proofs.format.Format.parse.Given as goal
 
 abbrev pub invariant-pieces : goal.invariant-pieces
 invariant-pieces l = record {
-  split : (front : List ℕ) × (l.bytes ≡ front ++ l.rest);
+  split : (prefix : List ℕ) × (l.bytes ≡ prefix ++ l.rest);
   read : HasPieces l.bytes l.pieces.items l.rest;
 }
 

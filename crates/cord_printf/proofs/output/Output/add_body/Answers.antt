@@ -1,10 +1,10 @@
 use Rattle.std.proofs.Common.{◌≤◌, ◌∙◌, ℕ, List, [], ◌∷◌, ◌++◌, ap, length, refl, subst, sym}
 use Rattle.std.specs.Prelude.{IfOk}
-use Rattle.cord_node.specs.Kept.{Part}
+use Rattle.cord_node.specs.PartsFrom.{Part}
 use Rattle.cord_ec.specs.Gathered.{leaf_bytes}
-use Rattle.cord_printf.specs.declared.shown.Body.{Body}
+use Rattle.cord_printf.specs.declared.piece_text.Body.{Body}
 use Rattle.cord_printf.specs.Own.{IsPrintedFrom}
-use Rattle.cord_printf.specs.inner.Shown.{body_own, body_parts}
+use Rattle.cord_printf.specs.inner.PieceLayouts.{body_own, body_parts}
 use Rattle.cord_printf.proofs.Owned.{bare_from, each_byte, when_ok}
 use Rattle.cord_printf.proofs.output.Output.add_body.Goals as goal
 

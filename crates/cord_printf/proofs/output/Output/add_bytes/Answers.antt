@@ -1,9 +1,9 @@
 use Rattle.std.proofs.Common.{◌≤◌, ◌∙◌, ℕ, List, ◌++◌, length, length-append, ap, subst, sym, arith}
 use Rattle.arrayvec.specs.ArrayVec.{ArrayVec}
-use Rattle.cord_node.specs.Kept.{Part}
+use Rattle.cord_node.specs.PartsFrom.{Part}
 use Rattle.cord_ec.specs.Gathered.{Growth, Gathered, leaf_bytes, leaf_parts}
 use Rattle.cord_printf.specs.Own.{IsPrintedFrom}
-use Rattle.cord_printf.specs.inner.Shown.{parts_in}
+use Rattle.cord_printf.specs.inner.PieceLayouts.{parts_in}
 use Rattle.cord_printf.proofs.Owned.{grown_from, tail_from, went_well, went_wrong, when_ok}
 use Rattle.cord_printf.proofs.output.Output.add_bytes.Goals as goal
 

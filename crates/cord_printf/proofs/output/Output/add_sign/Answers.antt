@@ -1,6 +1,6 @@
 use Rattle.std.proofs.Common.{◌≤◌, ℕ, List, [], ◌∷◌, length, subst, sym, arith}
 use Rattle.std.specs.Prelude.{Option, IfOk, option_to_list}
-use Rattle.cord_node.specs.Kept.{Part}
+use Rattle.cord_node.specs.PartsFrom.{Part}
 use Rattle.cord_ec.specs.Gathered.{leaf_bytes}
 use Rattle.cord_printf.specs.Own.{IsPrintedFrom}
 use Rattle.cord_printf.proofs.Owned.{same_from, when_ok}

@@ -7,5 +7,5 @@ append-requires-clause-few c =
     let newest = c.copy_in-else-bytes-room.ensures.newest in
     let now = c.copy_in-else-bytes-room.ensures.len in let more = c.in_ok-fresh.ensures.len in let some = c.in_ok-fresh.ensures.some in
     let count = c.count.ensures in
-    let front = c.split_at.ensures.front_len in let back = c.split_at.ensures.back_len in let over = c.if-bytes-room.false in
+    let prefix = c.split_at.ensures.front_len in let back = c.split_at.ensures.back_len in let over = c.if-bytes-room.false in
     omega arith

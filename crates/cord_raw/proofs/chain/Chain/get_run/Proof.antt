@@ -69,12 +69,12 @@ get_run_spec 𝓤 𝓛 𝓜 𝓡 wired =
     f.Key.name fn (code.unfolded 𝓤 𝓛.H 𝓜 𝓡 wired)
     (λ κs. (shr_vals, ((λ p. place_val p ∷ []), (uint_vals w64, (mut_slice_vals, tt)))))
     (λ κs. (shr_Tells (named 0) κs.0 C, (place_laws.lowers.val_is, (uint_Tells w64, (mut_slice_Tells (named 1) κs.1.0 u8, tt)))))
-    (λ κs qs bounds a told are.
+    (λ κs qs bounds a reported are.
     let κ = κs.0 in let q = qs.0 in let κ' = κs.1.0 in let q' = qs.1.0 in let d = a.0.now in let p = a.1.0 in let start : ℕ = a.1.1.0 in
     let out = a.1.1.1.0 in let n : ℕ = length out.now in
     let x : Block = block_at d p.index in let vals : List Val × (List Val × (List Val × (List Val × Unit {0}))) =
     (shr_vals a.0, (place_val p ∷ [], (uint_vals w64 start, (mut_slice_vals out, tt)))) in
-    let y : W.Ghost = ((κs, qs, bounds, a, vals), told) in
+    let y : W.Ghost = ((κs, qs, bounds, a, vals), reported) in
     let Asks : Type 0 = IsPlaceOf d p × (start + n ≤ length (text_of x)) in
     qed 𝓛 (((‵ (flft κ q) ⊛ ‵ (flft κ' q') ⊛ ‵ ftrue) ⊛ ‵ (owns (ShrRef (named 0) κ C ∷ P ∷ usize ∷ MutSlice (named 1) κ' u8 ∷ []) a vals))
     ∷ raw (fact 𝓤 Asks) ∷ []) ∵

@@ -53,11 +53,11 @@ next_spec 𝓤 𝓛 𝓜 𝓡 wired =
     )
     f.Key.name fn (code.unfolded 𝓤 𝓛.H 𝓜 𝓡 wired)
     (λ κs. (shr_vals, ((λ p. place_val p ∷ []), tt))) (λ κs. (shr_Tells (named 0) κs.0 C, (place_laws.lowers.val_is, tt)))
-    (λ κs qs bounds a told are.
+    (λ κs qs bounds a reported are.
     let κ = κs.0 in let q = qs.0 in let cb = a.0.ref_ptr.0 in let co = a.0.ref_ptr.1 in let d = a.0.now in let this = a.1.0 in
     let i : ℕ = this.index in let x : Block = block_at d i in
     let vals : List Val × (List Val × Unit {0}) = (shr_vals a.0, (place_val this ∷ [], tt)) in let y : W.Ghost =
-    ((κs, qs, bounds, a, vals), told) in
+    ((κs, qs, bounds, a, vals), reported) in
     let Asks : Type 0 = IsPlaceOf d this × (i < length d.older) in let Blocks = λ (r : Ptr). chain_lent d.first d.older r d.newest κ in
     qed 𝓛 (((‵ (flft κ q) ⊛ ‵ ftrue) ⊛ ‵ (owns (ShrRef (named 0) κ C ∷ P ∷ []) a vals)) ∷ raw (fact 𝓤 Asks) ∷ []) ∵
     move ! (1 ∷ []) $ heard ! Asks (λ asked. split ! $ split ! $ move ! (2 ∷ []) $ fsplit ! $ fsplit ! $ drop ! $ keep ! (0 ∷ 2 ∷ []) $

@@ -61,11 +61,11 @@ put_run_spec 𝓤 𝓛 𝓜 𝓡 wired =
     )
     f.Key.name fn (code.unfolded 𝓤 𝓛.H 𝓜 𝓡 wired)
     (λ κs. (mut_vals, (shr_slice_vals, tt))) (λ κs. (mut_Tells (named 0) κs.0 C, (shr_slice_Tells (named 1) κs.1.0 u8, tt)))
-    (λ κs qs bounds a told are.
+    (λ κs qs bounds a reported are.
     let κ = κs.0 in let q = qs.0 in let κ' = κs.1.0 in let q' = qs.1.0 in
     let ab = a.0.ref_ptr.0 in let ao = a.0.ref_ptr.1 in let d = a.0.now in let x : Block = d.newest in let vs = mut_vals a.0 in
     let src = a.1.0 in let run : List ℕ = src.now in let n : ℕ = length run in let ws = shr_slice_vals src in
-    let y : W.Ghost = ((κs, qs, bounds, a, (vs, (ws, tt))), told) in
+    let y : W.Ghost = ((κs, qs, bounds, a, (vs, (ws, tt))), reported) in
     qed 𝓛 (((‵ (flft κ q) ⊛ ‵ (flft κ' q') ⊛ ‵ ftrue) ⊛ ‵ (owns (MutRef (named 0) κ C ∷ ShrSlice (named 1) κ' u8 ∷ []) a (vs, (ws, tt))))
     ∷ raw (fact 𝓤 (x.len + n ≤ ROOM)) ∷ []) ∵
     move ! (1 ∷ []) $ heard ! (x.len + n ≤ ROOM) (λ room. split ! $ split3 ! $ move ! (3 ∷ []) $ fsplit ! $ move !

@@ -39,8 +39,8 @@ abbrev stayed : Stays f.ended.signature.params f.ended.kept
 stayed = (stay_ref (0 ∷ []) tt (plain (λ _. C)), tt)
 
 -- the first block of a chain alone
-abbrev front : Chain → Block → Chain
-front d x = record { first = d.first; last = d.first; count = 1; older = []; newest = x; leads = refl; counted = refl; few = lit< tt }
+abbrev prefix : Chain → Block → Chain
+prefix d x = record { first = d.first; last = d.first; count = 1; older = []; newest = x; leads = refl; counted = refl; few = lit< tt }
 
 -- and the others
 abbrev rest : (d : Chain) (x : Block) (xs : List Block) → d.older ≡ x ∷ xs → Chain
@@ -67,7 +67,7 @@ unlink_spec 𝓤 𝓛 𝓜 𝓡 wired =
     move ! (1 ∷ []) $ heard ! (0 < length d.older) (λ more. split ! $ split ! $ move ! (2 ∷ []) $ fsplit ! $ keep ! (0 ∷ 2 ∷ []) $
     -- [self; the token]
     let parts = uncons d.older more in let x = parts.0 in let xs = parts.1 in let e' = parts.2 in let given = rest d x xs e' in
-    let kept = front d x in
+    let kept = prefix d x in
     let counted = d.counted in let least : 1 ≤ d.count = omega arith in
     enter ! _ _ _ _ _ $ alloc_all ! (λ l. pass_all ! refl ((tt, tt), tt) $
     fsplit3 ! $ move ! (1 ∷ 2 ∷ 3 ∷ []) $ opens ! tt C ab ao (λ us. move ! (1 ∷ []) $ unpacks ! d us (λ word. fsplit ! $

@@ -1,10 +1,10 @@
 use Rattle.std.proofs.Common.{◌≡◌}
-use Rattle.cord_run.specs.inner.Joins.{AreInFront}
+use Rattle.cord_run.specs.inner.Joins.{ArePreceding}
 use Rattle.cord_run.proofs.expressions.joins.short_leaves.Given as goal
 
 -- the cords so far are in front
 abbrev pub invariant-loop-cord : goal.invariant-loop-cord
 invariant-loop-cord l = record {
-  front : AreInFront l.cords l.cord-index l.bytes.items;
+  prefix : ArePreceding l.cords l.cord-index l.bytes.items;
   counted : l.count ≡ l.cord-index;
 }

@@ -6,11 +6,11 @@ use Rattle.cord_plan.specs.Views.{expr_view, members_view, shared_view}
 use Rattle.cord_plan.proofs.ExprViews.{view-Cat, view-Name}
 use Rattle.cord_meaning.specs.declared.ends.FaultKind.{FaultKind}
 use Rattle.cord_meaning.specs.State.{and_then}
-use Rattle.cord_plan.proofs.Halves.{front_falls, halves_Some, rest_falls}
+use Rattle.cord_plan.proofs.Halves.{prefix_falls, halves_Some, rest_falls}
 use Rattle.cord_run.specs.declared.expressions.lengths.Named.{Named}
 use Rattle.cord_run.specs.inner.Entries.{length_in}
 use Rattle.cord_run.specs.inner.Extents.{counted, extent_in, members_extent, members_seen}
-use Rattle.cord_run.proofs.Fronts.{all_counted}
+use Rattle.cord_run.proofs.Prefixes.{all_counted}
 use Rattle.cord_run.proofs.Members.{weight, weights, member_counted, member_smaller, member_faulty, resolve_all, counted_length}
 use Rattle.cord_run.proofs.Refusals.{handed_on}
 use Rattle.cord_run.proofs.expressions.lengths.+length_of.Goals as goal
@@ -43,13 +43,13 @@ length_after-loop-member-preserved t c =
     elim c.match-expression.branch [
       | length_after-in-Name w ↦
           let len = w.with_length-known.result.len in
-          let told : extent_in entries (expr_view c.as_ref-expression.result.now) ≡ Ok len =
+          let reported : extent_in entries (expr_view c.as_ref-expression.result.now) ≡ Ok len =
           ap (λ (e : plain.Expr). extent_in entries e) (ap expr_view w.in-Name.is ∙ view-Name w.in-Name.name)
           ∙ ap (λ (n : ℕ). Ok n) (sym w.with_length-known.ensures.len) in
           record {
             extent = c.loop-member.invariant.extent
                 ∙ member_counted entries ms i c.member-item.result c.loop-member-test.true c.member-item.is c.loop-member.total len
-                (seen ∙ told)
+                (seen ∙ reported)
                 ∙ ap (λ (n : ℕ). counted n left) (sym (w.total-is ∙ w.saturating_add-total.ensures));
             small = search rules;
             known = subst (λ (last : Option Named). IfSome last (λ known. known.len ≡ length_in entries known.name.now)) (sym w.last-is)
@@ -83,9 +83,9 @@ length_after-returns t c =
 
 pub length_of_members-length_of_members-requires : goal.length_of_members-length_of_members-requires
 length_of_members-length_of_members-requires t c =
-    let below : weights (members_view c.in-Some.front.now) + 1 < weights (members_view c.args.members.now) + 1 =
-    front_falls (members_view c.args.members.now) c.halves.result.0 c.halves.result.1.now c.halves.ensures.members
-    c.halves.ensures.after c.in-Some.front c.in-Some.is in
+    let below : weights (members_view c.in-Some.prefix.now) + 1 < weights (members_view c.args.members.now) + 1 =
+    prefix_falls (members_view c.args.members.now) c.halves.result.0 c.halves.result.1.now c.halves.ensures.members
+    c.halves.ensures.after c.in-Some.prefix c.in-Some.is in
     search (rules, below)
 
 pub length_of_members-length_after-requires-in-Some : goal.length_of_members-length_after-requires-in-Some
@@ -97,23 +97,23 @@ length_of_members-length_after-requires-in-Some t c =
 pub length_of_members-returns-in_ok-total-in-Some : goal.length_of_members-returns-in_ok-total-in-Some
 length_of_members-returns-in_ok-total-in-Some t c =
     let entries = c.args.store.now.entries.items in
-    let front = members_view c.in-Some.front.now in
+    let prefix = members_view c.in-Some.prefix.now in
     let rest = members_seen c.halves.result.1.now in
     let whole = halves_Some (members_view c.args.members.now) c.halves.result.0 c.halves.result.1.now c.halves.ensures.members
-    c.in-Some.front c.in-Some.is in
+    c.in-Some.prefix c.in-Some.is in
     c.length_after-in-Some.ensures
-    ∙ sym (ap (λ (es : plain.Exprs). counted 0 (members_extent entries es)) whole ∙ all_counted entries front rest
+    ∙ sym (ap (λ (es : plain.Exprs). counted 0 (members_extent entries es)) whole ∙ all_counted entries prefix rest
     ∙ ap (λ (r : Result ℕ FaultKind). and_then r (λ total. counted total (members_extent entries rest)))
     (sym c.in_ok-total-in-Some.ensures))
 
 pub length_of_members-returns-in_err-total-in-Some : goal.length_of_members-returns-in_err-total-in-Some
 length_of_members-returns-in_err-total-in-Some t c =
     let entries = c.args.store.now.entries.items in
-    let front = members_view c.in-Some.front.now in
+    let prefix = members_view c.in-Some.prefix.now in
     let rest = members_seen c.halves.result.1.now in
     let whole = halves_Some (members_view c.args.members.now) c.halves.result.0 c.halves.result.1.now c.halves.ensures.members
-    c.in-Some.front c.in-Some.is in
-    sym (ap (λ (es : plain.Exprs). counted 0 (members_extent entries es)) whole ∙ all_counted entries front rest
+    c.in-Some.prefix c.in-Some.is in
+    sym (ap (λ (es : plain.Exprs). counted 0 (members_extent entries es)) whole ∙ all_counted entries prefix rest
     ∙ ap (λ (r : Result ℕ FaultKind). and_then r (λ total. counted total (members_extent entries rest)))
     (sym c.in_err-total-in-Some.ensures)
     ∙ handed_on c.in_err-total-in-Some.field-0.0 c.from_residual.result c.from_residual.ensures.1)

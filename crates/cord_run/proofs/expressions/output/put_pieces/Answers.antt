@@ -1,11 +1,11 @@
 use Rattle.std.proofs.Common.{◌≡◌, ◌++◌, ℕ, Result, sym, subst, ◌∙◌, refl}
 use Rattle.std.specs.Prelude.{Option}
-use Rattle.cord_io.specs.Device.{Folder}
+use Rattle.cord_io.specs.Device.{FileSystem}
 use Rattle.cord_io.specs.Table.{Table, Lengths}
 use Rattle.cord_io.specs.declared.faults.CordError.{CordError}
 use Rattle.cord_node.specs.declared.Node.{Node}
 use Rattle.cord_core.specs.Cord.{all_bytes, bytes_of, CordFitsIn}
-use Rattle.cord_iter.specs.Output.{Counts, CountsFaults, IsFrontOf, Takes}
+use Rattle.cord_iter.specs.Output.{Counts, CountsFaults, IsPrefixOf, Takes}
 use Rattle.cord_run.proofs.Output.{fits_at, puts_none, puts_next, puts_cut, puts_all}
 use Rattle.cord_run.proofs.Refusals.{handed_on}
 use Rattle.cord_run.specs.inner.Output.{Puts}
@@ -26,27 +26,28 @@ pub loop-piece-init : goal.loop-piece-init
 loop-piece-init g c = record {
   lengths = refl;
   table = refl;
-  earlier = λ folder agrees. agrees;
+  earlier = λ file_system agrees. agrees;
   source = refl;
   sink = refl;
   finished = refl;
-  puts = λ folder agrees. puts_none (g.R.Source.table c.args.source.now folder) c.args.pieces.now (g.S.Sink.taken c.args.sink.now);
+  puts = λ file_system agrees. puts_none (g.R.Source.table c.args.source.now file_system) c.args.pieces.now
+      (g.S.Sink.taken c.args.sink.now);
 }
 
 pub returns-in_err-put-clause-puts : goal.returns-in_err-put-clause-puts
-returns-in_err-put-clause-puts g c = λ folder agrees.
+returns-in_err-put-clause-puts g c = λ file_system agrees.
     let piece = c.piece-item.result in
     let a = g.S.Sink.taken c.args.sink.now in
     let b = g.S.Sink.taken c.loop-piece.sink in
     let d = g.S.Sink.taken c.put.new.sink in
-    let before = c.in_err-put.ensures.source.earlier folder agrees in
-    let t = g.R.Source.table c.args.source.now folder in
+    let before = c.in_err-put.ensures.source.earlier file_system agrees in
+    let t = g.R.Source.table c.args.source.now file_system in
     subst (λ (r : Result (Unit {0}) CordError). Puts (all_bytes t c.args.pieces.now) a d r)
     (handed_on c.in_err-put.field-0.0 c.from_residual.result c.from_residual.ensures.1)
     (puts_cut t c.args.pieces.now c.loop-piece.piece-index piece c.loop-piece-test.true
-    c.piece-item.is a b d (c.loop-piece.invariant.puts folder before)
-    (subst (λ (table : Folder → Table). Takes (IsFrontOf (bytes_of (table folder) piece)) b d) c.loop-piece.invariant.table
-    (c.in_err-put.ensures.prefix folder agrees)))
+    c.piece-item.is a b d (c.loop-piece.invariant.puts file_system before)
+    (subst (λ (table : FileSystem → Table). Takes (IsPrefixOf (bytes_of (table file_system) piece)) b d) c.loop-piece.invariant.table
+    (c.in_err-put.ensures.prefix file_system agrees)))
 
 pub returns-in_err-put-clause-faults : goal.returns-in_err-put-clause-faults
 returns-in_err-put-clause-faults g c =
@@ -67,18 +68,20 @@ loop-piece-preserved g c =
     record {
       lengths = c.in_ok-put.ensures.source.lengths ∙ c.loop-piece.invariant.lengths;
       table = c.in_ok-put.ensures.source.table ∙ c.loop-piece.invariant.table;
-      earlier = λ folder agrees. c.loop-piece.invariant.earlier folder (c.in_ok-put.ensures.source.earlier folder agrees);
+      earlier = λ file_system agrees. c.loop-piece.invariant.earlier file_system (c.in_ok-put.ensures.source.earlier file_system agrees);
       source = c.in_ok-put.ensures.faults.0 ∙ c.loop-piece.invariant.source;
       sink = c.in_ok-put.ensures.faults.1 ∙ c.loop-piece.invariant.sink;
       finished = c.in_ok-put.ensures.finished ∙ c.loop-piece.invariant.finished;
-      puts = λ folder agrees.
-          let before = c.in_ok-put.ensures.source.earlier folder agrees in
-          puts_next (g.R.Source.table c.args.source.now folder) c.args.pieces.now c.loop-piece.piece-index piece c.loop-piece-test.true
-          c.piece-item.is a b d (c.loop-piece.invariant.puts folder before)
-          (subst (λ (table : Folder → Table). d ≡ b ++ bytes_of (table folder) piece) c.loop-piece.invariant.table
-          (c.in_ok-put.ensures.text folder agrees));
+      puts = λ file_system agrees.
+          let before = c.in_ok-put.ensures.source.earlier file_system agrees in
+          puts_next (g.R.Source.table c.args.source.now file_system) c.args.pieces.now c.loop-piece.piece-index piece c.loop-piece-test.true
+          c.piece-item.is a b d (c.loop-piece.invariant.puts file_system before)
+          (subst (λ (table : FileSystem → Table). d ≡ b ++ bytes_of (table file_system) piece) c.loop-piece.invariant.table
+          (c.in_ok-put.ensures.text file_system agrees));
     }
 
 pub returns-clause-puts : goal.returns-clause-puts
-returns-clause-puts g c = λ folder agrees. puts_all (g.R.Source.table c.args.source.now folder) c.args.pieces.now c.loop-piece.piece-index
-    (g.S.Sink.taken c.args.sink.now) (g.S.Sink.taken c.loop-piece.sink) c.loop-piece-test.false (c.loop-piece.invariant.puts folder agrees)
+returns-clause-puts g c = λ file_system agrees. puts_all (g.R.Source.table c.args.source.now file_system) c.args.pieces.now
+    c.loop-piece.piece-index
+    (g.S.Sink.taken c.args.sink.now) (g.S.Sink.taken c.loop-piece.sink) c.loop-piece-test.false
+    (c.loop-piece.invariant.puts file_system agrees)

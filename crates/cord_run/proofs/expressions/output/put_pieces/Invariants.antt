@@ -1,5 +1,5 @@
 use Rattle.std.proofs.Common.{◌≡◌, ◌++◌, take}
-use Rattle.cord_io.specs.Device.{Folder}
+use Rattle.cord_io.specs.Device.{FileSystem}
 use Rattle.cord_core.specs.Cord.{all_bytes}
 use Rattle.cord_run.proofs.expressions.output.put_pieces.Given as goal
 
@@ -7,10 +7,10 @@ abbrev pub invariant-loop-piece : goal.invariant-loop-piece
 invariant-loop-piece g l = record {
   lengths : g.R.Source.lengths l.source ≡ g.R.Source.lengths l.initial.source;
   table : g.R.Source.table l.source ≡ g.R.Source.table l.initial.source;
-  earlier : (folder : Folder) → g.R.Source.keeps l.source folder → g.R.Source.keeps l.initial.source folder;
+  earlier : (file_system : FileSystem) → g.R.Source.consistent l.source file_system → g.R.Source.consistent l.initial.source file_system;
   source : g.R.Source.failures l.source ≡ g.R.Source.failures l.initial.source;
   sink : g.S.Sink.failures l.sink ≡ g.S.Sink.failures l.initial.sink;
   finished : g.S.Sink.finished l.sink ≡ g.S.Sink.finished l.initial.sink;
-  puts : (folder : Folder) → g.R.Source.keeps l.source folder → g.S.Sink.taken l.sink ≡ g.S.Sink.taken l.initial.sink
-      ++ all_bytes (g.R.Source.table l.initial.source folder) (take l.piece-index l.pieces);
+  puts : (file_system : FileSystem) → g.R.Source.consistent l.source file_system → g.S.Sink.taken l.sink ≡ g.S.Sink.taken l.initial.sink
+      ++ all_bytes (g.R.Source.table l.initial.source file_system) (take l.piece-index l.pieces);
 }

@@ -3,7 +3,7 @@ use Rattle.std.specs.Prelude.{Option}
 use Rattle.cord_io.specs.declared.TheConstants.{MAX_LEN}
 use Rattle.cord_node.specs.declared.Node.{Node}
 use Rattle.cord_core.specs.Cord.{all_bytes}
-use Rattle.cord_iter.specs.Output.{Counts, CountsFaults, IsFrontOf, Takes}
+use Rattle.cord_iter.specs.Output.{Counts, CountsFaults, IsPrefixOf, Takes}
 use Rattle.cord_plan.specs.Values.{text_in}
 use Rattle.cord_plan.specs.Views.{expr_view}
 use Rattle.cord_run.specs.declared.stops.Stop.{Stop}
@@ -21,24 +21,25 @@ returns-in-Some g c =
     let old = c.args.sink.now in
     let new = c.put_short.new.sink in
     let put = c.in-Some.put in
-    let told = c.in-Some.ensures.put in
+    let reported = c.in-Some.ensures.put in
     record {
-      wrote = λ folder agrees there. short_wrote g.S.Sink entries e old new put told (g.R.Source.table c.args.source.now folder) there;
-      counts = short_counts g.S.Sink entries e old new put told (g.R.Source.failures c.args.source.now);
-      finished = short_finished g.S.Sink entries e old new put told;
-      source = (refl, refl, λ folder agrees. agrees);
+      wrote = λ file_system agrees there. short_wrote g.S.Sink entries e old new put reported
+          (g.R.Source.table c.args.source.now file_system) there;
+      counts = short_counts g.S.Sink entries e old new put reported (g.R.Source.failures c.args.source.now);
+      finished = short_finished g.S.Sink entries e old new put reported;
+      source = (refl, refl, λ file_system agrees. agrees);
     }
 
 pub returns-in_err-pieces-in-None-clause-wrote : goal.returns-in_err-pieces-in-None-clause-wrote
-returns-in_err-pieces-in-None-clause-wrote g c = λ folder agrees there.
-    let t = g.R.Source.table c.args.source.now folder in
+returns-in_err-pieces-in-None-clause-wrote g c = λ file_system agrees there.
+    let t = g.R.Source.table c.args.source.now file_system in
     let a = g.S.Sink.taken c.args.sink.now in
     let b = g.S.Sink.taken c.put_short.new.sink in
     subst (λ (r : Result (Unit {0}) Stop). Wrote (text_in MAX_LEN (plain_of t c.args.store.now.entries.items)
     (expr_view c.args.expression.now)) a b r)
     (handed_on c.in_err-pieces-in-None.field-0.0 c.from_residual.result c.from_residual.ensures.1)
     (wrote_nothing c.args.store.now.entries.items (expr_view c.args.expression.now) (g.R.Source.lengths c.args.source.now) c.requires.over
-    a b t (g.met.R.Source.lengths_of_table c.args.source.now folder agrees) there c.in_err-pieces-in-None.field-0.0
+    a b t (g.met.R.Source.lengths_of_table c.args.source.now file_system agrees) there c.in_err-pieces-in-None.field-0.0
     c.in_err-pieces-in-None.ensures.refused (ap g.S.Sink.taken c.in-None.ensures.left))
 
 pub returns-in_err-pieces-in-None-clause-counts : goal.returns-in_err-pieces-in-None-clause-counts
@@ -55,17 +56,17 @@ pub returns-in_err-pieces-in-None-clause-finished : goal.returns-in_err-pieces-i
 returns-in_err-pieces-in-None-clause-finished g c = ap g.S.Sink.finished c.in-None.ensures.left
 
 pub returns-in-Ok-clause-wrote : goal.returns-in-Ok-clause-wrote
-returns-in-Ok-clause-wrote g c = λ folder agrees there.
-    let t = g.R.Source.table c.args.source.now folder in
+returns-in-Ok-clause-wrote g c = λ file_system agrees there.
+    let t = g.R.Source.table c.args.source.now file_system in
     let a = g.S.Sink.taken c.args.sink.now in
     let b = g.S.Sink.taken c.put_pieces.new.sink in
     let pieces = c.in_ok-pieces-in-None.pieces.items in
     let same = ap g.S.Sink.taken c.in-None.ensures.left in
     wrote_whole c.args.store.now.entries.items (expr_view c.args.expression.now) (g.R.Source.lengths c.args.source.now) c.requires.over a b
-    t (g.met.R.Source.lengths_of_table c.args.source.now folder (c.in-Ok.ensures.source.2 folder agrees)) there
+    t (g.met.R.Source.lengths_of_table c.args.source.now file_system (c.in-Ok.ensures.source.2 file_system agrees)) there
     pieces c.in_ok-pieces-in-None.ensures.whole (subst (λ (x : List ℕ). b ≡ x ++ all_bytes t pieces) same
     (subst (λ (ps : List (Option Node)). b ≡ g.S.Sink.taken c.put_short.new.sink ++ all_bytes t ps) c.deref.ensures.value
-    (c.in-Ok.ensures.puts folder agrees)))
+    (c.in-Ok.ensures.puts file_system agrees)))
 
 pub returns-in-Ok-clause-counts : goal.returns-in-Ok-clause-counts
 returns-in-Ok-clause-counts g c =
@@ -76,8 +77,8 @@ pub returns-in-Ok-clause-finished : goal.returns-in-Ok-clause-finished
 returns-in-Ok-clause-finished g c = c.in-Ok.ensures.finished ∙ ap g.S.Sink.finished c.in-None.ensures.left
 
 pub returns-clause-wrote : goal.returns-clause-wrote
-returns-clause-wrote g c = λ folder agrees there.
-    let t = g.R.Source.table c.args.source.now folder in
+returns-clause-wrote g c = λ file_system agrees there.
+    let t = g.R.Source.table c.args.source.now file_system in
     let a = g.S.Sink.taken c.args.sink.now in
     let b = g.S.Sink.taken c.put_pieces.new.sink in
     let pieces = c.in_ok-pieces-in-None.pieces.items in
@@ -85,11 +86,11 @@ returns-clause-wrote g c = λ folder agrees there.
     subst (λ (stop : Stop). Wrote (text_in MAX_LEN (plain_of t c.args.store.now.entries.items) (expr_view c.args.expression.now)) a b
     (Err stop)) (sym c.stop_of_failure.ensures)
     (wrote_part c.args.store.now.entries.items (expr_view c.args.expression.now) (g.R.Source.lengths c.args.source.now) c.requires.over a b
-    t (g.met.R.Source.lengths_of_table c.args.source.now folder (c.in-Err.ensures.source.2 folder agrees)) there
+    t (g.met.R.Source.lengths_of_table c.args.source.now file_system (c.in-Err.ensures.source.2 file_system agrees)) there
     pieces c.in-Err.error c.in_ok-pieces-in-None.ensures.whole
-    (subst (λ (x : List ℕ). Takes (IsFrontOf (all_bytes t pieces)) x b) same
-    (subst (λ (ps : List (Option Node)). Takes (IsFrontOf (all_bytes t ps)) (g.S.Sink.taken c.put_short.new.sink) b) c.deref.ensures.value
-    (c.in-Err.ensures.puts folder agrees))))
+    (subst (λ (x : List ℕ). Takes (IsPrefixOf (all_bytes t pieces)) x b) same
+    (subst (λ (ps : List (Option Node)). Takes (IsPrefixOf (all_bytes t ps)) (g.S.Sink.taken c.put_short.new.sink) b) c.deref.ensures.value
+    (c.in-Err.ensures.puts file_system agrees))))
 
 pub returns-clause-counts : goal.returns-clause-counts
 returns-clause-counts g c =

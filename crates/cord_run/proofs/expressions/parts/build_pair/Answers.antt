@@ -5,22 +5,23 @@ use Rattle.cord_run.proofs.Parts.{both, first_unbuilt, pair_built, pair_refused,
 use Rattle.cord_run.proofs.Refusals.{passed_on}
 use Rattle.cord_run.proofs.expressions.parts.build_pair.Goals as goal
 
-pub returns-in_err-front-clause-refused : goal.returns-in_err-front-clause-refused
-returns-in_err-front-clause-refused c =
+pub returns-in_err-prefix-clause-refused : goal.returns-in_err-prefix-clause-refused
+returns-in_err-prefix-clause-refused c =
     let entries = c.args.store.now.entries.items in
     let d = expr_view c.args.left.now in
     let e = expr_view c.args.right.now in
-    passed_on (IsUnbuilt entries (both entries d e)) c.in_err-front.field-0.0 c.from_residual.result
-    c.from_residual.ensures.1 (first_unbuilt entries d e c.in_err-front.field-0.0 c.in_err-front.ensures.refused)
+    passed_on (IsUnbuilt entries (both entries d e)) c.in_err-prefix.field-0.0 c.from_residual.result
+    c.from_residual.ensures.1 (first_unbuilt entries d e c.in_err-prefix.field-0.0 c.in_err-prefix.ensures.refused)
 
-pub returns-in_err-behind-clause-refused : goal.returns-in_err-behind-clause-refused
-returns-in_err-behind-clause-refused c =
+pub returns-in_err-suffix-clause-refused : goal.returns-in_err-suffix-clause-refused
+returns-in_err-suffix-clause-refused c =
     let entries = c.args.store.now.entries.items in
     let d = expr_view c.args.left.now in
     let e = expr_view c.args.right.now in
-    passed_on (IsUnbuilt entries (both entries d e)) c.in_err-behind.field-0.0 c.from_residual-in_err-behind.result
-    c.from_residual-in_err-behind.ensures.1
-    (second_unbuilt entries d e c.in_ok-front.front c.in_ok-front.ensures.built c.in_err-behind.field-0.0 c.in_err-behind.ensures.refused)
+    passed_on (IsUnbuilt entries (both entries d e)) c.in_err-suffix.field-0.0 c.from_residual-in_err-suffix.result
+    c.from_residual-in_err-suffix.ensures.1
+    (second_unbuilt entries d e c.in_ok-prefix.prefix c.in_ok-prefix.ensures.built c.in_err-suffix.field-0.0
+    c.in_err-suffix.ensures.refused)
 
 pub returns-in_err-both-clause-refused : goal.returns-in_err-both-clause-refused
 returns-in_err-both-clause-refused c =
@@ -29,11 +30,11 @@ returns-in_err-both-clause-refused c =
     let e = expr_view c.args.right.now in
     passed_on (IsUnbuilt entries (both entries d e)) (stop_of_cord c.in_err-both.field-0.0) c.from_residual-in_err-both.result
     c.from_residual-in_err-both.ensures.1
-    (pair_refused entries d e c.in_ok-front.front c.in_ok-behind.behind c.in_ok-front.ensures.built c.in_ok-behind.ensures.built
+    (pair_refused entries d e c.in_ok-prefix.prefix c.in_ok-suffix.suffix c.in_ok-prefix.ensures.built c.in_ok-suffix.ensures.built
     c.in_err-both.field-0.0 c.in_err-both.ensures.refused c.in_err-both.ensures.too_long)
 
 pub returns-clause-built : goal.returns-clause-built
 returns-clause-built c =
-    pair_built c.args.store.now.entries.items (expr_view c.args.left.now) (expr_view c.args.right.now) c.in_ok-front.front
-    c.in_ok-behind.behind c.in_ok-front.ensures.built c.in_ok-behind.ensures.built c.in_ok-both.both c.in_ok-both.ensures.over
-    c.in_ok-both.ensures.sound c.in_ok-both.ensures.kept c.in_ok-both.ensures.within_limit
+    pair_built c.args.store.now.entries.items (expr_view c.args.left.now) (expr_view c.args.right.now) c.in_ok-prefix.prefix
+    c.in_ok-suffix.suffix c.in_ok-prefix.ensures.built c.in_ok-suffix.ensures.built c.in_ok-both.both c.in_ok-both.ensures.over
+    c.in_ok-both.ensures.sound c.in_ok-both.ensures.parts_from c.in_ok-both.ensures.within_limit

@@ -18,7 +18,7 @@ returns-clause-built c =
     let count : to_z w64 (of_z w64 c.value_of-2.result) ≡ operand_in entries c.args.count.now =
     to_z-of_z w64 c.value_of-2.result count_fits ∙ c.value_of-2.ensures in
     let asked : as_byte (operand_in entries c.args.byte.now) ≡ Ok copies.byte = sym (λ i. as_byte (byte i)) ∙ c.in_ok-copies.ensures.byte in
-    let told : measured_copies MAX_LEN (operand_in entries c.args.byte.now) (operand_in entries c.args.count.now) ≡ Ok copies.count =
+    let reported : measured_copies MAX_LEN (operand_in entries c.args.byte.now) (operand_in entries c.args.count.now) ≡ Ok copies.count =
     sym (λ i. measured_copies MAX_LEN (byte i) (count i)) ∙ c.in_ok-copies.ensures.count in
-    run_built entries c.args.byte.now c.args.count.now copies.byte copies.count c.in_ok-cord.cord asked told c.in_ok-cord.ensures.over
+    run_built entries c.args.byte.now c.args.count.now copies.byte copies.count c.in_ok-cord.cord asked reported c.in_ok-cord.ensures.over
     c.in_ok-cord.ensures.sound

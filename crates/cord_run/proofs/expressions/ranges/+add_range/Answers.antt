@@ -6,7 +6,7 @@ use Rattle.cord_plan.specs.declared.expressions.Expr.{Expr}
 use Rattle.cord_plan.specs.Views.{expr_view, members_view, shared_view}
 use Rattle.cord_plan.proofs.ExprViews.{view-Name, view-Run, view-Cat, view-Sub}
 use Rattle.cord_run.specs.inner.Extents.{extent_in, members_extent, members_seen}
-use Rattle.cord_plan.proofs.Halves.{front_falls, halves_Some, rest_falls}
+use Rattle.cord_plan.proofs.Halves.{prefix_falls, halves_Some, rest_falls}
 use Rattle.cord_run.specs.inner.Ranges.{AddsExpression, AddsMembers, IsAfter}
 use Rattle.cord_run.proofs.Members.{weight, weights, member_smaller, members_left}
 use Rattle.cord_run.proofs.Ranges.{name_added, run_added, cat_added, cat_past, sub_added, sub_past}
@@ -165,9 +165,9 @@ add_all-returns-clause-past t c =
 
 pub add_members-add_members-requires : goal.add_members-add_members-requires
 add_members-add_members-requires t c =
-    let below : weights (members_view c.in-Some.front.now) + 1 < weights (members_view c.args.members.now) + 1 =
-    front_falls (members_view c.args.members.now) c.halves.result.0 c.halves.result.1.now c.halves.ensures.members
-    c.halves.ensures.after c.in-Some.front c.in-Some.is in
+    let below : weights (members_view c.in-Some.prefix.now) + 1 < weights (members_view c.args.members.now) + 1 =
+    prefix_falls (members_view c.args.members.now) c.halves.result.0 c.halves.result.1.now c.halves.ensures.members
+    c.halves.ensures.after c.in-Some.prefix c.in-Some.is in
     search (rules, below)
 
 pub add_members-add_all-requires-in-Some : goal.add_members-add_all-requires-in-Some
@@ -179,27 +179,27 @@ add_members-add_all-requires-in-Some t c =
 pub add_members-returns-in_ok-left-in-Some-clause-added : goal.add_members-returns-in_ok-left-in-Some-clause-added
 add_members-returns-in_ok-left-in-Some-clause-added t c =
     let entries = c.args.store.now.entries.items in
-    let front = members_view c.in-Some.front.now in
+    let prefix = members_view c.in-Some.prefix.now in
     let rest = members_seen c.halves.result.1.now in
     let old = c.args.pieces.now.items in
     let now = c.add_members.new.pieces.items in
     let next = c.add_all-in-Some.new.pieces.items in
     let whole = halves_Some (members_view c.args.members.now) c.halves.result.0 c.halves.result.1.now c.halves.ensures.members
-    c.in-Some.front c.in-Some.is in
+    c.in-Some.prefix c.in-Some.is in
     subst (λ (es : plain.Exprs). IfOk c.add_all-in-Some.result (λ _. AddsMembers entries es c.args.wanted old next)) (sym whole)
-    (still_ok c.add_all-in-Some.result (both_added entries front rest c.args.wanted c.in_ok-left-in-Some.left old now next
+    (still_ok c.add_all-in-Some.result (both_added entries prefix rest c.args.wanted c.in_ok-left-in-Some.left old now next
     c.in_ok-left-in-Some.ensures.added c.in_ok-left-in-Some.ensures.past) c.add_all-in-Some.ensures.added)
 
 pub add_members-returns-in_ok-left-in-Some-clause-past : goal.add_members-returns-in_ok-left-in-Some-clause-past
 add_members-returns-in_ok-left-in-Some-clause-past t c =
     let entries = c.args.store.now.entries.items in
-    let front = members_view c.in-Some.front.now in
+    let prefix = members_view c.in-Some.prefix.now in
     let rest = members_seen c.halves.result.1.now in
     let whole = halves_Some (members_view c.args.members.now) c.halves.result.0 c.halves.result.1.now c.halves.ensures.members
-    c.in-Some.front c.in-Some.is in
+    c.in-Some.prefix c.in-Some.is in
     subst (λ (es : plain.Exprs). IfOk c.add_all-in-Some.result (IsAfter (members_extent entries es) c.args.wanted)) (sym whole)
     (still_ok_by (IsAfter (members_extent entries rest) c.in_ok-left-in-Some.left)
-    (IsAfter (members_extent entries (plain.append front rest)) c.args.wanted) c.add_all-in-Some.result
-    (λ after past. wanted_after_both entries front rest c.args.wanted c.in_ok-left-in-Some.left after
+    (IsAfter (members_extent entries (plain.append prefix rest)) c.args.wanted) c.add_all-in-Some.result
+    (λ after past. wanted_after_both entries prefix rest c.args.wanted c.in_ok-left-in-Some.left after
     c.in_ok-left-in-Some.ensures.past past)
     c.add_all-in-Some.ensures.past)

@@ -18,10 +18,10 @@ returns-clause-added c =
     to_z-of_z w64 c.value_of.result byte_fits ∙ c.value_of.ensures in
     let count : to_z w64 (of_z w64 c.value_of-2.result) ≡ operand_in entries c.args.count.now =
     to_z-of_z w64 c.value_of-2.result count_fits ∙ c.value_of-2.ensures in
-    let told : measured_copies MAX_LEN (operand_in entries c.args.byte.now) (operand_in entries c.args.count.now)
+    let reported : measured_copies MAX_LEN (operand_in entries c.args.byte.now) (operand_in entries c.args.count.now)
     ≡ Ok c.in-Ok.copies.count =
     sym (λ i. measured_copies MAX_LEN (byte i) (count i)) ∙ c.in-Ok.ensures.count in
     let asked : as_byte (operand_in entries c.args.byte.now) ≡ Ok c.in-Ok.copies.byte =
     sym (λ i. as_byte (byte i)) ∙ c.in-Ok.ensures.byte in
     run_picked (operand_in entries c.args.byte.now) (operand_in entries c.args.count.now) c.args.wanted old c.in-Ok.copies.count
-    c.of-taken.result new told c.of-taken.ensures (c.in_ok-add_copies.ensures.added (operand_in entries c.args.byte.now) asked)
+    c.of-taken.result new reported c.of-taken.ensures (c.in_ok-add_copies.ensures.added (operand_in entries c.args.byte.now) asked)

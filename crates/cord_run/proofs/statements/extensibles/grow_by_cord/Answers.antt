@@ -3,7 +3,7 @@ use Rattle.cord_run.specs.declared.stops.Stop.{Stop}
 use Rattle.cord_run.specs.inner.Extensibles.{Becomes, longer_text}
 use Rattle.cord_io.specs.declared.TheConstants.{MAX_LEN}
 use Rattle.cord_node.specs.Tables.{lengths_of}
-use Rattle.cord_ec.specs.Grown.{bytes_over}
+use Rattle.cord_ec.specs.Grown.{bytes_of_cells}
 use Rattle.cord_run.specs.inner.Numbers.{text_over}
 use Rattle.cord_run.proofs.Extensibles.{cord_inside, cord_length, cord_text, grown_over, grown_becomes, grown_refused}
 use Rattle.cord_run.proofs.statements.extensibles.grow_by_cord.Goals as goal
@@ -27,7 +27,7 @@ returns-in-Ok-clause-becomes c =
     c.give.ensures.has c.give.ensures.refused (λ t over held.
     c.in-Ok.ensures.over.bytes t held (cord_inside c.args.name.now before before c.args.store.now.entries.items
     c.taken.new.store.entries.items c.taken.new.store.entries.items took c.args.operand.now c.cord_or.result.now c.cord_or.ensures
-    (lengths_of t) over) ∙ ap (λ (text : List ℕ). bytes_over t before ++ text)
+    (lengths_of t) over) ∙ ap (λ (text : List ℕ). bytes_of_cells t before ++ text)
     (cord_text c.args.name.now before before c.args.store.now.entries.items c.taken.new.store.entries.items
     c.taken.new.store.entries.items took c.args.operand.now c.cord_or.result.now c.cord_or.ensures t))
     (λ t over. subst (λ (n : ℕ). length before + n ≤ MAX_LEN)

@@ -17,12 +17,13 @@ pub returns-in-Len-clause-means : goal.returns-in-Len-clause-means
 returns-in-Len-clause-means c = λ t over line.
     let old = c.args.store.now.entries.items in
     let new = c.give_computed.new.store.entries.items in
-    let z : ℤ = to_z w64 (of_z w64 c.told_length-len.result) in
-    let fits : FitsSigned w64 c.told_length-len.result = search rules in
-    let told : z ≡ pos (length_in old c.in-Len.operand.now) = to_z-of_z w64 c.told_length-len.result fits ∙ c.told_length-len.ensures in
+    let z : ℤ = to_z w64 (of_z w64 c.reported_length-len.result) in
+    let fits : FitsSigned w64 c.reported_length-len.result = search rules in
+    let reported : z ≡ pos (length_in old c.in-Len.operand.now) = to_z-of_z w64 c.reported_length-len.result fits ∙
+    c.reported_length-len.ensures in
     subst (λ (f : Computation). MeansOver t (statement_of line (families.Computation f)) old new c.give_computed.result) (sym c.in-Len.is)
     (c.give_computed.ensures.means t (Len line c.in-Len.target.now c.in-Len.operand.now)
-    (len_finds t old line c.in-Len.target.now (Ok z) over c.in-Len.operand.now (ap (λ v. Ok v) (sym told))) refl)
+    (len_finds t old line c.in-Len.target.now (Ok z) over c.in-Len.operand.now (ap (λ v. Ok v) (sym reported))) refl)
 
 pub returns-in-Add-clause-means : goal.returns-in-Add-clause-means
 returns-in-Add-clause-means c = λ t over line.
@@ -40,7 +41,7 @@ returns-in-Add-clause-means c = λ t over line.
     subst (λ (f : Computation). MeansOver t (statement_of line (families.Computation f)) old new c.give_computed-in-Add.result)
     (sym c.in-Add.is)
     (c.give_computed-in-Add.ensures.means t (Add line target left right)
-    (sum_finds t old (Add line target left right) target z c.sum-sum.result (λ folder. refl) refl number) refl)
+    (sum_finds t old (Add line target left right) target z c.sum-sum.result (λ file_system. refl) refl number) refl)
 
 pub returns-in-Sub-clause-means : goal.returns-in-Sub-clause-means
 returns-in-Sub-clause-means c = λ t over line.
@@ -58,4 +59,4 @@ returns-in-Sub-clause-means c = λ t over line.
     subst (λ (f : Computation). MeansOver t (statement_of line (families.Computation f)) old new c.give_computed-in-Sub.result)
     (sym c.in-Sub.is)
     (c.give_computed-in-Sub.ensures.means t (Sub line target left right)
-    (sum_finds t old (Sub line target left right) target z c.difference-difference.result (λ folder. refl) refl number) refl)
+    (sum_finds t old (Sub line target left right) target z c.difference-difference.result (λ file_system. refl) refl number) refl)

@@ -3,7 +3,7 @@ use Rattle.std.specs.Prelude.{vec_len}
 use Rattle.cord_run.specs.declared.store.Content.TheVariants.{Whole}
 use Rattle.cord_run.specs.declared.store.Entry.{Entry}
 use Rattle.cord_run.specs.inner.Entries.{are_distinct, names_in, IsEntryAt, SameEntries}
-use Rattle.cord_run.proofs.Entries.{added_nothing, added_place, distinct_behind}
+use Rattle.cord_run.proofs.Entries.{added_nothing, added_place, distinct_after}
 use Rattle.cord_run.proofs.store.places.add.Goals as goal
 
 pub returns-clause-place : goal.returns-clause-place
@@ -26,4 +26,4 @@ returns-clause-distinct c =
     let entry : Entry = record { name = c.args.name; content = Whole None; number = pos 0; extensible = None } in
     let pushed : c.push.new.self.items ≡ c.args.entries.now.items ++ entry ∷ [] = search rules in
     subst (λ (es : List Entry). are_distinct (names_in es) ≡ true) (sym pushed)
-    (distinct_behind c.args.entries.now.items entry c.args.name refl c.requires.absent c.requires.distinct)
+    (distinct_after c.args.entries.now.items entry c.args.name refl c.requires.absent c.requires.distinct)

@@ -15,13 +15,13 @@ returns c =
     let fits-2 : FitsSigned w64 c.value_of-2.result = search rules in
     let fits-3 : FitsSigned w64 c.value_of-3.result = search rules in
     let fits-4 : FitsSigned w64 c.value_of-4.result = search rules in
-    let first_start : to_z w64 (of_z w64 c.value_of.result) ≡ operand_in entries form.front.start.now =
+    let first_start : to_z w64 (of_z w64 c.value_of.result) ≡ operand_in entries form.prefix.start.now =
     to_z-of_z w64 c.value_of.result fits ∙ c.value_of.ensures in
-    let first_count : to_z w64 (of_z w64 c.value_of-2.result) ≡ operand_in entries form.front.count.now =
+    let first_count : to_z w64 (of_z w64 c.value_of-2.result) ≡ operand_in entries form.prefix.count.now =
     to_z-of_z w64 c.value_of-2.result fits-2 ∙ c.value_of-2.ensures in
-    let last_start : to_z w64 (of_z w64 c.value_of-3.result) ≡ operand_in entries form.behind.start.now =
+    let last_start : to_z w64 (of_z w64 c.value_of-3.result) ≡ operand_in entries form.suffix.start.now =
     to_z-of_z w64 c.value_of-3.result fits-3 ∙ c.value_of-3.ensures in
-    let last_count : to_z w64 (of_z w64 c.value_of-4.result) ≡ operand_in entries form.behind.count.now =
+    let last_count : to_z w64 (of_z w64 c.value_of-4.result) ≡ operand_in entries form.suffix.count.now =
     to_z-of_z w64 c.value_of-4.result fits-4 ∙ c.value_of-4.ensures in
     record {
       inside = c.in_ok-place.ensures.within;

@@ -16,7 +16,7 @@ returns-in_err-len-clause-refused c =
     (unprinted c.args.store.now.entries.items c.args.format.now c.args.arguments.now c.deref.result.now
     (c.deref.ensures.value ∙ c.in_ok-args.ensures.made) c.in_err-len.field-0.0 c.in_err-len.ensures.refused)
 
-pub returns-clause-told : goal.returns-clause-told
-returns-clause-told c = printed_length c.args.store.now.entries.items c.args.format.now c.args.arguments.now c.deref.result.now
+pub returns-clause-reported : goal.returns-clause-reported
+returns-clause-reported c = printed_length c.args.store.now.entries.items c.args.format.now c.args.arguments.now c.deref.result.now
     (c.deref.ensures.value ∙ c.in_ok-args.ensures.made) c.in_ok-len.len c.in_ok-len.ensures.taken c.in_ok-len.ensures.length
     c.in_ok-len.ensures.within_limit

@@ -1,7 +1,7 @@
 use Rattle.std.proofs.Common.{◌≡◌, ℕ, ◌≤◌, ◌<◌, ◌-◌, ◌^◌, length, false, set, sym, ap, ◌∙◌, length-set, get_or, arith}
 use Rattle.std.proofs.lemmas.List.{map-set}
 use Rattle.cord_plan.specs.inner.Liveness.{finds}
-use Rattle.cord_plan.specs.inner.Marks.{bit, column, room}
+use Rattle.cord_plan.specs.inner.NameSets.{bit, column, room}
 use Rattle.cord_plan.proofs.Words.{room_less}
 use Rattle.cord_plan.proofs.Sweeps.{flow_partly, flow_resting, rests_from, rests_past}
 use Rattle.cord_plan.proofs.flow.liveness.Flow.sweep.Goals as goal
@@ -28,8 +28,9 @@ loop-p-preserved-then-word-here c =
     record {
       partly = record {
         size = length-set c.loop-p.words (c.loop-p.p - 1) c.flow_at-word.result ∙ c.loop-p.invariant.partly.size;
-        told = λ x i b. rw (map-set (λ w. bit w i) c.loop-p.words (c.loop-p.p - 1) c.flow_at-word.result)
-            (flow_partly c.args.self.now.statements.now x (column c.loop-p.words i) (c.loop-p.p - 1) (c.loop-p.invariant.partly.told x i b)
+        reported = λ x i b. rw (map-set (λ w. bit w i) c.loop-p.words (c.loop-p.p - 1) c.flow_at-word.result)
+            (flow_partly c.args.self.now.statements.now x (column c.loop-p.words i) (c.loop-p.p - 1)
+            (c.loop-p.invariant.partly.reported x i b)
             (bit c.flow_at-word.result i) (c.flow_at-word.ensures.bits x i b));
       };
       resting = λ e. let bad : ⊥ = cc in absurd bad;
@@ -54,7 +55,7 @@ pub returns : goal.returns
 returns c = record {
   partly = c.loop-p.invariant.partly;
   live = λ e x i b. record {
-    partly = c.loop-p.invariant.partly.told x i b;
+    partly = c.loop-p.invariant.partly.reported x i b;
     resting = λ p. c.loop-p.invariant.resting e x i b p (omega arith);
   };
   fewer = c.loop-p.invariant.fewer;

@@ -4,10 +4,10 @@ use Rattle.std.proofs.lemmas.Option.{get_or_from_slice_get}
 use Rattle.cord_syntax.specs.declared.statements.Statement.{Statement}
 use Rattle.cord_plan.specs.Operands.{assigns, read_by, reads, target_of}
 use Rattle.cord_plan.specs.inner.Liveness.{at}
-use Rattle.cord_plan.specs.inner.Marks.{column}
+use Rattle.cord_plan.specs.inner.NameSets.{column}
 use Rattle.cord_plan.specs.inner.Numbering.{IsNumbered}
 use Rattle.cord_plan.proofs.Numbers.{line_there}
-use Rattle.cord_plan.proofs.Words.{told_more, size_more}
+use Rattle.cord_plan.proofs.Words.{reported_more, size_more}
 use Rattle.cord_plan.proofs.Sweeps.{assigned_at, readers_partly}
 use Rattle.cord_plan.proofs.flow.liveness.Flow.words.Goals as goal
 
@@ -39,9 +39,9 @@ loop-place-preserved c =
         c.push_reserved-in-loop-place.ensures.len,
         c.push_reserved-in-loop-place.ensures.capacity,
       );
-      read = λ x i b. rw c.push_reserved.ensures.items (told_more (λ m. reads m x) s k l c.loop-place.read.items c.mark_all.result i
+      read = λ x i b. rw c.push_reserved.ensures.items (reported_more (λ m. reads m x) s k l c.loop-place.read.items c.mark_all.result i
           c.loop-place-test.true is (c.loop-place.invariant.read x i b) (c.mark_all.ensures t (read_by l) numbered.read x i b));
-      assigned = λ x i b. rw c.push_reserved-in-loop-place.ensures.items (told_more (λ m. assigns m x) s k l c.loop-place.assigned.items
+      assigned = λ x i b. rw c.push_reserved-in-loop-place.ensures.items (reported_more (λ m. assigns m x) s k l c.loop-place.assigned.items
           c.mark_target.result i c.loop-place-test.true is (c.loop-place.invariant.assigned x i b)
           (c.mark_target.ensures t (target_of l) numbered.target x i b));
     }
@@ -52,7 +52,7 @@ returns-clause-read c =
     let over : length s ≤ c.loop-place.place = omega arith in
     record {
       size = c.loop-place.invariant.readers ∙ omega arith;
-      told = λ x i b. readers_partly s x (column c.loop-place.read.items i) (c.loop-place.invariant.read x i b
+      reported = λ x i b. readers_partly s x (column c.loop-place.read.items i) (c.loop-place.invariant.read x i b
           ∙ ap (λ (ls : List Statement). map (λ m. reads m x) ls) (take_all c.loop-place.place s over));
     }
 
@@ -62,7 +62,7 @@ returns-clause-assigned c =
     let over : length s ≤ c.loop-place.place = omega arith in
     record {
       size = c.loop-place.invariant.setters ∙ omega arith;
-      told = λ x i b p. ap (λ (table : List Bool). at table p) (c.loop-place.invariant.assigned x i b
+      reported = λ x i b p. ap (λ (table : List Bool). at table p) (c.loop-place.invariant.assigned x i b
           ∙ ap (λ (ls : List Statement). map (λ m. assigns m x) ls) (take_all c.loop-place.place s over)) ∙ assigned_at s x p;
     }
 

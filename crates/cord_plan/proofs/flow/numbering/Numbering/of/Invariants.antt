@@ -9,5 +9,5 @@ abbrev pub invariant-loop-statement : goal.invariant-loop-statement
 invariant-loop-statement l = record {
   distinct : IsDistinct bytes_eq l.names.items;
   size : length l.lines.items ≡ l.statement-index;
-  told : LinesTo l.statements l.statement-index l.names.items l.read.items l.lines.items;
+  reported : LinesTo l.statements l.statement-index l.names.items l.read.items l.lines.items;
 }

@@ -1,8 +1,0 @@
-// What all rows share.
-use std::process::Abort;
-
-// That something holds of a row, which is told by its name and a number. Calls of this take a fraction of the proof
-// that a message of their own would take.
-pub(super) fn expect_row(rt: &impl Abort, holds: bool, name: &str, number: u64) {
-    assert!(rt; holds, "{name}: {number}");
-}

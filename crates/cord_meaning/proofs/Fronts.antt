@@ -1,9 +1,0 @@
--- The front of an entry.
-use Rattle.std.proofs.Common.{◌≡◌, ◌≤◌, ℕ, take, sym, arith}
-use Rattle.cord_io.specs.Entries.{text_of}
-use Rattle.cord_io.proofs.Entries.{range-text_of}
-
--- the first n bytes of a text of a function are its text of n bytes
-pub front_of_text : (f : ℕ → ℕ) (m n : ℕ) → n ≤ m → text_of f n ≡ take n (text_of f m)
-unfolding text_of
-front_of_text f m n le = sym (range-text_of f m 0 n (omega arith))

@@ -1,0 +1,151 @@
+-- On the way back over lines: which names they read before they assign them.
+use Rattle.std.proofs.Common.{◌≡◌, ◌⊎◌, ℕ, zero, suc, ◌+◌, ◌<◌, ◌≤◌, ◌==◌, Bool, true, false, ◌&&◌, ◌||◌}
+use Rattle.std.proofs.Common.{List, [], ◌∷◌, length, get_or, set}
+use Rattle.std.proofs.Common.{drop, Option, Some, None, inl, inr, refl, sym, ap, ◌∙◌, subst, arith, ◌*◌, ◌%◌, ◌^◌}
+use Rattle.std.specs.Prelude.{slice_get, option_map, is_some, if◌then◌else◌, replicate}
+use Rattle.std.specs.Int.{bit_at, w16}
+use Rattle.std.specs.Int.Bits.{or_zero_l}
+use Rattle.std.specs.Int.RustNames.{bit_or}
+use Rattle.std.proofs.Math.Bool.{and-false, and-true, or-false}
+use Rattle.std.proofs.Math.Nat.{eq-or-lt_of_le}
+use Rattle.std.proofs.lemmas.Bool.Decides.{eqb_tells}
+use Rattle.std.proofs.lemmas.Nat.Bits.{bit_at-zero, bit_at_set_same, bit_at_set_other}
+use Rattle.std.proofs.lemmas.Option.{slice_get-get_or}
+use Rattle.std.proofs.lemmas.List.{get_or-replicate, length-replicate}
+use Rattle.cord_syntax.specs.declared.statements.Statement.{Statement}
+use Rattle.cord_plan.specs.Operands.{assigns, has, read_by, reads, target_of}
+use Rattle.cord_plan.specs.inner.StraightLine.{AreAhead, AreBits, AreReportedFrom, IsLineLater, flow, is_noted, later_in}
+use Rattle.cord_plan.specs.inner.NameSets.{bit}
+use Rattle.cord_plan.specs.inner.Numbering.{names_of, number_in}
+use Rattle.cord_plan.specs.inner.Recent.{Notes, Puts, entry_at, entry_of, noted}
+use Rattle.cord_plan.specs.declared.flow.straight_line.LineLater.{LineLater}
+use Rattle.cord_plan.specs.declared.flow.numbering.Numbering.{Numbering}
+use Rattle.cord_plan.proofs.Choices.{simple_reads}
+use Rattle.cord_plan.proofs.Numbers.{Numbered, numbered, unnumbered}
+use Rattle.cord_plan.proofs.Recents.{set_apart, set_there}
+use Rattle.cord_plan.proofs.Words.{bit_or_is, bit_zero_is}
+
+-- behind the last line
+pub none_ahead : (t : Numbering) → AreAhead [] t (replicate (length (names_of t)) None)
+none_ahead t = record { known = λ x. (at_all x (has (names_of t) x) refl).0; reported = λ x. (at_all x (has (names_of t) x) refl).1 }
+  where
+    places : List (Option ℕ)
+    places = replicate (length (names_of t)) None
+
+    at_all : (x : List ℕ) (v : Bool) → has (names_of t) x ≡ v → (is_some (entry_of t places x) ≡ has (names_of t) x) ×
+        (is_noted (entry_of t places x) ≡ false)
+    at_all x false e = rw (unnumbered t x e, e) (refl, refl)
+    at_all x true e =
+        let found : Numbered t x = numbered t x e in
+        let none : get_or places found.number None ≡ None = get_or-replicate (length (names_of t)) found.number None None found.within in
+        let lt : found.number < length places = simp length-replicate found.within in
+        let there : slice_get places found.number ≡ Some None = slice_get-get_or places found.number None lt ∙ ap Some none in
+        rw (found.is, there, e) (refl, refl)
+
+-- what is noted for a name after one line more
+after_line : (known r a later : Bool) (p : ℕ) (e : Option (Option ℕ)) → is_some e ≡ known → is_noted e ≡ later → (r ≡ true → known ≡ true) →
+    (is_some (option_map (λ q. noted r p q) (option_map (λ q. if a then None else q) e)) ≡ known)
+    × (is_noted (option_map (λ q. noted r p q) (option_map (λ q. if a then None else q) e)) ≡ flow r later a)
+after_line known true a later p None k n named = let bad : ⊥ = cc (named refl) in absurd bad
+after_line known false a later p None k n named = (k, rw (sym n) refl)
+after_line known true a later p (Some q) k n named = (k, refl)
+after_line known false true later p (Some q) k n named = (k, sym (and-false later))
+after_line known false false later p (Some q) k n named = (k, n ∙ sym (and-true later))
+
+pub line_more : (t : Numbering) (l : Statement) (ls : List Statement) (p : ℕ) (old now new : List (Option ℕ)) →
+    ((x : List ℕ) → reads l x ≡ true → has (names_of t) x ≡ true) → Puts t (λ x. assigns l x) None old now →
+    Notes t (λ x. reads l x) p now new →
+    AreAhead ls t old → AreAhead (l ∷ ls) t new
+line_more t l ls p old now new named clears notes ahead = record { known = λ x. (at_all x).0; reported = λ x. (at_all x).1 }
+  where
+    at_all : (x : List ℕ) → (is_some (entry_of t new x) ≡ has (names_of t) x) × (is_noted (entry_of t new x) ≡ later_in (l ∷ ls) x)
+    at_all x = rw (notes x, clears x)
+        (after_line (has (names_of t) x) (reads l x) (assigns l x) (later_in ls x) p (entry_of t old x) (ahead.known x)
+        (ahead.reported x) (named x))
+
+-- the bit of an operand
+pub one_bit : (k i : ℕ) → k < 16 → bit (1 * 2 ^ k % 65536) i ≡ (i == k)
+one_bit k i within = elim (eqb_tells i k) [
+  | inl w ↦
+      let there : bit_at (1 * 2 ^ k % 2 ^ 16) k ≡ 1 = rw (or_zero_l (1 * 2 ^ k % 2 ^ 16)) at (bit_at_set_same w16 0 k within) in
+      rw (w.0, w.1, there) refl
+  | inr w ↦
+      let there : bit_at (1 * 2 ^ k % 2 ^ 16) i ≡ 0 =
+      rw (or_zero_l (1 * 2 ^ k % 2 ^ 16), bit_at-zero i) at (bit_at_set_other w16 0 k within i w.1) in
+      rw (w.0, there) refl
+]
+
+-- the bits of the names before a place, where those behind it are unset
+pub record BitsTo (holds : List ℕ → Bool) (xs : List (List ℕ)) (k w : ℕ) : Type 0 where
+  pub before : (i : ℕ) (x : List ℕ) → i < k → i < 16 → slice_get xs i ≡ Some x → bit w i ≡ holds x
+  pub suffix : (i : ℕ) → k ≤ i → bit w i ≡ false
+
+pub bits_start : (holds : List ℕ → Bool) (xs : List (List ℕ)) → BitsTo holds xs 0 0
+bits_start holds xs = record { before = λ i x lt within e. absurd (omega (arith, lt)); suffix = λ i le. bit_zero_is i }
+
+pub bits_more : (holds : List ℕ → Bool) (xs : List (List ℕ)) (k w v : ℕ) (x : List ℕ) (a : Bool) → slice_get xs k ≡ Some x → a ≡ holds x →
+    ((i : ℕ) → bit v i ≡ (a && (i == k))) → BitsTo holds xs k w → BitsTo holds xs (k + 1) (bit_or w v)
+bits_more holds xs k w v x a there is one bits = record {
+  before = λ i y lt within e. elim (eqb_tells i k) [
+    | inl q ↦
+        (let mine : slice_get xs k ≡ Some y = ap (λ (n : ℕ). slice_get xs n) (sym q.1) ∙ e in
+        let same : x ≡ y = cc in
+        let unset : bit w i ≡ false = bits.suffix i (omega (arith, q.1)) in
+        bit_or_is w v i ∙ rw (unset, one i, q.0) (and-true a ∙ (is ∙ ap holds same)))
+    | inr q ↦
+        (let early : i < k = let differ = q.1 in omega (arith, lt, differ) in
+        bit_or_is w v i
+        ∙ rw (one i, q.0) (ap (λ (b : Bool). bit w i || b) (and-false a) ∙ (or-false (bit w i) ∙ bits.before i y early within e)))
+  ];
+  suffix = λ i le. elim (eqb_tells i k) [
+    | inl q ↦ absurd (let same = q.1 in omega (arith, le, same))
+    | inr q ↦ bit_or_is w v i ∙ rw (one i, q.0, bits.suffix i (omega (arith, le))) (and-false a)
+  ];
+}
+
+-- what is asked of a line, by what is noted behind it
+pub line_is : (t : Numbering) (places : List (Option ℕ)) (ls : List Statement) (l : Statement) (line : LineLater) (target : Option ℕ) →
+    AreAhead ls t places → line.target ≡ is_noted (entry_at places target) → target ≡ number_in t (target_of l) →
+    AreBits (λ x. is_noted (entry_of t places x)) (read_by l) line.operands →
+    IsLineLater l (λ x. later_in ls x) line
+line_is t places ls l line target ahead reported number bits = record {
+  target = λ x e. reported ∙ (ap (λ (o : Option ℕ). is_noted (entry_at places o)) (number ∙ ap (λ (o : Option (List ℕ)). number_in t o) e)
+      ∙ ahead.reported x);
+  operands = λ xs e i x lt there. bits i x lt (ap (λ (ys : List (List ℕ)). slice_get ys i) (simple_reads l xs e) ∙ there) ∙ ahead.reported
+      x;
+}
+
+-- one line more is reported
+pub reported_more : (s : List Statement) (p q : ℕ) (lines : List LineLater) (line : LineLater) (l : Statement) → q ≡ p + 1 → p < length
+    lines →
+    slice_get s p ≡ Some l → IsLineLater l (λ x. later_in (drop q s) x) line → AreReportedFrom s q lines → AreReportedFrom s p
+    (set lines p line)
+reported_more s p q lines line l next within there reported before k m le e = by_place (eq-or-lt_of_le le)
+  where
+    here : IsLineLater l (λ x. later_in (drop (p + 1) s) x) line
+    here = subst (λ (n : ℕ). IsLineLater l (λ x. later_in (drop n s) x) line) next reported
+
+    by_place : (p ≡ k) ⊎ (p < k) → (found : LineLater) × (slice_get (set lines p line) k ≡ Some found)
+        × IsLineLater m (λ x. later_in (drop (k + 1) s) x) found
+    by_place (inl same) =
+        let mine : slice_get s p ≡ Some m = ap (λ (n : ℕ). slice_get s n) same ∙ e in
+        let is : l ≡ m = cc in (
+          line,
+          ap (λ (n : ℕ). slice_get (set lines p line) n) (sym same) ∙ set_there lines p line within,
+          subst (λ (n : ℕ). IsLineLater m (λ x. later_in (drop (n + 1) s) x) line) same
+              (subst (λ (j : Statement). IsLineLater j (λ x. later_in (drop (p + 1) s) x) line) is here),
+        )
+    by_place (inr less) =
+        let found : (found : LineLater) × (slice_get lines k ≡ Some found) × IsLineLater m (λ x. later_in (drop (k + 1) s) x) found =
+        before k m (omega (arith, less, next)) e in
+        (found.0, set_apart lines p k line (λ same. omega (arith, less, same)) ∙ found.1, found.2)
+
+pub from_place : (s : List Statement) (p q : ℕ) (l : Statement) → q ≡ p + 1 → slice_get s p ≡ Some l → l ∷ drop q s ≡ drop p s
+from_place s p q l next there =
+    let on : q ≡ suc p = omega (arith, next) in
+    ap (λ (n : ℕ). l ∷ drop n s) on ∙ at_place s p there
+  where
+    at_place : (s : List Statement) (p : ℕ) → slice_get s p ≡ Some l → l ∷ drop (suc p) s ≡ drop p s
+    at_place [] p e = let bad : ⊥ = cc in absurd bad
+    at_place (m ∷ s) zero e = let same : m ≡ l = cc in ap (λ (k : Statement). k ∷ s) (sym same)
+    at_place (m ∷ s) (suc p) e = at_place s p e

@@ -1,0 +1,12 @@
+use Rattle.std.proofs.Common.{List, ℕ}
+use Rattle.cord_plan.specs.inner.StraightLine.{is_noted}
+use Rattle.cord_plan.specs.inner.Numbering.{names_of}
+use Rattle.cord_plan.specs.inner.Places.{AreNumbers}
+use Rattle.cord_plan.specs.inner.Recent.{entry_of}
+use Rattle.cord_plan.specs.declared.flow.numbering.Numbering.{Numbering}
+use Rattle.cord_plan.proofs.StraightLine.{BitsTo}
+use Rattle.cord_plan.proofs.flow.straight_line.Ahead.operand_bits.Given as goal
+
+abbrev pub invariant-loop-index : goal.invariant-loop-index
+invariant-loop-index l = (t : Numbering) (xs : List (List ℕ)) → AreNumbers (names_of t) xs l.numbers →
+    BitsTo (λ x. is_noted (entry_of t l.self.read.items x)) xs l.index l.bits

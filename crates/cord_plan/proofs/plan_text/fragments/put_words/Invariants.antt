@@ -1,0 +1,13 @@
+use Rattle.std.proofs.Common.{◌≡◌, take, map, Ok}
+use Rattle.cord_io.specs.declared.faults.WriteFault.{WriteFault}
+use Rattle.cord_iter.specs.Output.{Writes}
+use Rattle.cord_plan.specs.PlanText.{spaced}
+use Rattle.cord_plan.specs.inner.Fragments.{fragment_text}
+use Rattle.cord_plan.proofs.Spacing.{blank_at}
+use Rattle.cord_plan.proofs.plan_text.fragments.put_words.Given as goal
+
+abbrev pub invariant-loop-word : goal.invariant-loop-word
+invariant-loop-word g l = record {
+  taken : Writes {E = WriteFault} g.W.Sink (spaced (map fragment_text (take l.word-index l.words))) l.initial.sink l.sink (Ok tt);
+  blank : l.blank ≡ blank_at l.word-index;
+}

@@ -1,7 +1,0 @@
-use Rattle.std.proofs.Common.{◌≡◌, map, drop}
-use Rattle.cord_plan.specs.inner.Choices.{room_left_by, choice_view}
-use Rattle.cord_plan.proofs.planner.choosing.room_left_by.Given as goal
-
-abbrev pub invariant-loop-choice : goal.invariant-loop-choice
-invariant-loop-choice l = room_left_by (map choice_view l.chosen) l.room
-    ≡ room_left_by (map choice_view (drop l.choice-index l.chosen)) l.rest

@@ -1,0 +1,19 @@
+use Rattle.std.proofs.Common.{◌≡◌, Some, length, refl, ap, ◌∙◌}
+use Rattle.std.specs.Prelude.{slice_get}
+use Rattle.std.proofs.lemmas.Option.{slice_get_read}
+use Rattle.cord_plan.specs.inner.Choices.{expression_in}
+use Rattle.cord_plan.proofs.Known.{facts_are}
+use Rattle.cord_plan.proofs.planner.expression_facts.Known.at.Goals as goal
+
+pub returns-in-Some-Some : goal.returns-in-Some-Some
+returns-in-Some-Some c = λ t table e known there.
+    let entry = c.in-Some-Some.entry in
+    let slot = c.in-Some-Some.field-0.now in
+    let entries = c.deref.result.now in
+    let lookup = c.in-Some-Some.ensures.lookup in
+    let read : slice_get entries c.in_ok-number.field-0 ≡ Some slot = slice_get_read entries (length entries) c.in_ok-number.field-0 slot refl lookup.3.0
+    lookup.1 in
+    let found : slice_get c.args.self.now.entries.items c.in_ok-number.field-0 ≡ Some (Some entry) =
+    rw (← c.deref.ensures.value, ← c.in-Some-Some.field-0-is) read in
+    facts_are t (expression_in table entry.place) e entry.facts (known c.in_ok-number.field-0 entry found)
+    (ap (expression_in table) c.if-entry-place.true ∙ there)

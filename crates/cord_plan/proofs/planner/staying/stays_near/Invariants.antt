@@ -1,9 +1,0 @@
-use Rattle.std.proofs.Common.{◌≡◌}
-use Rattle.cord_plan.specs.Exprs.{Expr, names}
-use Rattle.cord_plan.specs.inner.Known.{IsFacts}
-use Rattle.cord_plan.specs.inner.Recent.{stay}
-use Rattle.cord_plan.proofs.planner.staying.stays_near.Given as goal
-
-abbrev pub invariant-loop-p : goal.invariant-loop-p
-invariant-loop-p l = (e : Expr) → IsFacts l.line.recent.now.later.now.numbering e l.facts →
-    stay l.line.statements.now l.from l.line.place (names e) ≡ stay l.line.statements.now l.p l.line.place (names e)

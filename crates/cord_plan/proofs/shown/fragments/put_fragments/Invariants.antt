@@ -1,9 +1,0 @@
-use Rattle.std.proofs.Common.{take, Ok}
-use Rattle.cord_io.specs.declared.faults.WriteFault.{WriteFault}
-use Rattle.cord_iter.specs.Output.{Writes}
-use Rattle.cord_plan.specs.inner.Showing.{fragments_text}
-use Rattle.cord_plan.proofs.shown.fragments.put_fragments.Given as goal
-
-abbrev pub invariant-loop-fragment : goal.invariant-loop-fragment
-invariant-loop-fragment g l =
-    Writes {E = WriteFault} g.W.Sink (fragments_text (take l.fragment-index l.fragments)) l.initial.sink l.sink (Ok tt)

@@ -1,0 +1,18 @@
+-- The text of fragments of a plan's lines.
+use Rattle.std.specs.Prelude.{ℕ, List, [], ◌∷◌, ◌++◌}
+use Rattle.cord_plan.specs.PlanText.{decimal, number, quoted, argument_words}
+use Rattle.cord_plan.specs.declared.plan_text.fragments.Fragment.{Fragment}
+use Rattle.cord_plan.specs.declared.plan_text.fragments.Fragment.TheVariants.{Plain, Name, Count, Number, Path, Arguments}
+
+-- the text of a fragment
+abbrev pub fragment_text : Fragment → List ℕ
+fragment_text (Plain bytes) = bytes.now
+fragment_text (Name name) = name.now
+fragment_text (Count n) = decimal n
+fragment_text (Number operand) = number operand.now
+fragment_text (Path path) = quoted path.now
+fragment_text (Arguments arguments) = argument_words arguments.now
+
+abbrev pub fragments_text : List Fragment → List ℕ
+fragments_text [] = []
+fragments_text (f ∷ fs) = fragment_text f ++ fragments_text fs

@@ -1,5 +1,0 @@
-//! What is read, planned and run, row by row.
-mod faults;
-mod plans;
-mod runs;
-mod scripts;

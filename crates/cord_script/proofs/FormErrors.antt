@@ -1,0 +1,96 @@
+-- What is wrong with words where something is wanted of each is an error of their form.
+use Rattle.std.proofs.Common.{Some, None, ◌≡◌, ◌≤◌, ◌+◌, ℕ, List, [], ◌∷◌, refl, sym, ◌∙◌, ap, take, length}
+use Rattle.std.proofs.Common.{arith, eq-eqb, subst}
+use Rattle.std.specs.Prelude.{Option, replicate, nat_le}
+use Rattle.std.proofs.lemmas.Bool.{le-leb}
+use Rattle.std.proofs.lemmas.List.{take-replicate}
+use Rattle.cord_script.specs.declared.TheConstants.{MIN_PARTS, MAX_PARTS}
+use Rattle.cord_script.specs.declared.diagnosis.TheConstants.{JOINED, PRINTED}
+use Rattle.cord_script.specs.declared.kinds.Kind.TheVariants as kinds
+use Rattle.cord_script.specs.declared.kinds.Want.{Want}
+use Rattle.cord_script.specs.declared.kinds.Want.TheVariants as wants
+use Rattle.cord_script.specs.declared.verbs.FixedVerb.{FixedVerb}
+use Rattle.cord_script.specs.declared.words.Word.{Word}
+use Rattle.cord_script.specs.declared.refusals.RefusalKind.{RefusalKind}
+use Rattle.cord_script.specs.declared.refusals.RefusalKind.TheVariants.{WrongCount}
+use Rattle.cord_script.specs.Forms.{form_of}
+use Rattle.cord_script.specs.Forms.Shape.{Words, Joined, Printed}
+use Rattle.cord_script.specs.Forms.Effect.{Stays}
+use Rattle.cord_script.specs.Script.{Scope}
+use Rattle.cord_script.specs.FirstErrors.{first_of, unless, first_pair, first_misfit, cords, joined, HasFormat}
+use Rattle.cord_script.specs.FirstErrors.{HasFormError, arguments_error, argument_words, names_error, block_error}
+use Rattle.cord_script.specs.inner.Diagnosis.{wanted_error}
+use Rattle.cord_script.specs.inner.Verbal.{fixed_word, fixed_effect}
+use Rattle.cord_script.proofs.Unique.{within}
+
+-- a pair that is right is passed
+pub pair_passed : (test : Want → Word → Option RefusalKind) (all reported : Option RefusalKind) (xs more : List Want)
+    (ws suffix : List Word)
+    (x : Want) (w : Word) → all ≡ first_pair test xs ws → xs ≡ x ∷ more → ws ≡ w ∷ suffix → reported ≡ test x w → reported ≡ None →
+    all ≡ first_pair test more suffix
+pair_passed test all reported xs more ws suffix x w a e f t n =
+    a ∙ ap (λ k. first_pair test k ws) e ∙ ap (first_pair test (x ∷ more)) f
+    ∙ ap (λ k. first_of k (first_pair test more suffix)) (sym t ∙ n)
+
+-- a pair that is wrong is the first
+pub pair_wrong : (test : Want → Word → Option RefusalKind) (all reported : Option RefusalKind) (xs more : List Want) (ws suffix : List Word)
+    (x : Want) (w : Word) (kind : RefusalKind) → all ≡ first_pair test xs ws → xs ≡ x ∷ more → ws ≡ w ∷ suffix → reported ≡ test x w →
+    reported ≡ Some kind → Some kind ≡ all
+pair_wrong test all reported xs more ws suffix x w kind a e f t n =
+    sym (a ∙ ap (λ k. first_pair test k ws) e ∙ ap (first_pair test (x ∷ more)) f
+    ∙ ap (λ k. first_of k (first_pair test more suffix)) (sym t ∙ n))
+
+-- an error of words whose number is fixed
+pub words_error : (v : FixedVerb) (xs : List Want) (scope : Scope) (ws : List Word) (kind : RefusalKind) →
+    form_of (fixed_word v) ≡ Some (record { shape = Words xs; effect = fixed_effect v }) →
+    wanted_error (fixed_effect v) scope xs ws ≡ Some kind → HasFormError scope (form_of (fixed_word v)) ws kind
+words_error v xs scope ws kind is h = subst (λ form. HasFormError scope form ws kind) (sym is) (None, refl, h)
+
+cords_are : (ws : List Word) → replicate (length ws) (wants.Operand kinds.Cord) ≡ cords ws
+cords_are [] = refl
+cords_are (w ∷ ws) = ap (λ k. wants.Operand kinds.Cord ∷ k) (cords_are ws)
+
+joined_are : (ws : List Word) → length ws ≤ 1 + MAX_PARTS → take (length ws) JOINED ≡ joined ws
+joined_are [] few = refl
+joined_are (w ∷ ws) few = ap (λ k. wants.Target kinds.Cord ∷ k)
+    (take-replicate (length ws) MAX_PARTS (wants.Operand kinds.Cord) (omega (arith, few)) ∙ cords_are ws)
+
+joined_count : (ws : List Word) → length (joined ws) ≡ length ws
+joined_count [] = refl
+joined_count (w ∷ ws) = let r = cords_count ws in omega arith
+  where
+    cords_count : (vs : List Word) → length (cords vs) ≡ length vs
+    cords_count [] = refl
+    cords_count (v ∷ vs) = let r = cords_count vs in omega arith
+
+-- a target and 2 to 16 cords
+pub cords_error : (scope : Scope) (ws : List Word) (n : ℕ) (kind : RefusalKind) → n ≡ length ws → 1 + MIN_PARTS ≤ n → n ≤ 1 + MAX_PARTS →
+    wanted_error Stays scope (take n JOINED) ws ≡ Some kind → HasFormError scope (Some (record { shape = Joined; effect = Stays })) ws kind
+cords_error scope ws n kind e low high h =
+    let count = within (1 + MIN_PARTS) (1 + MAX_PARTS) (length ws) (omega (arith, e, low)) (omega (arith, e, high)) in
+    let same : take n JOINED ≡ joined ws = ap (λ k. take k JOINED) e ∙ joined_are ws (omega (arith, e, high)) in
+    let many = eq-eqb (length ws) (length (joined ws)) (sym (joined_count ws)) in
+    let rest = first_of (first_misfit (joined ws) ws) (first_of (names_error scope (joined ws) ws) (block_error Stays scope.blocks)) in (
+      None,
+      refl,
+      ap (λ b. first_of (unless b WrongCount) rest) count ∙ sym (ap (λ b. first_of (unless b WrongCount) rest) many)
+          ∙ sym (ap (λ xs. wanted_error Stays scope xs ws) same) ∙ h,
+    )
+
+-- with a target and a format the number of words is right
+counted : (ws : List Word) (rest : Option RefusalKind) → 2 ≤ length ws → first_of (unless (nat_le 2 (length ws)) WrongCount) rest ≡ rest
+counted ws rest some = ap (λ b. first_of (unless b WrongCount) rest) (le-leb 2 (length ws) some)
+
+-- the target or the format is wrong
+pub prefix_error : (scope : Scope) (ws : List Word) (formats : Option (List Want)) (kind : RefusalKind) → 2 ≤ length ws →
+    HasFormat Printed ws formats → first_misfit PRINTED ws ≡ Some kind → HasFormError scope
+    (Some (record { shape = Printed; effect = Stays })) ws kind
+prefix_error scope ws formats kind some has h = (
+  formats,
+  has,
+  counted ws _ some ∙ preceding (first_misfit PRINTED ws) (arguments_error formats (argument_words ws)) _ kind h,
+)
+  where
+    preceding : (a b c : Option RefusalKind) (k : RefusalKind) → a ≡ Some k → first_of (first_of a b) c ≡ Some k
+    preceding (Some j) b c k e = e
+    preceding None b c k e = cc

@@ -1,0 +1,591 @@
+-- Words say one statement, and then have no error.
+use Rattle.std.proofs.Common.{Some, None, ◌≡◌, ◌≤◌, ◌+◌, ℕ, suc, List, [], ◌∷◌, Bool, true, refl, sym, ◌∙◌, ap, subst, length, arith}
+use Rattle.std.proofs.Common.{eq-eqb}
+use Rattle.std.specs.Prelude.{Option, ◌==◌, map, codes, if◌then◌else◌}
+use Rattle.std.proofs.lemmas.Bool.{le-leb}
+use Rattle.std.specs.Str.{bytes_eq}
+use Rattle.cord_printf.specs.declared.pieces.Piece.{Piece}
+use Rattle.cord_printf.specs.Format.{IsFormat}
+use Rattle.cord_printf.specs.FormatLaws.{OneFormat, BadIsNoFormat}
+use Rattle.cord_script.specs.declared.TheConstants.{MAX_BLOCKS, MIN_PARTS, MAX_PARTS}
+use Rattle.cord_script.specs.declared.kinds.Kind.TheVariants as kinds
+use Rattle.cord_script.specs.declared.kinds.Want.{Want}
+use Rattle.cord_script.specs.declared.kinds.Want.TheVariants as wants
+use Rattle.cord_operands.specs.declared.operands.Argument.{Argument}
+use Rattle.cord_operands.specs.declared.operands.Argument.TheVariants as arguments
+use Rattle.cord_script.specs.declared.words.Word.{Word}
+use Rattle.cord_script.specs.declared.words.Word.TheVariants.{Plain, Quoted}
+use Rattle.cord_syntax.specs.declared.statements.Statement.{Statement}
+use Rattle.cord_syntax.specs.declared.statements.Statement.TheVariants.{Let, File, Eager, Lazy, Chars, Nul, FromFn, Cat, Catn, Catc, Substr}
+use Rattle.cord_syntax.specs.declared.statements.Statement.TheVariants.{Balance, EcToCord, Sprintf, Len, Fetch, Cmp, Ncmp, Str, Chr, Rchr}
+use Rattle.cord_syntax.specs.declared.statements.Statement.TheVariants.{Assign, Add, Sub, EcInit, EcPut, EcCat, EcStr, Put, Repeat, If}
+use Rattle.cord_syntax.specs.declared.statements.Statement.TheVariants.{Else, End}
+use Rattle.cord_script.specs.declared.refusals.RefusalKind.{RefusalKind}
+use Rattle.cord_script.specs.declared.refusals.RefusalKind.TheVariants.{WrongCount, TooDeep}
+use Rattle.cord_syntax.specs.Lines.{line_of}
+use Rattle.cord_script.specs.Forms.{Grammar, Shape, Form, Effect, Term, form_of, form_in, word_of, terms_of, effect_of, argument_term}
+use Rattle.cord_script.specs.Forms.{argument_want}
+use Rattle.cord_script.specs.Forms.Shape.{Words, Joined, Printed}
+use Rattle.cord_script.specs.Forms.Effect.{Stays, OpensRepeat, OpensIf, Turns, Closes}
+use Rattle.cord_script.specs.Forms.Term.{Target, Operand, Value, Literal, FilePath, Applies, Compares, Formats}
+use Rattle.cord_script.specs.Formats.{Converts, want_of_kind}
+use Rattle.cord_script.specs.Script.{Scope, Block, Says, Suits, AreTerms, FitsBlocks}
+use Rattle.cord_script.specs.FirstErrors.{first_of, unless, misfit, first_pair, operand_error, word_target_error, word_path_error, is_count}
+use Rattle.cord_script.specs.FirstErrors.{cords}
+use Rattle.cord_script.specs.FirstErrors.{wants_of, words_error, else_error, block_error, names_error, form_error, HasFormat, HasFormError}
+use Rattle.cord_script.specs.FirstErrors.{HasBadWords}
+use Rattle.cord_script.proofs.Checked.{neither}
+use Rattle.cord_script.proofs.Unique.{within}
+use Rattle.cord_script.specs.inner.Fields.{want_of}
+use Rattle.cord_script.proofs.Terms.{term_fits, term_known, term_assigned, term_opened, pairs_none, terms_count, one_list}
+
+-- The form of a statement's word, with what its words have to be.
+pub record IsRightForm (others : List Word) (s : Statement) : Type 0 where
+  pub form : Form
+  pub is : form_of (word_of s) ≡ Some form
+  pub effect : form.effect ≡ effect_of s
+  pub formats : Option (List Want)
+  pub has : HasFormat form.shape others formats
+  pub wants : wants_of form.shape formats others ≡ map want_of (terms_of s)
+  pub count : is_count form.shape (length others) ≡ true
+  pub words : first_pair misfit (map want_of (terms_of s)) others ≡ None → words_error form.shape formats others ≡ None
+
+as_many : (ts : List Term) → length (map want_of ts) ≡ length ts
+as_many [] = refl
+as_many (t ∷ ts) = let r = as_many ts in omega arith
+
+right_words : (others : List Word) (s : Statement) → form_of (word_of s)
+    ≡ Some (record { shape = Words (map want_of (terms_of s)); effect = effect_of s }) → AreTerms others (terms_of s) → IsRightForm others s
+right_words others s is h =
+    let number : length others ≡ length (map want_of (terms_of s)) = terms_count others (terms_of s) h ∙ sym (as_many (terms_of s)) in
+    record {
+      form = record { shape = Words (map want_of (terms_of s)); effect = effect_of s };
+      is = is;
+      effect = refl;
+      formats = None;
+      has = refl;
+      wants = refl;
+      count = eq-eqb (length others) (length (map want_of (terms_of s))) number;
+      words = λ m. m;
+    }
+
+cords_are : (ws : List Word) (parts : List (List ℕ)) → AreTerms ws (map (Operand kinds.Cord) parts) →
+    (cords ws ≡ map want_of (map (Operand kinds.Cord) parts)) × (length ws ≡ length parts)
+cords_are [] [] h = (refl, refl)
+cords_are [] (p ∷ ps) h = absurd h
+cords_are (w ∷ ws) [] h = absurd h
+cords_are (w ∷ ws) (p ∷ ps) h =
+    let r = cords_are ws ps h.1 in
+    let lengths = r.1 in
+    (ap (λ k. wants.Operand kinds.Cord ∷ k) r.0, omega arith)
+
+right_catn : (others : List Word) (n : ℕ) (target : List ℕ) (parts : List (List ℕ)) →
+    form_of (codes "catn") ≡ Some (record { shape = Joined; effect = Stays }) →
+    AreTerms others (Target kinds.Cord target ∷ map (Operand kinds.Cord) parts) → Suits (Catn n target parts) →
+    IsRightForm others (Catn n target parts)
+right_catn [] n target parts is h suits = absurd h
+right_catn (w ∷ ws) n target parts is h suits =
+    let r = cords_are ws parts h.1 in
+    let same : wants.Target kinds.Cord ∷ cords ws ≡ wants.Target kinds.Cord ∷ map want_of (map (Operand kinds.Cord) parts) =
+    ap (λ k. wants.Target kinds.Cord ∷ k) r.0 in
+    let lengths = r.1 in
+    let low : 1 + MIN_PARTS ≤ length (w ∷ ws) = omega (arith, suits.0) in
+    let high : length (w ∷ ws) ≤ 1 + MAX_PARTS = omega (arith, suits.1) in
+    record {
+      form = record { shape = Joined; effect = Stays };
+      is = is;
+      effect = refl;
+      formats = None;
+      has = refl;
+      wants = same;
+      count = within (1 + MIN_PARTS) (1 + MAX_PARTS) (length (w ∷ ws)) low high;
+      words = λ m. ap (λ xs. first_pair misfit xs (w ∷ ws)) same ∙ m;
+    }
+
+arguments_are : (ws : List Word) (args : List Argument) → AreTerms ws (map argument_term args) →
+    (map want_of (map argument_term args) ≡ map argument_want args) × (length ws ≡ length (map argument_want args))
+arguments_are [] [] h = (refl, refl)
+arguments_are [] (a ∷ more) h = absurd h
+arguments_are (w ∷ ws) [] h = absurd h
+arguments_are (w ∷ ws) (arguments.Number n ∷ more) h =
+    let r = arguments_are ws more h.1 in
+    let lengths = r.1 in
+    (ap (λ k. wants.Number ∷ k) r.0, omega arith)
+arguments_are (w ∷ ws) (arguments.Cord name ∷ more) h =
+    let r = arguments_are ws more h.1 in
+    let lengths = r.1 in
+    (ap (λ k. wants.Operand kinds.Cord ∷ k) r.0, omega arith)
+
+print_none : (a b c d : Option RefusalKind) (x : Bool) → a ≡ None → b ≡ None → x ≡ true → c ≡ None →
+    first_of (first_of a (first_of b None)) (first_of (unless x WrongCount) c) ≡ None
+print_none None None None d true ea eb ex ec = refl
+print_none _ _ _ d _ ea eb ex ec = cc
+
+right_sprintf : (others : List Word) (n : ℕ) (target text : List ℕ) (format : List Piece) (args : List Argument) →
+    form_of (codes "sprintf") ≡ Some (record { shape = Printed; effect = Stays }) →
+    AreTerms others (Target kinds.Cord target ∷ Formats text ∷ map argument_term args) → Suits (Sprintf n target text format args) →
+    IsRightForm others (Sprintf n target text format args)
+right_sprintf [] n target text format args is h suits = absurd h
+right_sprintf (w ∷ []) n target text format args is h suits = absurd h.1
+right_sprintf (w ∷ x ∷ ws) n target text format args is h suits =
+    let quoted : x ≡ Quoted text = h.1.0 in
+    let r = arguments_are ws args h.1.1 in
+    let xs = map argument_want args in
+    let two : 2 ≤ length (w ∷ x ∷ ws) = omega arith in
+    record {
+      form = record { shape = Printed; effect = Stays };
+      is = is;
+      effect = refl;
+      formats = Some xs;
+      has = subst (λ k. HasFormat Printed (w ∷ k ∷ ws) (Some xs)) (sym quoted) (format, suits.0, suits.1);
+      wants = ap (λ k. wants.Target kinds.Cord ∷ wants.Format ∷ k) (sym r.0);
+      count = le-leb 2 (length (w ∷ x ∷ ws)) two;
+      words = λ m.
+          let p = neither (misfit (wants.Target kinds.Cord) w)
+          (first_of (misfit wants.Format x) (first_pair misfit (map want_of (map argument_term args)) ws)) m in
+          let q = neither (misfit wants.Format x) (first_pair misfit (map want_of (map argument_term args)) ws) p.1 in
+          print_none (misfit (wants.Target kinds.Cord) w) (misfit wants.Format x) (first_pair misfit xs ws) None
+          (length ws == length xs) p.0 q.0 (eq-eqb (length ws) (length xs) r.1) (ap (λ k. first_pair misfit k ws) (sym r.0) ∙ q.1);
+    }
+
+-- words that say a statement have the form of its word
+pub right_form : (others : List Word) (s : Statement) → AreTerms others (terms_of s) → Suits s → IsRightForm others s
+unfolding form_of
+right_form others (Let n target text) h suits = right_words others (Let n target text) refl h
+right_form others (File n target path) h suits = right_words others (File n target path) refl h
+right_form others (Eager n target path) h suits = right_words others (Eager n target path) refl h
+right_form others (Lazy n target path) h suits = right_words others (Lazy n target path) refl h
+right_form others (Chars n target byte count) h suits = right_words others (Chars n target byte count) refl h
+right_form others (Nul n target count) h suits = right_words others (Nul n target count) refl h
+right_form others (FromFn n target function count) h suits = right_words others (FromFn n target function count) refl h
+right_form others (Cat n target left right) h suits = right_words others (Cat n target left right) refl h
+right_form others (Catc n target operand byte) h suits = right_words others (Catc n target operand byte) refl h
+right_form others (Substr n target operand start count) h suits = right_words others (Substr n target operand start count) refl h
+right_form others (Balance n target operand) h suits = right_words others (Balance n target operand) refl h
+right_form others (EcToCord n target extensible) h suits = right_words others (EcToCord n target extensible) refl h
+right_form others (Len n target operand) h suits = right_words others (Len n target operand) refl h
+right_form others (Fetch n target operand index) h suits = right_words others (Fetch n target operand index) refl h
+right_form others (Cmp n target left right) h suits = right_words others (Cmp n target left right) refl h
+right_form others (Ncmp n target left left_start right right_start count) h suits =
+    right_words others (Ncmp n target left left_start right right_start count) refl h
+right_form others (Str n target operand start pattern) h suits = right_words others (Str n target operand start pattern) refl h
+right_form others (Chr n target operand start byte) h suits = right_words others (Chr n target operand start byte) refl h
+right_form others (Rchr n target operand start byte) h suits = right_words others (Rchr n target operand start byte) refl h
+right_form others (Assign n target value) h suits = right_words others (Assign n target value) refl h
+right_form others (Add n target left right) h suits = right_words others (Add n target left right) refl h
+right_form others (Sub n target left right) h suits = right_words others (Sub n target left right) refl h
+right_form others (EcInit n target) h suits = right_words others (EcInit n target) refl h
+right_form others (EcPut n extensible byte) h suits = right_words others (EcPut n extensible byte) refl h
+right_form others (EcCat n extensible operand) h suits = right_words others (EcCat n extensible operand) refl h
+right_form others (EcStr n extensible text) h suits = right_words others (EcStr n extensible text) refl h
+right_form others (Put n operand) h suits = right_words others (Put n operand) refl h
+right_form others (Repeat n count) h suits = right_words others (Repeat n count) refl h
+right_form others (If n left relation right) h suits = right_words others (If n left relation right) refl h
+right_form others (Else n) h suits = right_words others (Else n) refl h
+right_form others (End n) h suits = right_words others (End n) refl h
+right_form others (Catn n target parts) h suits = right_catn others n target parts refl h suits
+right_form others (Sprintf n target text format arguments) h suits = right_sprintf others n target text format arguments refl h suits
+
+all_none : (a b c d : Option RefusalKind) → a ≡ None → b ≡ None → c ≡ None → d ≡ None → first_of a (first_of b (first_of c d)) ≡ None
+all_none None None None None ea eb ec ed = refl
+all_none _ _ _ _ ea eb ec ed = cc
+
+three_none : (a b c : Option RefusalKind) → a ≡ None → b ≡ None → c ≡ None → first_of a (first_of b c) ≡ None
+three_none None None None ea eb ec = refl
+three_none _ _ _ ea eb ec = cc
+
+block_none : (effect : Effect) (blocks : List Block) → FitsBlocks effect blocks → block_error effect blocks ≡ None
+block_none Stays blocks h = refl
+block_none OpensRepeat blocks h = ap (λ b. unless b TooDeep) (le-leb (suc (length blocks)) MAX_BLOCKS h)
+block_none OpensIf blocks h = ap (λ b. unless b TooDeep) (le-leb (suc (length blocks)) MAX_BLOCKS h)
+block_none Turns blocks h = ap else_error h.2
+block_none Closes [] h = absurd (h refl)
+block_none Closes (block ∷ blocks) h = refl
+
+-- words that say a statement have no error
+fine_form : (g : Grammar) (n : ℕ) (scope : Scope) (words : List Word) (s : Statement) (says : Says g n scope words s)
+    (r : IsRightForm says.others s) → form_error r.form scope r.formats says.others ≡ None
+fine_form g n scope words s says r =
+    let ts = terms_of s in
+    let others = says.others in
+    let xs = wants_of r.form.shape r.formats others in
+    let fit = r.words (pairs_none misfit scope others ts (λ w t h a. term_fits w t scope h a) says.terms says.allowed) in
+    let known : first_pair (operand_error scope.names) xs others ≡ None =
+    ap (λ k. first_pair (operand_error scope.names) k others) r.wants ∙ pairs_none (operand_error scope.names) scope others ts
+    (λ w t h a. term_known w t scope h a) says.terms says.allowed in
+    let assigned : first_pair (word_target_error scope.names) xs others ≡ None =
+    ap (λ k. first_pair (word_target_error scope.names) k others) r.wants ∙ pairs_none (word_target_error scope.names) scope others ts
+    (λ w t h a. term_assigned w t scope h a) says.terms says.allowed in
+    let opened : first_pair (word_path_error scope.paths) xs others ≡ None =
+    ap (λ k. first_pair (word_path_error scope.paths) k others) r.wants ∙ pairs_none (word_path_error scope.paths) scope others ts
+    (λ w t h a. term_opened w t scope h a) says.terms says.allowed in
+    all_none (unless (is_count r.form.shape (length others)) WrongCount) (words_error r.form.shape r.formats others)
+    (names_error scope xs others) (block_error r.form.effect scope.blocks)
+    (ap (λ b. unless b WrongCount) r.count)
+    fit
+    (three_none (first_pair (operand_error scope.names) xs others) (first_pair (word_target_error scope.names) xs others)
+    (first_pair (word_path_error scope.paths) xs others) known assigned opened)
+    (ap (λ e. block_error e scope.blocks) r.effect ∙ block_none (effect_of s) scope.blocks says.blocks)
+
+-- a text is a format in one way
+one_conversion : OneFormat → BadIsNoFormat → (text : List ℕ) (f f' : Option (List Want)) → Converts text f → Converts text f' → f ≡ f'
+one_conversion one bad text (Some xs) (Some ys) h h' = ap Some (h.2 ∙ ap (λ k. map want_of_kind (Rattle.cord_printf.specs.Pieces.wanted k))
+    (one text h.0 h'.0 h.1 h'.1) ∙ sym h'.2)
+one_conversion one bad text (Some xs) None h h' = absurd (bad text h'.0 h'.1 h.0 h.1)
+one_conversion one bad text None (Some ys) h h' = absurd (bad text h.0 h.1 h'.0 h'.1)
+one_conversion one bad text None None h h' = refl
+
+pub one_format : OneFormat → BadIsNoFormat → (shape : Shape) (ws : List Word) (f f' : Option (List Want)) → HasFormat shape ws f →
+    HasFormat shape ws f' → f ≡ f'
+one_format one bad (Words xs) ws f f' h h' = h ∙ sym h'
+one_format one bad Joined ws f f' h h' = h ∙ sym h'
+one_format one bad Printed [] f f' h h' = h ∙ sym h'
+one_format one bad Printed (t ∷ []) f f' h h' = h ∙ sym h'
+one_format one bad Printed (t ∷ Plain p ∷ ws) f f' h h' = h ∙ sym h'
+one_format one bad Printed (t ∷ Quoted text ∷ ws) f f' h h' = one_conversion one bad text f f' h h'
+
+in_grammar : (g : Grammar) (w : List ℕ) → g.has w ≡ true → form_in g w ≡ form_of w
+in_grammar g w h = ap (λ b. if b then form_of w else None) h
+
+error_at : (scope : Scope) (f : Option Form) (form : Form) (ws : List Word) (kind : RefusalKind) → f ≡ Some form →
+    HasFormError scope f ws kind → (formats : Option (List Want)) × HasFormat form.shape ws formats ×
+    (form_error form scope formats ws ≡ Some kind)
+error_at scope f form ws kind e h = subst (λ k. HasFormError scope k ws kind) e h
+
+-- words that say a statement have no error
+pub good_words : OneFormat → BadIsNoFormat → (g : Grammar) (n : ℕ) (scope : Scope) (words : List Word) (s : Statement)
+    (kind : RefusalKind) → Says g n scope words s → HasBadWords g scope words kind → ⊥
+good_words one bad g n scope words s kind says h =
+    let r = right_form says.others s says.terms says.suits in
+    let at = subst (λ ws. HasBadWords g scope ws kind) says.word h in
+    let f = error_at scope (form_in g (word_of s)) r.form says.others kind (in_grammar g (word_of s) says.has ∙ r.is) at in
+    let formats = one_format one bad r.form.shape says.others f.0 r.formats f.1 r.has in
+    let clash : None ≡ Some kind =
+    sym (fine_form g n scope words s says r) ∙ ap (λ k. form_error r.form scope k says.others) (sym formats) ∙ f.2 in
+    cc
+
+one_form_error : OneFormat → BadIsNoFormat → (scope : Scope) (f : Option Form) (ws : List Word) (kind kind' : RefusalKind) →
+    HasFormError scope f ws kind → HasFormError scope f ws kind' → kind ≡ kind'
+one_form_error one bad scope None ws kind kind' h h' = h ∙ sym h'
+one_form_error one bad scope (Some form) ws kind kind' h h' =
+    let formats = one_format one bad form.shape ws h.0 h'.0 h.1 h'.1 in
+    let same : Some kind ≡ Some kind' = sym h.2 ∙ ap (λ k. form_error form scope k ws) formats ∙ h'.2 in
+    cc
+
+-- words have one first error
+pub one_bad_words : OneFormat → BadIsNoFormat → (g : Grammar) (scope : Scope) (words : List Word) (kind kind' : RefusalKind) →
+    HasBadWords g scope words kind → HasBadWords g scope words kind' → kind ≡ kind'
+one_bad_words one bad g scope [] kind kind' h h' = absurd h
+one_bad_words one bad g scope (Quoted text ∷ ws) kind kind' h h' = h ∙ sym h'
+one_bad_words one bad g scope (Plain p ∷ ws) kind kind' h h' = one_form_error one bad scope (form_in g p) ws kind kind' h h'
+
+-- the pieces of a statement's format
+abbrev pieces_of : Statement → List Piece
+pieces_of (Sprintf n target text format arguments) = format
+pieces_of _ = []
+
+-- the pieces are those of the format among these terms
+abbrev IsPrinted : List Term → List Piece → Type 0
+IsPrinted (Target kind target ∷ Formats text ∷ ts) pieces = IsFormat text pieces
+IsPrinted ts pieces = pieces ≡ []
+
+printed_catn : (target : List ℕ) (parts : List (List ℕ)) → IsPrinted (Target kinds.Cord target ∷ map (Operand kinds.Cord) parts) []
+printed_catn target [] = refl
+printed_catn target (p ∷ ps) = refl
+
+printed : (s : Statement) → Suits s → IsPrinted (terms_of s) (pieces_of s)
+printed (Let n target text) suits = refl
+printed (File n target path) suits = refl
+printed (Eager n target path) suits = refl
+printed (Lazy n target path) suits = refl
+printed (Chars n target byte count) suits = refl
+printed (Nul n target count) suits = refl
+printed (FromFn n target function count) suits = refl
+printed (Cat n target left right) suits = refl
+printed (Catc n target operand byte) suits = refl
+printed (Substr n target operand start count) suits = refl
+printed (Balance n target operand) suits = refl
+printed (EcToCord n target extensible) suits = refl
+printed (Len n target operand) suits = refl
+printed (Fetch n target operand index) suits = refl
+printed (Cmp n target left right) suits = refl
+printed (Ncmp n target left left_start right right_start count) suits = refl
+printed (Str n target operand start pattern) suits = refl
+printed (Chr n target operand start byte) suits = refl
+printed (Rchr n target operand start byte) suits = refl
+printed (Assign n target value) suits = refl
+printed (Add n target left right) suits = refl
+printed (Sub n target left right) suits = refl
+printed (EcInit n target) suits = refl
+printed (EcPut n extensible byte) suits = refl
+printed (EcCat n extensible operand) suits = refl
+printed (EcStr n extensible text) suits = refl
+printed (Put n operand) suits = refl
+printed (Repeat n count) suits = refl
+printed (If n left relation right) suits = refl
+printed (Else n) suits = refl
+printed (End n) suits = refl
+printed (Catn n target parts) suits = printed_catn target parts
+printed (Sprintf n target text format arguments) suits = suits.0
+
+one_printed : OneFormat → (ts : List Term) (p q : List Piece) → IsPrinted ts p → IsPrinted ts q → p ≡ q
+one_printed one (Target kind target ∷ Formats text ∷ ts) p q h h' = one text p q h h'
+one_printed one _ p q h h' = h ∙ sym h'
+
+-- The statement of a word, a line and terms, one form after the other.
+abbrev made_let : ℕ → List Term → Option Statement
+made_let n (Target k1 target ∷ Literal text ∷ []) = Some (Let n target text)
+made_let n _ = None
+
+abbrev made_file : ℕ → List Term → Option Statement
+made_file n (Target k1 target ∷ FilePath path ∷ []) = Some (File n target path)
+made_file n _ = None
+
+abbrev made_eager : ℕ → List Term → Option Statement
+made_eager n (Target k1 target ∷ FilePath path ∷ []) = Some (Eager n target path)
+made_eager n _ = None
+
+abbrev made_lazy : ℕ → List Term → Option Statement
+made_lazy n (Target k1 target ∷ FilePath path ∷ []) = Some (Lazy n target path)
+made_lazy n _ = None
+
+abbrev made_chars : ℕ → List Term → Option Statement
+made_chars n (Target k1 target ∷ Value byte ∷ Value count ∷ []) = Some (Chars n target byte count)
+made_chars n _ = None
+
+abbrev made_nul : ℕ → List Term → Option Statement
+made_nul n (Target k1 target ∷ Value count ∷ []) = Some (Nul n target count)
+made_nul n _ = None
+
+abbrev made_fn : ℕ → List Term → Option Statement
+made_fn n (Target k1 target ∷ Applies function ∷ Value count ∷ []) = Some (FromFn n target function count)
+made_fn n _ = None
+
+abbrev made_cat : ℕ → List Term → Option Statement
+made_cat n (Target k1 target ∷ Operand k2 left ∷ Operand k3 right ∷ []) = Some (Cat n target left right)
+made_cat n _ = None
+
+abbrev made_catc : ℕ → List Term → Option Statement
+made_catc n (Target k1 target ∷ Operand k2 operand ∷ Value byte ∷ []) = Some (Catc n target operand byte)
+made_catc n _ = None
+
+abbrev made_substr : ℕ → List Term → Option Statement
+made_substr n (Target k1 target ∷ Operand k2 operand ∷ Value start ∷ Value count ∷ []) = Some (Substr n target operand start count)
+made_substr n _ = None
+
+abbrev made_balance : ℕ → List Term → Option Statement
+made_balance n (Target k1 target ∷ Operand k2 operand ∷ []) = Some (Balance n target operand)
+made_balance n _ = None
+
+abbrev made_ectocord : ℕ → List Term → Option Statement
+made_ectocord n (Target k1 target ∷ Operand k2 extensible ∷ []) = Some (EcToCord n target extensible)
+made_ectocord n _ = None
+
+abbrev made_len : ℕ → List Term → Option Statement
+made_len n (Target k1 target ∷ Operand k2 operand ∷ []) = Some (Len n target operand)
+made_len n _ = None
+
+abbrev made_fetch : ℕ → List Term → Option Statement
+made_fetch n (Target k1 target ∷ Operand k2 operand ∷ Value index ∷ []) = Some (Fetch n target operand index)
+made_fetch n _ = None
+
+abbrev made_cmp : ℕ → List Term → Option Statement
+made_cmp n (Target k1 target ∷ Operand k2 left ∷ Operand k3 right ∷ []) = Some (Cmp n target left right)
+made_cmp n _ = None
+
+abbrev made_ncmp : ℕ → List Term → Option Statement
+made_ncmp n (Target k1 target ∷ Operand k2 left ∷ Value left_start ∷ Operand k3 right ∷ Value right_start ∷ Value count ∷ []) =
+    Some (Ncmp n target left left_start right right_start count)
+made_ncmp n _ = None
+
+abbrev made_str : ℕ → List Term → Option Statement
+made_str n (Target k1 target ∷ Operand k2 operand ∷ Value start ∷ Operand k3 pattern ∷ []) = Some (Str n target operand start pattern)
+made_str n _ = None
+
+abbrev made_chr : ℕ → List Term → Option Statement
+made_chr n (Target k1 target ∷ Operand k2 operand ∷ Value start ∷ Value byte ∷ []) = Some (Chr n target operand start byte)
+made_chr n _ = None
+
+abbrev made_rchr : ℕ → List Term → Option Statement
+made_rchr n (Target k1 target ∷ Operand k2 operand ∷ Value start ∷ Value byte ∷ []) = Some (Rchr n target operand start byte)
+made_rchr n _ = None
+
+abbrev made_set : ℕ → List Term → Option Statement
+made_set n (Target k1 target ∷ Value value ∷ []) = Some (Assign n target value)
+made_set n _ = None
+
+abbrev made_add : ℕ → List Term → Option Statement
+made_add n (Target k1 target ∷ Value left ∷ Value right ∷ []) = Some (Add n target left right)
+made_add n _ = None
+
+abbrev made_sub : ℕ → List Term → Option Statement
+made_sub n (Target k1 target ∷ Value left ∷ Value right ∷ []) = Some (Sub n target left right)
+made_sub n _ = None
+
+abbrev made_ecinit : ℕ → List Term → Option Statement
+made_ecinit n (Target k1 target ∷ []) = Some (EcInit n target)
+made_ecinit n _ = None
+
+abbrev made_ecput : ℕ → List Term → Option Statement
+made_ecput n (Operand k1 extensible ∷ Value byte ∷ []) = Some (EcPut n extensible byte)
+made_ecput n _ = None
+
+abbrev made_eccat : ℕ → List Term → Option Statement
+made_eccat n (Operand k1 extensible ∷ Operand k2 operand ∷ []) = Some (EcCat n extensible operand)
+made_eccat n _ = None
+
+abbrev made_ecstr : ℕ → List Term → Option Statement
+made_ecstr n (Operand k1 extensible ∷ Literal text ∷ []) = Some (EcStr n extensible text)
+made_ecstr n _ = None
+
+abbrev made_put : ℕ → List Term → Option Statement
+made_put n (Operand k1 operand ∷ []) = Some (Put n operand)
+made_put n _ = None
+
+abbrev made_repeat : ℕ → List Term → Option Statement
+made_repeat n (Value count ∷ []) = Some (Repeat n count)
+made_repeat n _ = None
+
+abbrev made_if : ℕ → List Term → Option Statement
+made_if n (Value left ∷ Compares relation ∷ Value right ∷ []) = Some (If n left relation right)
+made_if n _ = None
+
+abbrev made_else : ℕ → List Term → Option Statement
+made_else n [] = Some (Else n)
+made_else n _ = None
+
+abbrev made_end : ℕ → List Term → Option Statement
+made_end n [] = Some (End n)
+made_end n _ = None
+
+-- the names among terms
+abbrev names_in : List Term → List (List ℕ)
+names_in [] = []
+names_in (Operand k name ∷ ts) = name ∷ names_in ts
+names_in (_ ∷ ts) = names_in ts
+
+names_back : (parts : List (List ℕ)) → names_in (map (Operand kinds.Cord) parts) ≡ parts
+names_back [] = refl
+names_back (p ∷ ps) = ap (λ k. p ∷ k) (names_back ps)
+
+-- the arguments among terms
+abbrev arguments_in : List Term → List Argument
+arguments_in [] = []
+arguments_in (Operand k name ∷ ts) = arguments.Cord name ∷ arguments_in ts
+arguments_in (Value number ∷ ts) = arguments.Number number ∷ arguments_in ts
+arguments_in (_ ∷ ts) = arguments_in ts
+
+arguments_back : (args : List Argument) → arguments_in (map argument_term args) ≡ args
+arguments_back [] = refl
+arguments_back (arguments.Number n ∷ more) = ap (λ k. arguments.Number n ∷ k) (arguments_back more)
+arguments_back (arguments.Cord name ∷ more) = ap (λ k. arguments.Cord name ∷ k) (arguments_back more)
+
+abbrev made_catn : ℕ → List Term → Option Statement
+made_catn n (Target k target ∷ ts) = Some (Catn n target (names_in ts))
+made_catn n _ = None
+
+abbrev made_sprintf : ℕ → List Piece → List Term → Option Statement
+made_sprintf n pieces (Target k target ∷ Formats text ∷ ts) = Some (Sprintf n target text pieces (arguments_in ts))
+made_sprintf n pieces _ = None
+
+unfoldable made : List ℕ → ℕ → List Piece → List Term → Option Statement
+made w n pieces ts =
+    if bytes_eq w (codes "let") then made_let n ts
+    else if bytes_eq w (codes "file") then made_file n ts
+    else if bytes_eq w (codes "eager") then made_eager n ts
+    else if bytes_eq w (codes "lazy") then made_lazy n ts
+    else if bytes_eq w (codes "chars") then made_chars n ts
+    else if bytes_eq w (codes "nul") then made_nul n ts
+    else if bytes_eq w (codes "fn") then made_fn n ts
+    else if bytes_eq w (codes "cat") then made_cat n ts
+    else if bytes_eq w (codes "catn") then made_catn n ts
+    else if bytes_eq w (codes "catc") then made_catc n ts
+    else if bytes_eq w (codes "substr") then made_substr n ts
+    else if bytes_eq w (codes "balance") then made_balance n ts
+    else if bytes_eq w (codes "ectocord") then made_ectocord n ts
+    else if bytes_eq w (codes "sprintf") then made_sprintf n pieces ts
+    else if bytes_eq w (codes "len") then made_len n ts
+    else if bytes_eq w (codes "fetch") then made_fetch n ts
+    else if bytes_eq w (codes "cmp") then made_cmp n ts
+    else if bytes_eq w (codes "ncmp") then made_ncmp n ts
+    else if bytes_eq w (codes "str") then made_str n ts
+    else if bytes_eq w (codes "chr") then made_chr n ts
+    else if bytes_eq w (codes "rchr") then made_rchr n ts
+    else if bytes_eq w (codes "set") then made_set n ts
+    else if bytes_eq w (codes "add") then made_add n ts
+    else if bytes_eq w (codes "sub") then made_sub n ts
+    else if bytes_eq w (codes "ecinit") then made_ecinit n ts
+    else if bytes_eq w (codes "ecput") then made_ecput n ts
+    else if bytes_eq w (codes "eccat") then made_eccat n ts
+    else if bytes_eq w (codes "ecstr") then made_ecstr n ts
+    else if bytes_eq w (codes "put") then made_put n ts
+    else if bytes_eq w (codes "repeat") then made_repeat n ts
+    else if bytes_eq w (codes "if") then made_if n ts
+    else if bytes_eq w (codes "else") then made_else n ts
+    else if bytes_eq w (codes "end") then made_end n ts
+    else None
+
+made_is : (s : Statement) → made (word_of s) (line_of s) (pieces_of s) (terms_of s) ≡ Some s
+unfolding made
+made_is (Let n target text) = refl
+made_is (File n target path) = refl
+made_is (Eager n target path) = refl
+made_is (Lazy n target path) = refl
+made_is (Chars n target byte count) = refl
+made_is (Nul n target count) = refl
+made_is (FromFn n target function count) = refl
+made_is (Cat n target left right) = refl
+made_is (Catc n target operand byte) = refl
+made_is (Substr n target operand start count) = refl
+made_is (Balance n target operand) = refl
+made_is (EcToCord n target extensible) = refl
+made_is (Len n target operand) = refl
+made_is (Fetch n target operand index) = refl
+made_is (Cmp n target left right) = refl
+made_is (Ncmp n target left left_start right right_start count) = refl
+made_is (Str n target operand start pattern) = refl
+made_is (Chr n target operand start byte) = refl
+made_is (Rchr n target operand start byte) = refl
+made_is (Assign n target value) = refl
+made_is (Add n target left right) = refl
+made_is (Sub n target left right) = refl
+made_is (EcInit n target) = refl
+made_is (EcPut n extensible byte) = refl
+made_is (EcCat n extensible operand) = refl
+made_is (EcStr n extensible text) = refl
+made_is (Put n operand) = refl
+made_is (Repeat n count) = refl
+made_is (If n left relation right) = refl
+made_is (Else n) = refl
+made_is (End n) = refl
+made_is (Catn n target parts) = ap (λ k. Some (Catn n target k)) (names_back parts)
+made_is (Sprintf n target text format arguments) = ap (λ k. Some (Sprintf n target text format k)) (arguments_back arguments)
+
+-- words say one statement
+pub one_statement : OneFormat → BadIsNoFormat → (g : Grammar) (n : ℕ) (scope : Scope) (words : List Word) (s s' : Statement) →
+    Says g n scope words s → Says g n scope words s' → s ≡ s'
+one_statement one bad g n scope words s s' says says' =
+    let whole : Plain (word_of s) ∷ says.others ≡ Plain (word_of s') ∷ says'.others = sym says.word ∙ says'.word in
+    let word : word_of s ≡ word_of s' = cc in
+    let others : says.others ≡ says'.others = cc in
+    let r = right_form says.others s says.terms says.suits in
+    let r' = right_form says'.others s' says'.terms says'.suits in
+    let forms : Some r.form ≡ Some r'.form = sym r.is ∙ ap form_of word ∙ r'.is in
+    let form : r.form ≡ r'.form = cc in
+    let has' = subst (λ k. HasFormat k.shape says'.others r'.formats) (sym form) r'.has in
+    let formats =
+    one_format one bad r.form.shape says.others r.formats r'.formats r.has
+    (subst (λ k. HasFormat r.form.shape k r'.formats) (sym others) has') in
+    let wants : map want_of (terms_of s) ≡ map want_of (terms_of s') =
+    sym r.wants ∙ ap (λ k. wants_of k.shape r.formats says.others) form ∙ ap (λ k. wants_of r'.form.shape k says.others) formats
+    ∙ ap (λ k. wants_of r'.form.shape r'.formats k) others ∙ r'.wants in
+    let terms = one_list says.others (terms_of s) (terms_of s') says.terms
+    (subst (λ k. AreTerms k (terms_of s')) (sym others) says'.terms) wants in
+    let pieces = one_printed one (terms_of s) (pieces_of s) (pieces_of s') (printed s says.suits)
+    (subst (λ k. IsPrinted k (pieces_of s')) (sym terms) (printed s' says'.suits)) in
+    let line : line_of s ≡ line_of s' = says.line ∙ sym says'.line in
+    let same : Some s ≡ Some s' =
+    sym (made_is s) ∙ ap (λ k. made k (line_of s) (pieces_of s) (terms_of s)) word
+    ∙ ap (λ k. made (word_of s') k (pieces_of s) (terms_of s)) line ∙ ap (λ k. made (word_of s') (line_of s') k (terms_of s)) pieces
+    ∙ ap (λ k. made (word_of s') (line_of s') (pieces_of s') k) terms ∙ made_is s' in
+    cc

@@ -1,5 +1,0 @@
-use Rattle.cord_script.proofs.Either.{read_or_flawed}
-use Rattle.cord_script.proofs.laws.bytes_are_read_or_flawed.Goals as goal
-
-pub returns : goal.returns
-returns c = read_or_flawed c.bytes_are_format_or_bad.ensures

@@ -1,0 +1,5 @@
+use Rattle.cord_script.proofs.Examples.{examples}
+use Rattle.cord_script.proofs.laws.worked_examples_hold.Goals as goal
+
+pub returns : goal.returns
+returns c = examples

@@ -1,0 +1,10 @@
+use Rattle.std.proofs.Common.{ℕ, List, [], ◌∷◌}
+use Rattle.cord_script.specs.declared.kinds.Kind.TheVariants as kinds
+use Rattle.cord_script.specs.Forms.Term.{Target, Operand}
+use Rattle.cord_script.proofs.LineReading.{next_field}
+use Rattle.cord_script.proofs.shared_fields.target_and_operands.Goals as goal
+
+pub returns : goal.returns
+returns c =
+    next_field (λ (p : List ℕ × List ℕ). Target c.args.target p.0 ∷ Operand kinds.Cord p.1 ∷ []) (Operand kinds.Cord)
+    _ _ _ _ _ _ c.in_ok-prefix.ensures c.paired.ensures c.operand.ensures

@@ -1,0 +1,27 @@
+use Rattle.cord_pos.proofs.Within.{within_on, span_on}
+use Rattle.cord_search.proofs.Ways.{side_at}
+use Rattle.cord_search.proofs.ahead.Way.span.Goals as goal
+
+pub loop-side-preserved : goal.loop-side-preserved
+loop-side-preserved c =
+    let first = c.args.last in
+    let spot = c.loop-side.spot in
+    let side = c.in-Some.side in
+    record {
+      spot = c.in-Some.ensures.spot;
+      low = c.in-Some.ensures.low;
+      room = c.in-Some.ensures.room;
+      within = within_on first.node.now first.place spot.node.now spot.place side.node.now side.place c.loop-side.invariant.within
+          c.in-Some.ensures.within;
+      way = λ d held way. c.step.ensures.way d (side_at d c.args.at first spot held c.loop-side.invariant.within c.loop-side.invariant.spot)
+          (c.loop-side.invariant.way d held way);
+    }
+
+pub returns-clause-way : goal.returns-clause-way
+returns-clause-way c = λ d held way.
+    c.step.ensures.way d (side_at d c.args.at c.args.last c.loop-side.spot held c.loop-side.invariant.within c.loop-side.invariant.spot)
+    (c.loop-side.invariant.way d held way)
+
+pub returns-clause-span : goal.returns-clause-span
+returns-clause-span c = span_on c.args.last.node.now c.args.last.place c.loop-side.spot.node.now c.loop-side.spot.place _
+    c.loop-side.invariant.within c.span.ensures.span

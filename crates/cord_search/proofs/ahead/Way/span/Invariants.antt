@@ -1,0 +1,22 @@
+use Rattle.std.proofs.Common.{◌+◌, ◌≤◌}
+use Rattle.std.specs.Prelude.{Option}
+use Rattle.arrayvec.specs.ArrayVec.{array_vec_len}
+use Rattle.cord_node.specs.declared.Node.{Node}
+use Rattle.cord_node.specs.Tree.{len_of, depth_of}
+use Rattle.cord_pos.specs.inner.Spans.{IsWithin}
+use Rattle.cord_search.specs.inner.Ahead.{IsSpot, IsSpotOf, IsWay}
+use Rattle.cord_search.specs.declared.ahead.TheConstants.{WAY_LEN}
+use Rattle.cord_search.proofs.ahead.Way.span.Given as goal
+
+-- the spot is the first one, in the same node or one below it
+abbrev pub invariant-loop-side : goal.invariant-loop-side
+invariant-loop-side l = record {
+  spot : IsSpot l.spot;
+  low : l.spot.place ≤ l.at;
+  room : array_vec_len l.self.stops + depth_of l.spot.node.now ≤ WAY_LEN;
+  within : IsWithin l.fn.last.node.now l.fn.last.place l.spot.node.now l.spot.place;
+  way : (c : Option Node) → IsSpotOf c l.at l.fn.last → IsWay c l.fn.self → IsWay c l.self;
+}
+
+abbrev pub decreases-loop-side : goal.decreases-loop-side
+decreases-loop-side l = len_of l.spot.node.now

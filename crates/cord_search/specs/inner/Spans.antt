@@ -1,0 +1,35 @@
+-- What pieces of spans and two spans have in common, and where a text can't stand.
+use Rattle.std.specs.Prelude.{◌≡◌, ◌≢◌, ℕ, ◌+◌, ◌<◌, ◌≤◌, List, length, take, drop, slice_get, slice_index, Bool, false, not, ◌==◌, Some}
+use Rattle.cord_io.specs.Table.{Table}
+use Rattle.cord_pos.specs.Spans.{span_len, span_bytes}
+use Rattle.cord_pos.specs.declared.span.Span.{Span}
+use Rattle.cord_pos.specs.declared.span.Span.TheVariants.{Run}
+
+-- the bytes stand in the span's text from the place on
+abbrev pub IsPartOf : Table → Span → ℕ → List ℕ → Type 0
+IsPartOf t s place xs = xs ≡ take (length xs) (drop place (span_bytes t s))
+
+-- its text has this byte nowhere
+abbrev pub IsWithout : Span → ℕ → Type 0
+IsWithout s c = (t : Table) → (q : ℕ) → slice_get (span_bytes t s) q ≢ Some c
+
+-- it is a run of another byte
+abbrev pub is_other_run : Span → ℕ → Bool
+is_other_run (Run byte len) c = not (byte == c)
+is_other_run _ c = false
+
+-- the two begin with the same bytes, up to the end of the shorter one
+abbrev pub BeginAlike : Span → Span → Type 0
+BeginAlike s other = (t : Table) → (n : ℕ) → n ≤ span_len s → n ≤ span_len other →
+    take n (span_bytes t s) ≡ take n (span_bytes t other)
+
+-- a text that begins with these bytes has another byte somewhere than the span, if it stands at this place of it
+pub record DoesNotFit (t : Table) (s : Span) (prefix : List ℕ) (place : ℕ) : Type 0 where
+  pub at : ℕ
+  pub inside : at < length prefix
+  pub within : place + at < span_len s
+  pub differs : slice_index (span_bytes t s) (place + at) ≢ slice_index prefix at
+
+-- no text that begins with these bytes stands at one of the first n places of the span
+abbrev pub IsMisfit : Span → List ℕ → ℕ → Type 0
+IsMisfit s prefix n = (t : Table) → (place : ℕ) → place < n → DoesNotFit t s prefix place

@@ -1,0 +1,21 @@
+//! What each call of the library answers, case by case.
+mod balance;
+mod cases;
+mod cords;
+mod depths;
+mod devices;
+mod edits;
+mod entry;
+mod extensible;
+mod files;
+mod formats;
+mod gaps;
+mod iteration;
+mod made;
+mod marks;
+mod nodes;
+mod positions;
+mod raw;
+mod search;
+mod sharing;
+mod trees;

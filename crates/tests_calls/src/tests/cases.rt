@@ -1,0 +1,8 @@
+// What all cases share.
+use std::process::Abort;
+
+// That something holds of a case, which is reported by its name and a number. Calls of this take a fraction of the
+// proof that a message of their own would take.
+pub(super) fn expect_case(rt: &impl Abort, holds: bool, name: &str, number: u64) {
+    assert!(rt; holds, "{name}: {number}");
+}

@@ -1,0 +1,193 @@
+// How deep ropes are, by the order in which they were built, and after many edits.
+use super::cases::expect_case;
+use super::trees::{cord_of, joined, part_of};
+use cord_balance::slot_of;
+use cord_core::Cord;
+use cord_io::{MAX_DEPTH, MAX_LEN};
+use cord_node::Node;
+use std::alloc::Global;
+use std::process::Abort;
+
+// Where the next leaf goes.
+#[derive(Clone, Copy)]
+enum Order {
+    Append,
+    Prepend,
+    Turns,
+}
+
+// How many leaves of 65 bytes are joined in which order, the depth then, and the depth after `balance`. A model of the
+// rules in another language gave the depths.
+const ORDERS: &[(Order, u64, u32, u32)] = &[
+    (Order::Append, 1_000, 26, 15),
+    (Order::Append, 3_000, 40, 17),
+    (Order::Append, 8_389, 21, 19),
+    (Order::Prepend, 1_000, 26, 15),
+    (Order::Prepend, 3_000, 40, 17),
+    (Order::Prepend, 8_389, 21, 19),
+    (Order::Turns, 1_000, 34, 15),
+    (Order::Turns, 3_000, 26, 17),
+    (Order::Turns, 8_389, 27, 19),
+];
+
+fn balance_of(rt: &impl Abort, alloc: Global, cord: &Cord) -> Cord {
+    cord.balance(alloc).expect(rt, "no memory")
+}
+
+// How many parts a node has, counted one by one.
+fn counted(node: &Node) -> u64 {
+    match node {
+        Node::Cat { left, right, .. } => counted(left).saturating_add(counted(right)),
+        _ => 1,
+    }
+}
+
+// That a cord has so many parts as it stores, and is no deeper than their slot once it is balanced.
+fn expect_shallow(rt: &impl Abort, alloc: Global, cord: &Cord, name: &str) {
+    let balanced = balance_of(rt, alloc, cord);
+    let parts = match balanced.root() {
+        None => 0,
+        Some(node) => {
+            let parts = counted(node);
+            expect_case(rt, node.part_count() == parts, name, parts);
+            parts
+        }
+    };
+    assert!(rt; 0 < parts && parts <= MAX_LEN);
+    expect_case(rt, balanced.depth() <= slot_of(parts), name, parts);
+    expect_case(rt, cord.depth() <= MAX_DEPTH, name, parts);
+}
+
+// So many leaves in an order.
+fn grown(rt: &impl Abort, alloc: Global, order: Order, count: u64) -> Cord {
+    let leaf = cord_of(rt, alloc, &[7; 65]);
+    let mut cord = Cord::empty();
+    for turn in 0..count {
+        let is_last = match order {
+            Order::Append => true,
+            Order::Prepend => false,
+            Order::Turns => turn % 2 == 1,
+        };
+        cord = if is_last {
+            joined(rt, alloc, &cord, &leaf)
+        } else {
+            joined(rt, alloc, &leaf, &cord)
+        };
+    }
+    cord
+}
+
+#[test]
+fn grown_ropes(rt: HostRuntime) {
+    let alloc = rt.alloc();
+    for (order, count, depth, balanced) in ORDERS {
+        let cord = grown(&rt, alloc, *order, *count);
+        expect_case(&rt, cord.depth() == *depth, "grown", *count);
+        expect_case(
+            &rt,
+            balance_of(&rt, alloc, &cord).depth() == *balanced,
+            "balanced",
+            *count,
+        );
+        expect_shallow(&rt, alloc, &cord, "grown and balanced");
+    }
+}
+
+// Doubled so often, it is a full tree, which is balanced.
+#[test]
+fn doubled_ropes(rt: HostRuntime) {
+    let alloc = rt.alloc();
+    let mut cord = cord_of(&rt, alloc, &[7; 65]);
+    for turn in 0..12 {
+        expect_case(&rt, cord.depth() == turn, "doubled", cord.len());
+        expect_case(
+            &rt,
+            balance_of(&rt, alloc, &cord).depth() == turn,
+            "balanced",
+            cord.len(),
+        );
+        cord = joined(&rt, alloc, &cord, &cord);
+    }
+    expect_shallow(&rt, alloc, &cord, "doubled");
+}
+
+// A place that looks random.
+fn place_of(turn: u64, len: u64) -> u64 {
+    turn.wrapping_mul(7_919_003) % len.max(1)
+}
+
+// Words put in at random places, by cutting and joining.
+#[test]
+fn inserted_at_random(rt: HostRuntime) {
+    let alloc = rt.alloc();
+    let word = cord_of(&rt, alloc, b"ten bytes.");
+    let mut cord = cord_of(&rt, alloc, &[7; 10_000]);
+    for turn in 0..2_000 {
+        let len = cord.len();
+        let place = place_of(turn, len);
+        let prefix = joined(&rt, alloc, &part_of(&rt, alloc, &cord, 0, place), &word);
+        cord = joined(&rt, alloc, &prefix, &part_of(&rt, alloc, &cord, place, len));
+    }
+    assert!(rt; cord.len() == 30_000);
+    expect_shallow(&rt, alloc, &cord, "inserted at random");
+}
+
+fn splice(rt: &impl Abort, alloc: Global, cord: &mut Cord, start: u64, count: u64, middle: &Cord) {
+    cord.splice(alloc, start, count, middle)
+        .expect(rt, "no memory");
+}
+
+#[test]
+fn edited_at_one_place(rt: HostRuntime) {
+    let alloc = rt.alloc();
+    let byte = cord_of(&rt, alloc, b"x");
+    let mut cord = grown(&rt, alloc, Order::Append, 1_000);
+    for turn in 0..100_000u64 {
+        splice(&rt, alloc, &mut cord, turn.saturating_add(32_000), 0, &byte);
+    }
+    assert!(rt; cord.len() == 165_000);
+    expect_shallow(&rt, alloc, &cord, "edited at one place");
+    let parts = match cord.root() {
+        None => 0,
+        Some(node) => counted(node),
+    };
+    assert!(rt; parts <= 1_001 + 100_000 / 32);
+}
+
+#[test]
+fn edited_at_random(rt: HostRuntime) {
+    let alloc = rt.alloc();
+    let byte = cord_of(&rt, alloc, b"x");
+    let mut cord = grown(&rt, alloc, Order::Append, 1_000);
+    for turn in 0..100_000 {
+        let place = place_of(turn, cord.len());
+        if turn % 2 == 0 {
+            splice(&rt, alloc, &mut cord, place, 0, &byte);
+        } else {
+            splice(&rt, alloc, &mut cord, place, 1, &Cord::empty());
+        }
+    }
+    expect_shallow(&rt, alloc, &cord, "edited at random");
+}
+
+// Two leaves of 40 bytes of which an edit leaves at most 64 become one, and no others.
+#[test]
+fn short_neighbours_become_one(rt: HostRuntime) {
+    let alloc = rt.alloc();
+    let leaf = cord_of(&rt, alloc, &[7; 40]);
+    let word = cord_of(&rt, alloc, b"ten bytes.");
+    for (start, count, middle, is_one) in [
+        (0, 16, &Cord::empty(), true),
+        (0, 15, &Cord::empty(), false),
+        (60, 16, &Cord::empty(), true),
+        (32, 16, &Cord::empty(), true),
+        (20, 26, &word, true),
+        (45, 26, &word, true),
+        (45, 25, &word, false),
+        (35, 26, &word, true),
+    ] {
+        let mut cord = joined(&rt, alloc, &leaf, &leaf);
+        splice(&rt, alloc, &mut cord, start, count, middle);
+        expect_case(&rt, (cord.depth() == 0) == is_one, "leaves", start);
+    }
+}

@@ -1,0 +1,164 @@
+// Files, sources and sinks, and the files in memory that several cases use.
+mod cut;
+mod disk;
+mod faults;
+mod fuse_files;
+mod fuse_sink;
+mod memory;
+mod memory_sink;
+mod sources;
+mod standard;
+
+ghost use Rattle.std.specs.Prelude.{◌≡◌, ◌<◌, ◌≤◌, ℕ, length, IsSome, IsSomeAnd};
+
+use super::cases::expect_case;
+use cord_io::{FileNo, Files, MemFiles, OpenFault, ReadFault, Sink, WriteFault};
+use std::alloc::Global;
+use std::process::Abort;
+
+// Files in memory: ten digits, and an empty file.
+fn digits_file(rt: &impl Abort, alloc: Global) -> MemFiles {
+    let mut files = MemFiles::new(alloc);
+    files
+        .add(alloc, "digits", b"0123456789")
+        .expect(rt, "memory");
+    files.add(alloc, "empty", b"").expect(rt, "memory");
+    files
+}
+
+// What is asked of files of which one of ten bytes is opened, and what they answer.
+#[derive(Clone, Copy)]
+enum Ask {
+    // A path that can't be opened.
+    Open(&'static str, OpenFault),
+    // At most so many bytes of the opened file from a place on: these come.
+    Read(u64, usize, &'static [u8]),
+    // A read from a place on, which fails.
+    Fault(u64),
+    // How often a call has failed.
+    Failures(u64),
+}
+
+// Opens a file of ten bytes.
+fn opened<F: Files>(rt: &impl Abort, files: &mut F, path: &str) -> FileNo
+    ensures long { IsSomeAnd (F.opened files.new result.0) (λ reported. 10 ≤ reported.1) }
+    ensures grows { (n : ℕ) → IsSome (F.opened files.old n) → F.opened files.new n ≡ F.opened files.old n }
+{
+    let found = files.open(path);
+    expect_case(rt, found.is_ok(), path, 10);
+    let Ok((no, len)) = found else {
+        panic!(rt; "not opened");
+    };
+    assert!(rt; len == 10);
+    no
+}
+
+fn expect_no_file<F: Files>(rt: &impl Abort, files: &mut F, path: &str, fault: OpenFault)
+    ensures { (n : ℕ) → F.opened files.new n ≡ F.opened files.old n }
+{
+    let found = files.open(path);
+    expect_case(rt, found == Err(fault), path, 0);
+    assert!(rt; found.is_err());
+}
+
+fn expect_answer<F: Files>(rt: &impl Abort, files: &mut F, no: FileNo, ask: Ask)
+    requires { IsSomeAnd (F.opened files.old no.0) (λ reported. 10 ≤ reported.1) }
+    ensures { (n : ℕ) → F.opened files.new n ≡ F.opened files.old n }
+{
+    match ask {
+        Ask::Open(path, fault) => expect_no_file(rt, files, path, fault),
+        Ask::Read(start, count, bytes) => {
+            let mut room = [0; 8];
+            assert!(rt; start < 10 && 0 < count && count <= 8);
+            expect_read(rt, files, no, start, &mut room[..count], bytes);
+        }
+        Ask::Fault(start) => {
+            assert!(rt; start < 10);
+            expect_fault(rt, files, no, start);
+        }
+        Ask::Failures(count) => expect_case(rt, files.failures() == count, "failures", count),
+    }
+}
+
+// Asks one after another.
+fn expect_answers<F: Files>(rt: &impl Abort, files: &mut F, no: FileNo, asks: &[Ask])
+    requires { IsSomeAnd (F.opened files.old no.0) (λ reported. 10 ≤ reported.1) }
+{
+    for ask in asks {
+        expect_answer(rt, files, no, *ask);
+    }
+}
+
+// Opens a file of ten bytes, and asks then.
+fn expect_all<F: Files>(rt: &impl Abort, files: &mut F, path: &str, asks: &[Ask]) {
+    let no = opened(rt, files, path);
+    expect_answers(rt, files, no, asks);
+}
+
+// Reads an opened file from a place on: these bytes come, which may be fewer than there is room for.
+fn expect_read<F: Files>(
+    rt: &impl Abort,
+    files: &mut F,
+    no: FileNo,
+    start: u64,
+    room: &mut [u8],
+    bytes: &[u8],
+)
+    requires inside { IsSomeAnd (F.opened files.old no.0) (λ reported. start < reported.1) }
+    requires room { 0 < length room.old }
+    ensures { (n : ℕ) → F.opened files.new n ≡ F.opened files.old n }
+{
+    let count = files.read_at(no, start, room);
+    expect_case(rt, count == Ok(bytes.len()), "the count from", start);
+    expect_case(rt, room.starts_with(bytes), "the bytes from", start);
+}
+
+// Reads an opened file from a place on, which fails.
+fn expect_fault<F: Files>(rt: &impl Abort, files: &mut F, no: FileNo, start: u64)
+    requires { IsSomeAnd (F.opened files.old no.0) (λ reported. start < reported.1) }
+    ensures { (n : ℕ) → F.opened files.new n ≡ F.opened files.old n }
+{
+    let count = files.read_at(no, start, &mut [0; 6]);
+    expect_case(rt, count == Err(ReadFault), "a fault from", start);
+}
+
+// What is asked of a sink, and what it answers.
+#[derive(Clone, Copy)]
+enum Offer {
+    // Of these bytes it takes so many.
+    Taken(&'static [u8], usize),
+    // Of these it takes none.
+    Refused(&'static [u8]),
+    Finished,
+    Unfinished,
+    // How often a call has failed.
+    Failed(u64),
+}
+
+fn expect_put<S: Sink>(
+    rt: &impl Abort,
+    sink: &mut S,
+    bytes: &[u8],
+    answer: Result<usize, WriteFault>,
+) {
+    assert!(rt; !bytes.is_empty());
+    let taken = sink.put(bytes);
+    expect_case(rt, taken == answer, "bytes", bytes.len() as u64);
+}
+
+fn expect_offer<S: Sink>(rt: &impl Abort, sink: &mut S, offer: Offer) {
+    match offer {
+        Offer::Taken(bytes, count) => expect_put(rt, sink, bytes, Ok(count)),
+        Offer::Refused(bytes) => expect_put(rt, sink, bytes, Err(WriteFault)),
+        Offer::Finished => assert!(rt; sink.finish() == Ok(())),
+        Offer::Unfinished => assert!(rt; sink.finish() == Err(WriteFault)),
+        Offer::Failed(count) => expect_case(rt, sink.failures() == count, "failures", count),
+    }
+}
+
+// Offers one after another.
+fn expect_offers<S: Sink>(rt: &impl Abort, sink: &mut S, offers: &[Offer]) {
+    for offer in offers {
+        expect_offer(rt, sink, *offer);
+    }
+}

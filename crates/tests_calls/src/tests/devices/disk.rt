@@ -1,0 +1,438 @@
+// The machine's files, real ones and those of a machine that fails on purpose.
+ghost use Rattle.std.specs.Prelude.{◌≡◌, ◌<◌, ◌≤◌, ℕ, length, take, drop, IfOk, IsErr, IsSomeAnd};
+ghost use Rattle.cord_io.specs.Device.{FileSystem, bytes_at};
+ghost use Rattle.cord_io.specs.DiskReported.{reported_by};
+ghost use Rattle.cord_io.specs.Reported.{Agrees};
+
+use super::super::cases::expect_case;
+use super::Ask::{self, Failures, Fault, Open, Read as Reads};
+use super::{expect_all, expect_answer, expect_answers, expect_no_file, opened};
+use cord_io::{DiskFiles, FileNo, Files, OpenFault, ReadFault};
+use std::alloc::{Allocator, Global};
+use std::cell::Cell;
+use std::fs::{self, Metadata, OpenFile};
+use std::io::{self, ErrorKind, Read, Seek, SeekFrom, Write};
+use std::os::unix::fs::FileExt;
+use std::process::Abort;
+use std::rt;
+
+const DIGITS: [u8; 10] = *b"0123456789";
+
+// How a machine fails.
+#[derive(Clone, Copy, PartialEq, Eq)]
+enum Trouble {
+    Nothing,
+    Missing,
+    Forbidden,
+    Directory,
+    NoSeek,
+    EmptyRead,
+    Interrupted,
+    InterruptedOnce,
+}
+
+// A machine that has ten digits at each path. Its files can be sought in or not, and fail after so many reads.
+#[derive(Drop)]
+struct Machine {
+    trouble: Trouble,
+    reads: u8,
+}
+
+#[derive(Drop)]
+struct MachineFile {
+    trouble: Trouble,
+    reads: Cell<u8>,
+}
+
+fn unsupported<T>() -> io::Result<T>
+    ensures { IsErr result }
+{
+    Err(io::Error::from(ErrorKind::Unsupported))
+}
+
+impl FileExt for MachineFile {
+    fn read_at(&self, buf: &mut [u8], offset: u64) -> io::Result<usize> {
+        let reads = self.reads.get();
+        if reads == 0 {
+            return match self.trouble {
+                Trouble::EmptyRead => Ok(0),
+                Trouble::InterruptedOnce => {
+                    self.reads.set(1);
+                    Err(io::Error::from(ErrorKind::Interrupted))
+                }
+                _ => Err(io::Error::from(ErrorKind::Interrupted)),
+            };
+        }
+        self.reads.set(reads - 1);
+        let place = offset.min(DIGITS.len() as u64) as usize;
+        let rest = &DIGITS[place..];
+        let count = rest.len().min(buf.len());
+        buf[..count].copy_from_slice(&rest[..count]);
+        Ok(count)
+    }
+
+    fn write_at(&self, _buf: &[u8], _offset: u64) -> io::Result<usize> {
+        unsupported()
+    }
+}
+
+// Files are read by their places alone.
+impl Read for MachineFile {
+    fn read(&mut self, _buf: &mut [u8]) -> io::Result<usize> {
+        unsupported()
+    }
+}
+
+impl Write for MachineFile {
+    fn write(&mut self, _buf: &[u8]) -> io::Result<usize> {
+        unsupported()
+    }
+
+    fn flush(&mut self) -> io::Result<()> {
+        unsupported()
+    }
+}
+
+impl Seek for MachineFile {
+    fn seek(&mut self, to: SeekFrom) -> io::Result<u64> {
+        match to {
+            SeekFrom::End(0) if self.trouble != Trouble::NoSeek => Ok(10),
+            _ => unsupported(),
+        }
+    }
+}
+
+impl OpenFile for MachineFile {
+    fn metadata(&self) -> io::Result<Metadata> {
+        if self.trouble == Trouble::Directory {
+            return Ok(Metadata::of_dir());
+        }
+        Ok(Metadata::of_file(10))
+    }
+
+    fn set_len(&self, _size: u64) -> io::Result<()> {
+        unsupported()
+    }
+
+    fn sync_all(&self) -> io::Result<()> {
+        unsupported()
+    }
+
+    fn sync_data(&self) -> io::Result<()> {
+        unsupported()
+    }
+}
+
+impl rt::Files for Machine {
+    type File = MachineFile;
+
+    type Dir = MachineFile;
+
+    fn open_file(&self, _how: &fs::OpenOptions, _path: &str) -> io::Result<MachineFile> {
+        match self.trouble {
+            Trouble::Missing => Err(io::Error::from(ErrorKind::NotFound)),
+            Trouble::Forbidden => Err(io::Error::from(ErrorKind::PermissionDenied)),
+            trouble => Ok(MachineFile {
+                trouble,
+                reads: Cell::new(self.reads),
+            }),
+        }
+    }
+
+    fn open_dir(&self, _path: &str) -> io::Result<MachineFile> {
+        unsupported()
+    }
+
+    fn metadata(&self, _path: &str) -> io::Result<Metadata> {
+        unsupported()
+    }
+
+    fn symlink_metadata(&self, _path: &str) -> io::Result<Metadata> {
+        unsupported()
+    }
+
+    fn copy(&self, _from: &str, _to: &str) -> io::Result<u64> {
+        unsupported()
+    }
+
+    fn rename(&self, _from: &str, _to: &str) -> io::Result<()> {
+        unsupported()
+    }
+
+    fn remove_file(&self, _path: &str) -> io::Result<()> {
+        unsupported()
+    }
+
+    fn create_dir(&self, _path: &str) -> io::Result<()> {
+        unsupported()
+    }
+
+    fn remove_dir(&self, _path: &str) -> io::Result<()> {
+        unsupported()
+    }
+
+    fn remove_dir_all<B: Allocator>(&self, _alloc: B, _path: &str) -> io::Result<()> {
+        unsupported()
+    }
+}
+
+// Asks a file of a machine.
+fn expect_asked(rt: &impl Abort, alloc: Global, machine: Machine, asks: &[Ask]) {
+    expect_all(rt, &mut DiskFiles::new(machine, alloc), "digits", asks);
+}
+
+// Reading on needs no call for each part: a read and one of the rest.
+#[test]
+fn reads_on_ahead(rt: HostRuntime) {
+    let machine = Machine {
+        trouble: Trouble::Nothing,
+        reads: 2,
+    };
+    let asks = [
+        Reads(0, 3, b"012"),
+        Reads(3, 3, b"345"),
+        Reads(6, 3, b"678"),
+        Reads(9, 3, b"9"),
+        Reads(5, 3, b"567"),
+        Failures(0),
+    ];
+    expect_asked(&rt, rt.alloc(), machine, &asks);
+}
+
+// Opens two files of ten bytes.
+fn opened_both<F: Files>(rt: &impl Abort, files: &mut F, one: &str, other: &str) -> (FileNo, FileNo)
+    ensures one { IsSomeAnd (F.opened files.new result.0.0) (λ reported. 10 ≤ reported.1) }
+    ensures other { IsSomeAnd (F.opened files.new result.1.0) (λ reported. 10 ≤ reported.1) }
+{
+    let first = opened(rt, files, one);
+    let second = opened(rt, files, other);
+    (first, second)
+}
+
+// Asks both of two opened files the same.
+fn expect_both<F: Files>(rt: &impl Abort, files: &mut F, one: FileNo, other: FileNo, ask: Ask)
+    requires one { IsSomeAnd (F.opened files.old one.0) (λ reported. 10 ≤ reported.1) }
+    requires other { IsSomeAnd (F.opened files.old other.0) (λ reported. 10 ≤ reported.1) }
+    ensures { (n : ℕ) → F.opened files.new n ≡ F.opened files.old n }
+{
+    expect_answer(rt, files, one, ask);
+    expect_answer(rt, files, other, ask);
+}
+
+fn read_in_turn<F: Files>(rt: &impl Abort, files: &mut F) {
+    let (one, other) = opened_both(rt, files, "one", "other");
+    expect_both(rt, files, one, other, Reads(0, 4, b"0123"));
+    expect_both(rt, files, one, other, Reads(4, 4, b"4567"));
+    expect_both(rt, files, one, other, Reads(8, 4, b"89"));
+    assert!(rt; files.failures() == 0);
+}
+
+// Two files that are read on in turn are each read ahead, by two reads each.
+#[test]
+fn reads_two_files_ahead(rt: HostRuntime) {
+    let machine = Machine {
+        trouble: Trouble::Nothing,
+        reads: 2,
+    };
+    read_in_turn(&rt, &mut DiskFiles::new(machine, rt.alloc()));
+}
+
+// A read elsewhere, no shorter than what was read in order before, and one of all that is left are read as they are, in
+// one call: where it fails they fail.
+#[test]
+fn reads_elsewhere_as_they_are(rt: HostRuntime) {
+    let machine = Machine {
+        trouble: Trouble::InterruptedOnce,
+        reads: 2,
+    };
+    let asks = [
+        Reads(6, 2, b"67"),
+        Reads(2, 2, b"23"),
+        Failures(0),
+        Fault(4),
+        Failures(1),
+    ];
+    expect_asked(&rt, rt.alloc(), machine, &asks);
+}
+
+// A read elsewhere asks for as many bytes as were read in order before, so what follows there takes no call.
+#[test]
+fn reads_a_range_elsewhere_in_one_call(rt: HostRuntime) {
+    let machine = Machine {
+        trouble: Trouble::Nothing,
+        reads: 2,
+    };
+    let asks = [
+        Reads(5, 5, b"56789"),
+        Reads(0, 2, b"01"),
+        Reads(2, 2, b"23"),
+        Failures(0),
+    ];
+    expect_asked(&rt, rt.alloc(), machine, &asks);
+}
+
+// A file that is read with short gaps is read ahead, as one that is read in order.
+#[test]
+fn reads_ahead_over_gaps(rt: HostRuntime) {
+    let machine = Machine {
+        trouble: Trouble::Nothing,
+        reads: 2,
+    };
+    let asks = [
+        Reads(0, 2, b"01"),
+        Reads(4, 2, b"45"),
+        Reads(8, 2, b"89"),
+        Failures(0),
+    ];
+    expect_asked(&rt, rt.alloc(), machine, &asks);
+}
+
+// A call that fails while it reads ahead is made again for the bytes that were asked for.
+#[test]
+fn a_fault_ahead_is_no_fault(rt: HostRuntime) {
+    let machine = Machine {
+        trouble: Trouble::InterruptedOnce,
+        reads: 1,
+    };
+    let asks = [Reads(0, 4, b"0123"), Reads(4, 4, b"4567"), Failures(0)];
+    expect_asked(&rt, rt.alloc(), machine, &asks);
+}
+
+// A read after a fault asks the machine again.
+#[test]
+fn faults_in_mid_stream_are_counted(rt: HostRuntime) {
+    for trouble in [Trouble::EmptyRead, Trouble::Interrupted] {
+        let machine = Machine { trouble, reads: 1 };
+        let asks = [Reads(2, 4, b"2345"), Fault(6), Fault(6), Failures(2)];
+        expect_asked(&rt, rt.alloc(), machine, &asks);
+    }
+}
+
+#[test]
+fn only_a_missing_path_is_not_found(rt: HostRuntime) {
+    let cases = [
+        (Trouble::Missing, OpenFault::NotFound, 0),
+        (Trouble::Forbidden, OpenFault::Failed, 1),
+        (Trouble::Directory, OpenFault::Failed, 1),
+        (Trouble::NoSeek, OpenFault::Failed, 1),
+    ];
+    for (trouble, fault, failures) in cases {
+        let machine = Machine { trouble, reads: 0 };
+        let mut files = DiskFiles::new(machine, rt.alloc());
+        assert!(rt; files.open("digits") == Err(fault));
+        assert!(rt; files.failures() == failures);
+    }
+}
+
+// Writes the ten digits to a file of the machine that runs the test.
+fn write_digits(rt: &(impl rt::Files + Abort), path: &str) {
+    fs::write(rt, path, DIGITS.as_slice()).expect(rt, "not written");
+}
+
+fn remove(rt: &(impl rt::Files + Abort), path: &str) {
+    fs::remove_file(rt, path).expect(rt, "not removed");
+}
+
+// The files of the machine that runs the test.
+fn real<R: rt::Files + AllocGlobal + Abort + Clone>(rt: &R) -> DiskFiles<R>
+where
+    R::File: FileExt,
+{
+    DiskFiles::new(rt.clone().expect(rt, "no runtime"), rt.alloc())
+}
+
+const REAL_PATH: &str = "cord_calls_digits";
+
+// What is asked of the opened file when the machine has none there any more.
+const REMOVED: &[Ask] = &[
+    Reads(7, 4, b"789"),
+    Reads(1, 4, b"1234"),
+    Open(REAL_PATH, OpenFault::NotFound),
+    Failures(0),
+];
+
+#[test]
+fn real_files(rt: HostRuntime) {
+    write_digits(&rt, REAL_PATH);
+    let mut files = real(&rt);
+    let no = opened(&rt, &mut files, REAL_PATH);
+    remove(&rt, REAL_PATH);
+    expect_answers(&rt, &mut files, no, REMOVED);
+}
+
+#[test]
+fn directories_and_bad_paths_are_no_files(rt: HostRuntime) {
+    let mut files = real(&rt);
+    expect_no_file(&rt, &mut files, ".", OpenFault::Failed);
+    expect_no_file(&rt, &mut files, "out\0side", OpenFault::Failed);
+    assert!(rt; files.failures() == 2);
+}
+
+// Reads from a place of a file on. A file system that agrees with all that was reported has these bytes there.
+fn read_reported<R: rt::Files>(
+    files: &mut DiskFiles<R>,
+    path: &str,
+    start: u64,
+    out: &mut [u8],
+) -> Result<usize, ReadFault>
+where
+    R::File: FileExt,
+    requires { 0 < length out.old }
+    ensures { (file_system : FileSystem) → Agrees file_system (reported_by files.new) → IfOk result (λ k.
+        take k out.new ≡ take k (drop start (bytes_at file_system path.now))) }
+{
+    let Ok((no, len)) = files.open(path) else {
+        return Err(ReadFault);
+    };
+    if len <= start {
+        return Err(ReadFault);
+    }
+    files.read_at(no, start, out)
+}
+
+// What is read of a path from a place on, where there is something.
+fn expect_reported<R: rt::Files>(
+    rt: &impl Abort,
+    files: &mut DiskFiles<R>,
+    path: &str,
+    start: u64,
+    bytes: &[u8],
+)
+where
+    R::File: FileExt,
+{
+    let mut out = [0u8; 4];
+    assert!(rt; read_reported(files, path, start, &mut out) == Ok(bytes.len()));
+    expect_case(rt, out.starts_with(bytes), "from", start);
+}
+
+// That nothing is read of a path from a place on.
+fn expect_unreported<R: rt::Files>(
+    rt: &impl Abort,
+    files: &mut DiskFiles<R>,
+    path: &str,
+    start: u64,
+)
+where
+    R::File: FileExt,
+{
+    let mut out = [0u8; 4];
+    assert!(rt;
+        read_reported(files, path, start, &mut out) == Err(ReadFault),
+        "from {start}"
+    );
+}
+
+// What was told of a real file agrees with what was written there.
+#[test]
+fn reported_bytes_of_a_real_file(rt: HostRuntime) {
+    let path = "cord_calls_told";
+    write_digits(&rt, path);
+    let mut files = real(&rt);
+    expect_reported(&rt, &mut files, path, 3, b"3456");
+    expect_reported(&rt, &mut files, path, 8, b"89");
+    expect_unreported(&rt, &mut files, path, 10);
+    remove(&rt, path);
+    expect_unreported(&rt, &mut files, path, 0);
+    assert!(rt; files.failures() == 0);
+}

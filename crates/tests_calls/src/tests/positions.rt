@@ -1,0 +1,236 @@
+// Cases of worked examples, over a source of one entry.
+ghost use Rattle.std.specs.Prelude.{◌≡◌, ◌≤◌};
+ghost use Rattle.cord_io.specs.Table.{Lengths, length_at};
+ghost use Rattle.cord_core.specs.Cord.{CordFitsIn};
+
+use super::cases::expect_case;
+use super::entry::Entry;
+use super::made::{Part, Parts, made};
+use super::trees::{cord_of, joined};
+use Part::{Func, Leaf, Run, Twice};
+use Step::{At, Fetched, Gone, Len, Nexts, Prev};
+use cord_core::Cord;
+use cord_io::{CordError, Source};
+use cord_pos::Position;
+use std::alloc::Global;
+use std::process::Abort;
+
+// What is done with a position, or has to hold of it.
+#[derive(Clone, Copy)]
+enum Step {
+    // So many steps on.
+    Nexts(u32),
+    // A step back.
+    Prev,
+    // It is at this index, where it is inside, after so many visits.
+    At(Option<u64>, u64),
+    // It is outside.
+    Gone,
+    // Its byte is this over a source of so many reads, whose entry 2 has 600 times a byte.
+    Fetched(u8, u64, Result<u8, CordError>),
+    // It is in a cord of this length.
+    Len(u64),
+}
+
+const ABC: Parts = &[Leaf(b"abc")];
+
+const TWO_LEAVES: Parts = &[Leaf(&[120; 100]), Leaf(&[121; 100])];
+
+// Two leaves of 100 bytes, twice.
+const FOUR_LEAVES: Parts = &[Leaf(&[120; 100]), Leaf(&[121; 100]), Twice(1)];
+
+// The first byte of entry 2.
+const ENTRY: Parts = &[Func(0, 1)];
+
+// From a place on.
+const WALKS: &[(&str, Parts, u64, &[Step])] = &[
+    (
+        "position_calls",
+        ABC,
+        1,
+        &[
+            Fetched(0, 0, Ok(98)),
+            Nexts(1),
+            Fetched(0, 0, Ok(99)),
+            At(Some(2), 1),
+            Len(3),
+        ],
+    ),
+    (
+        "positions_end_on_both_sides",
+        ABC,
+        2,
+        &[Nexts(1), Gone, Prev, Gone],
+    ),
+    ("positions_end_on_both_sides", ABC, 0, &[Prev, Gone]),
+    ("positions_end_on_both_sides", ABC, 3, &[Gone]),
+    (
+        "visits_counted",
+        TWO_LEAVES,
+        0,
+        &[
+            At(Some(0), 2),
+            Nexts(99),
+            At(Some(99), 2),
+            Nexts(1),
+            At(Some(100), 3),
+            Prev,
+            At(Some(99), 4),
+        ],
+    ),
+    (
+        "visits_counted_at_each_place",
+        FOUR_LEAVES,
+        0,
+        &[
+            Len(400),
+            At(Some(0), 3),
+            Nexts(199),
+            At(Some(199), 4),
+            Nexts(1),
+            At(Some(200), 6),
+            Nexts(199),
+            At(Some(399), 7),
+            Nexts(1),
+            Gone,
+        ],
+    ),
+    (
+        "visits_of_whole_walks",
+        FOUR_LEAVES,
+        400,
+        &[Len(400), At(None, 0)],
+    ),
+    (
+        "position_keeps_no_bytes",
+        ENTRY,
+        0,
+        &[Fetched(97, 1, Ok(97)), Fetched(98, 1, Ok(98))],
+    ),
+    (
+        "a_fault_leaves_the_position",
+        ENTRY,
+        0,
+        &[
+            Fetched(97, 0, Err(CordError::ReadFailed)),
+            At(Some(0), 1),
+            Fetched(97, 1, Ok(97)),
+        ],
+    ),
+    ("a_run_has_its_byte", &[Run(46, 3)], 2, &[At(Some(2), 1)]),
+];
+
+fn walk_on(position: &mut Position, steps: u32)
+    requires { (lengths : Lengths) → 600 ≤ length_at lengths 2 → CordFitsIn lengths position.old.cord }
+    ensures { (lengths : Lengths) → 600 ≤ length_at lengths 2 → CordFitsIn lengths position.new.cord }
+{
+    for _step in 0..steps {
+        position.next();
+    }
+}
+
+fn expect_fetched(
+    rt: &impl Abort,
+    name: &str,
+    position: &mut Position,
+    byte: u8,
+    reads: u64,
+    answer: Result<u8, CordError>,
+)
+    requires { (lengths : Lengths) → 600 ≤ length_at lengths 2 → CordFitsIn lengths position.old.cord }
+    ensures { position.new.cord ≡ position.old.cord }
+{
+    let bytes = [byte; 600];
+    let mut source = Entry::new(&bytes, reads);
+    assert!(rt; position.is_valid());
+    let fetched = position.fetch(&mut source);
+    expect_case(rt, fetched == answer, name, reads);
+    expect_case(
+        rt,
+        source.failures() == u64::from(answer.is_err()),
+        name,
+        reads,
+    );
+}
+
+fn expect_at(rt: &impl Abort, name: &str, position: &Position, index: Option<u64>, visits: u64) {
+    expect_case(rt, position.is_valid() == index.is_some(), name, visits);
+    expect_case(rt, position.index() == index, name, visits);
+    expect_case(rt, position.visits() == visits, name, visits);
+}
+
+fn expect_gone(rt: &impl Abort, name: &str, position: &Position) {
+    expect_case(rt, !position.is_valid(), name, position.visits());
+    expect_case(rt, position.index() == None, name, position.visits());
+}
+
+fn expect_len(rt: &impl Abort, name: &str, position: &Position, len: u64) {
+    expect_case(rt, position.cord().len() == len, name, len);
+}
+
+fn take_step(rt: &impl Abort, name: &str, position: &mut Position, step: Step)
+    requires { (lengths : Lengths) → 600 ≤ length_at lengths 2 → CordFitsIn lengths position.old.cord }
+    ensures { (lengths : Lengths) → 600 ≤ length_at lengths 2 → CordFitsIn lengths position.new.cord }
+{
+    match step {
+        Nexts(steps) => walk_on(position, steps),
+        Prev => position.prev(),
+        At(index, visits) => expect_at(rt, name, position, index, visits),
+        Gone => expect_gone(rt, name, position),
+        Fetched(byte, reads, answer) => expect_fetched(rt, name, position, byte, reads, answer),
+        Len(len) => expect_len(rt, name, position, len),
+    }
+}
+
+fn walk(rt: &impl Abort, name: &str, position: &mut Position, steps: &[Step])
+    requires { (lengths : Lengths) → 600 ≤ length_at lengths 2 → CordFitsIn lengths position.old.cord }
+{
+    for step in steps {
+        take_step(rt, name, position, *step);
+    }
+}
+
+fn expect_walk(
+    rt: &impl Abort,
+    alloc: Global,
+    name: &str,
+    parts: Parts,
+    start: u64,
+    steps: &[Step],
+) {
+    let cord = made(rt, alloc, parts);
+    walk(rt, name, &mut Position::set(&cord, start), steps);
+}
+
+#[test]
+fn cases_of_walks(rt: HostRuntime) {
+    for &(name, parts, start, steps) in WALKS {
+        expect_walk(&rt, rt.alloc(), name, parts, start, steps);
+    }
+}
+
+#[test]
+fn visits_of_whole_walks(rt: HostRuntime) {
+    let cord = made(&rt, rt.alloc(), FOUR_LEAVES);
+    assert!(rt; cord.len() == 400);
+    assert!(rt; Position::walk_to(&cord, 200).visits() == 6);
+    assert!(rt; Position::walk_through(&cord).visits() == 7);
+}
+
+#[test]
+fn nothing_is_walked_through(rt: HostRuntime) {
+    let empty = Cord::empty();
+    assert!(rt; !Position::walk_through(&empty).is_valid());
+}
+
+#[test]
+fn depth_fifty(rt: HostRuntime) {
+    let alloc = rt.alloc();
+    let piece = cord_of(&rt, alloc, &[7; 65]);
+    let mut cord = joined(&rt, alloc, &piece, &piece);
+    for _ in 0..49 {
+        cord = joined(&rt, alloc, &cord, &piece);
+    }
+    assert!(rt; cord.depth() == 50);
+    assert!(rt; Position::set(&cord, 0).visits() == 51);
+}

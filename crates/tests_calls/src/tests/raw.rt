@@ -1,0 +1,105 @@
+// Worked values, each call once with ample memory.
+use super::cases::expect_case;
+use super::trees::pattern;
+use cord_raw::RawBuf;
+use std::alloc::Global;
+use std::process::Abort;
+use std::rt::HostRuntime;
+
+fn new_buffer(rt: &impl Abort, alloc: Global) -> RawBuf {
+    RawBuf::new(alloc).expect(rt, "no memory")
+}
+
+fn text_of(rt: &impl Abort, alloc: Global, length: u64) -> Vec<u8> {
+    pattern(alloc, length).expect(rt, "no memory")
+}
+
+// Pushes a byte, for which there is room.
+fn push(rt: &impl Abort, alloc: Global, buffer: &mut RawBuf, byte: u8) {
+    assert!(rt; buffer.len() < RawBuf::CAP);
+    buffer.push(alloc, byte).expect(rt, "no memory");
+}
+
+// Adds bytes, for which there is room.
+fn extend(rt: &impl Abort, alloc: Global, buffer: &mut RawBuf, bytes: &[u8]) {
+    assert!(rt; bytes.len() as u64 <= RawBuf::CAP - buffer.len());
+    buffer.extend(alloc, bytes).expect(rt, "no memory");
+}
+
+// That its shared slice is the text, and its length the text's.
+fn expect_text(rt: &impl Abort, alloc: Global, buffer: &RawBuf, text: &[u8]) {
+    assert!(rt; buffer.len() > 0);
+    let shared = buffer.to_shared(alloc).expect(rt, "no memory");
+    assert!(rt; buffer.len() == text.len() as u64);
+    assert!(rt; shared.as_slice() == text);
+}
+
+// That the text stands there from `start` on.
+fn expect_at(rt: &impl Abort, alloc: Global, buffer: &RawBuf, start: u64, text: &[u8]) {
+    let mut range = Vec::from_elem(alloc, 0, text.len()).expect(rt, "no memory");
+    assert!(rt; start <= buffer.len() && range.len() as u64 <= buffer.len() - start);
+    buffer.copy_to(start, &mut range);
+    expect_case(rt, range.as_slice() == text, "from", start);
+}
+
+#[test]
+fn raw_buf_calls(rt: HostRuntime) {
+    let alloc = rt.alloc();
+    let mut buffer = new_buffer(&rt, alloc);
+    assert!(rt; buffer.len() == 0);
+    push(&rt, alloc, &mut buffer, 97);
+    extend(&rt, alloc, &mut buffer, b"bc");
+    assert!(rt; buffer.len() == 3);
+    expect_at(&rt, alloc, &buffer, 1, b"bc");
+    expect_text(&rt, alloc, &buffer, b"abc");
+    buffer.clear();
+    assert!(rt; buffer.len() == 0);
+}
+
+#[test]
+fn raw_buf_full_chain(rt: HostRuntime) {
+    let alloc = rt.alloc();
+    let text = text_of(&rt, alloc, RawBuf::CAP);
+    let mut buffer = new_buffer(&rt, alloc);
+    for run in text.chunks(100) {
+        extend(&rt, alloc, &mut buffer, run);
+    }
+    assert!(rt; buffer.len() == 4_096);
+    expect_text(&rt, alloc, &buffer, &text);
+    expect_at(&rt, alloc, &buffer, 127, &[127, 128]);
+}
+
+#[test]
+fn bytes_pushed_one_by_one_fill_the_chain(rt: HostRuntime) {
+    let alloc = rt.alloc();
+    let text = text_of(&rt, alloc, RawBuf::CAP);
+    let mut buffer = new_buffer(&rt, alloc);
+    for byte in &text {
+        push(&rt, alloc, &mut buffer, *byte);
+    }
+    assert!(rt; buffer.len() == 4_096);
+    expect_text(&rt, alloc, &buffer, &text);
+}
+
+#[test]
+fn cleared_buffer_serves_again(rt: HostRuntime) {
+    let alloc = rt.alloc();
+    let text = text_of(&rt, alloc, 300);
+    let mut buffer = new_buffer(&rt, alloc);
+    extend(&rt, alloc, &mut buffer, &text);
+    expect_text(&rt, alloc, &buffer, &text);
+    buffer.clear();
+    extend(&rt, alloc, &mut buffer, b"xyz");
+    expect_text(&rt, alloc, &buffer, b"xyz");
+}
+
+#[test]
+fn ranges_are_copied_from_each_start(rt: HostRuntime) {
+    let alloc = rt.alloc();
+    let text = text_of(&rt, alloc, 400);
+    let mut buffer = new_buffer(&rt, alloc);
+    extend(&rt, alloc, &mut buffer, &text);
+    for (start, range) in text.windows(130).enumerate() {
+        expect_at(&rt, alloc, &buffer, start as u64, range);
+    }
+}

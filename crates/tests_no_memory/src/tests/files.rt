@@ -1,0 +1,84 @@
+//! Files in memory: a file is added whole or not at all.
+ghost use Rattle.std.specs.Prelude.{◌≡◌, ◌≤◌, ℕ, None, length};
+ghost use Rattle.cord_io.specs.MemoryFileSystem.{file_system_in};
+
+use cord_io::{CordError, Files, MemFiles};
+use std::alloc::Global;
+use std::process::Abort;
+
+// Paths, and the bytes of the file at each, or none where there is no file.
+type FileSystem<'a> = [(&'a str, Option<&'a [u8]>); 3];
+
+/// Whether the file at a path has these bytes, which are 8 at most; or none where there is no such file.
+pub fn holds(files: &mut MemFiles, path: &str, bytes: Option<&[u8]>) -> bool {
+    let Ok((no, len)) = files.open(path) else {
+        return bytes.is_none();
+    };
+    let mut out = [0u8; 8];
+    if len == 0 {
+        return bytes == Some(b"".as_slice());
+    }
+    match files.read_at(no, 0, &mut out) {
+        Ok(count) => count as u64 == len && bytes == Some(&out[..count]),
+        Err(_) => false,
+    }
+}
+
+// Whether these are the files.
+fn are(files: &mut MemFiles, file_system: &FileSystem) -> bool {
+    file_system
+        .iter()
+        .all(|(path, bytes)| holds(files, path, *bytes))
+}
+
+// The files "a" and "b".
+fn two_files(rt: &impl Abort, alloc: Global) -> MemFiles
+    ensures unopened { (n : ℕ) → ⟦<MemFiles as Files>⟧.opened result n ≡ None }
+    ensures few { length (file_system_in result) ≤ 4 }
+{
+    let mut files = MemFiles::new(alloc);
+    again!(rt, files.add(alloc, "a", b"old"));
+    again!(rt, files.add(alloc, "b", b"other"));
+    files
+}
+
+// Adds `newer` at a path; the files are these then, and "a" and "b" as they were after a refusal. Files are added only
+// before any is read: so one run looks at what a refusal left, and one makes the call again.
+fn add(rt: &impl Abort, alloc: Global, path: &str, after: &FileSystem) {
+    let before = [
+        ("a", Some(b"old".as_slice())),
+        ("b", Some(b"other".as_slice())),
+        ("c", None),
+    ];
+    let mut files = two_files(rt, alloc);
+    match files.add(alloc, path, b"newer") {
+        Ok(()) => assert!(rt; are(&mut files, after)),
+        Err(error) => {
+            assert!(rt; error == CordError::NoMemory);
+            assert!(rt; are(&mut files, &before), "a file has changed");
+        }
+    }
+    let mut files = two_files(rt, alloc);
+    again!(rt, files.add(alloc, path, b"newer"));
+    assert!(rt; are(&mut files, after));
+}
+
+#[test]
+fn refused_add_at_a_new_path(rt: HostRuntime) {
+    let after = [
+        ("a", Some(b"old".as_slice())),
+        ("b", Some(b"other".as_slice())),
+        ("c", Some(b"newer".as_slice())),
+    ];
+    add(&rt, rt.alloc(), "c", &after);
+}
+
+#[test]
+fn refused_add_at_a_path_that_is_there(rt: HostRuntime) {
+    let after = [
+        ("a", Some(b"newer".as_slice())),
+        ("b", Some(b"other".as_slice())),
+        ("c", None),
+    ];
+    add(&rt, rt.alloc(), "a", &after);
+}

@@ -1,0 +1,162 @@
+//! Plans: made, shown, and their jumps.
+use super::scripts::read;
+use super::texts::{expect_bytes, expect_no_memory};
+use cord_io::{CordError, MemSink, Sink};
+use cord_plan::{Plan, plan};
+use cord_script::Script;
+use std::alloc::Global;
+use std::process::Abort;
+
+// A script, how many lines it has, and what its plan and its trivial plan show.
+#[derive(Drop)]
+struct Planned {
+    script: &'static str,
+    lines: usize,
+    planned: &'static str,
+    unplanned: &'static str,
+}
+
+const SEAM: Planned = Planned {
+    script: "let a \"abc\"\nlet b \"def\"\ncat t a b\nsubstr z t 2 3\nput z",
+    lines: 5,
+    planned: "1 build a literal(3)\n2 build b literal(3)\n3 measure t cat(a b)\n4 measure z sub(cat(a b) 2 3)\n\
+        5 write sub(cat(a b) 2 3)\n",
+    unplanned: "1 build a literal(3)\n2 build b literal(3)\n3 build t cat(a b)\n4 build z sub(t 2 3)\n5 write z\n",
+};
+
+const NEXT_TURN: Planned = Planned {
+    script: "let x \"\"\nrepeat 3\nput x\ncatc x x 65\nend",
+    lines: 5,
+    planned: "1 build x literal(0)\n2 repeat 3\n3 write x\n4 build x cat(x run(65 1))\n5 end\n",
+    unplanned: "1 build x literal(0)\n2 repeat 3\n3 write x\n4 build x cat(x run(65 1))\n5 end\n",
+};
+
+const BOTH_ASSIGN: Planned = Planned {
+    script: "let x \"a\"\nlen n x\nif n eq 1\nlet x \"b\"\nelse\nlet x \"c\"\nend\nput x",
+    lines: 8,
+    planned: "1 measure x literal(1)\n2 number n len(x)\n3 if n eq 1\n4 build x literal(1)\n5 else\n\
+        6 build x literal(1)\n7 end\n8 write x\n",
+    unplanned: "1 build x literal(1)\n2 number n len(x)\n3 if n eq 1\n4 build x literal(1)\n5 else\n\
+        6 build x literal(1)\n7 end\n8 write x\n",
+};
+
+// That a plan shows a text to a new sink.
+fn expect_shown(rt: &impl Abort, alloc: Global, plan: &Plan, text: &str) {
+    let mut sink = MemSink::new(alloc);
+    assert!(rt; plan.show(&mut sink) == Ok(()));
+    expect_bytes(rt, sink.bytes(), text.as_bytes());
+}
+
+// That a sink which found no memory has taken a prefix of a text.
+fn expect_part(rt: &impl Abort, sink: &MemSink, error: CordError, text: &str) {
+    assert!(rt; error == CordError::WriteFailed);
+    assert!(rt; sink.failures() == 1);
+    assert!(rt; text.as_bytes().starts_with(sink.bytes()));
+}
+
+// That a plan shows a text, to another sink where the first one found no memory.
+fn expect_shows(rt: &impl Abort, alloc: Global, plan: &Plan, text: &str) {
+    let mut sink = MemSink::new(alloc);
+    match plan.show(&mut sink) {
+        Ok(()) => expect_bytes(rt, sink.bytes(), text.as_bytes()),
+        Err(error) => {
+            expect_part(rt, &sink, error, text);
+            expect_shown(rt, alloc, plan, text);
+        }
+    }
+}
+
+// The plan that one of two equal calls made: at most one of them was refused, and that when out of memory.
+fn made(rt: &impl Abort, first: Result<Plan, CordError>, second: Result<Plan, CordError>) -> Plan {
+    match first {
+        Ok(plan) => plan,
+        Err(error) => {
+            expect_no_memory(rt, error);
+            second.expect(rt, "memory")
+        }
+    }
+}
+
+// That a script of which a plan was refused still has all of its statements, as its trivial plan shows them.
+fn expect_statements(rt: &impl Abort, alloc: Global, script: &Script, case: &Planned) {
+    assert!(rt; script.statements().len() == case.lines);
+    let unplanned = Plan::trivial(alloc, script).expect(rt, "memory");
+    expect_shown(rt, alloc, &unplanned, case.unplanned);
+}
+
+// Makes the plan of a script.
+fn make(rt: &impl Abort, alloc: Global, case: &Planned) {
+    let script = read(rt, alloc, case.script, case.lines);
+    let first = plan(alloc, &script);
+    if first.is_err() {
+        expect_statements(rt, alloc, &script, case);
+    }
+    let planned = made(rt, first, plan(alloc, &script));
+    expect_shows(rt, alloc, &planned, case.planned);
+}
+
+// Makes the trivial plan of a script.
+fn make_trivial(rt: &impl Abort, alloc: Global, case: &Planned) {
+    let script = read(rt, alloc, case.script, case.lines);
+    let first = Plan::trivial(alloc, &script);
+    if first.is_err() {
+        expect_statements(rt, alloc, &script, case);
+    }
+    let unplanned = made(rt, first, Plan::trivial(alloc, &script));
+    expect_shows(rt, alloc, &unplanned, case.unplanned);
+}
+
+#[test]
+fn refused_plan_over_a_seam(rt: HostRuntime) {
+    make(&rt, rt.alloc(), &SEAM);
+}
+
+#[test]
+fn refused_plan_of_a_loop(rt: HostRuntime) {
+    make(&rt, rt.alloc(), &NEXT_TURN);
+}
+
+#[test]
+fn refused_plan_of_branches(rt: HostRuntime) {
+    make(&rt, rt.alloc(), &BOTH_ASSIGN);
+}
+
+#[test]
+fn refused_trivial_plans(rt: HostRuntime) {
+    for case in &[SEAM, NEXT_TURN, BOTH_ASSIGN] {
+        make_trivial(&rt, rt.alloc(), case);
+    }
+}
+
+const BLOCKS: Planned = Planned {
+    script: "let x \"a\"\nrepeat 2\nlen n x\nif n eq 1\nlet x \"b\"\nelse\nlet x \"c\"\nend\nif n gt 1\nput x\nend\nend\n\
+        put x",
+    lines: 13,
+    planned: "",
+    unplanned: "1 build x literal(1)\n2 repeat 2\n3 number n len(x)\n4 if n eq 1\n5 build x literal(1)\n6 else\n\
+        7 build x literal(1)\n8 end\n9 if n gt 1\n10 write x\n11 end\n12 end\n13 write x\n",
+};
+
+// The jumps of a plan that shows this.
+fn jumps_of(rt: &impl Abort, alloc: Global, made: &Plan, text: &str) -> Vec<usize> {
+    match made.jumps(alloc) {
+        Ok(jumps) => jumps,
+        Err(error) => {
+            expect_no_memory(rt, error);
+            expect_shown(rt, alloc, made, text);
+            made.jumps(alloc).expect(rt, "memory")
+        }
+    }
+}
+
+// A `repeat` leads after its `end`, an `if` after its `else` or to its `end`, an `else` to its `end`, and any other to
+// the next place.
+#[test]
+fn refused_jumps(rt: HostRuntime) {
+    let alloc = rt.alloc();
+    let script = read(&rt, alloc, BLOCKS.script, BLOCKS.lines);
+    let made = again!(&rt, Plan::trivial(alloc, &script));
+    let jumps = jumps_of(&rt, alloc, &made, BLOCKS.unplanned);
+    let expected: [usize; 13] = [1, 12, 3, 6, 5, 7, 7, 8, 10, 10, 11, 12, 13];
+    assert!(rt; jumps.as_slice() == expected.as_slice());
+}

@@ -1,0 +1,5 @@
+//! What is read, planned and run, case by case.
+mod faults;
+mod plans;
+mod runs;
+mod scripts;

@@ -1,0 +1,127 @@
+// Plans of worked scripts, as they are shown, against texts that were written by hand.
+use cord_io::{CordError, FuseSink, MemSink};
+use cord_plan::{Plan, plan};
+use cord_script::{Script, parse};
+use std::process::Abort;
+
+const HELLO: &[u8] = b"let x \"hello\"\nput x\n";
+
+const SEAM: &[u8] = b"let a \"abc\"\nlet b \"def\"\ncat t a b\nsubstr z t 2 3\nput z\n";
+
+// The script of these bytes.
+fn read(rt: &(impl AllocGlobal + Abort), script: &[u8]) -> Script {
+    match parse(rt.alloc(), script) {
+        Ok(script) => script,
+        Err(_) => panic!(rt; "the script is refused"),
+    }
+}
+
+// The plan of a script.
+fn plan_of(rt: &(impl AllocGlobal + Abort), script: &[u8]) -> Plan {
+    plan(rt.alloc(), &read(rt, script)).expect(rt, "no memory")
+}
+
+// The plan of a script that has each line as it stands.
+fn trivial_plan_of(rt: &(impl AllocGlobal + Abort), script: &[u8]) -> Plan {
+    Plan::trivial(rt.alloc(), &read(rt, script)).expect(rt, "no memory")
+}
+
+// What a plan shows.
+fn expect_shown(rt: &(impl AllocGlobal + Abort), name: &str, plan: &Plan, shown: &[u8]) {
+    let mut sink = MemSink::new(rt.alloc());
+    let end = plan.show(&mut sink);
+    assert!(rt; end == Ok(()) && sink.bytes() == shown, "{name}");
+}
+
+// A name, a script, and what its plan shows.
+const PLANNED: &[(&str, &[u8], &[u8])] = &[
+    ("hello", HELLO, b"1 build x literal(5)\n2 write x\n"),
+    (
+        "substr-over-seam",
+        SEAM,
+        b"1 build a literal(3)\n2 build b literal(3)\n3 measure t cat(a b)\n4 measure z sub(cat(a b) 2 3)\n\
+            5 write sub(cat(a b) 2 3)\n",
+    ),
+    (
+        "loop-reads-next-turn",
+        b"let x \"\"\nrepeat 3\nput x\ncatc x x 65\nend\n",
+        b"1 build x literal(0)\n2 repeat 3\n3 write x\n4 build x cat(x run(65 1))\n5 end\n",
+    ),
+    (
+        "substr-of-unread-cat-too-long",
+        b"chars a 0 1099511627775\nlet b \"b\"\ncat t a b\nsubstr z t 0 1\nput b\n",
+        b"1 measure a run(0 1099511627775)\n2 build b literal(1)\n3 measure t cat(run(0 1099511627775) b)\n\
+            4 measure z sub(cat(run(0 1099511627775) b) 0 1)\n5 write b\n",
+    ),
+    (
+        "operand-assigned-between",
+        b"let a \"a\"\nlet b \"b\"\ncat t a b\nlet a \"z\"\nsubstr z t 0 2\nput z\n",
+        b"1 build a literal(1)\n2 build b literal(1)\n3 build t cat(a b)\n4 measure a literal(1)\n\
+            5 measure z sub(t 0 2)\n6 write sub(t 0 2)\n",
+    ),
+    (
+        "eager-unread-planned",
+        b"eager x \"p\"\nlet y \"a\"\nput y\n",
+        b"1 measure x eager(\"p\")\n2 build y literal(1)\n3 write y\n",
+    ),
+    (
+        "if-else-both-assign",
+        b"let x \"a\"\nlen n x\nif n eq 1\nlet x \"b\"\nelse\nlet x \"c\"\nend\nput x\n",
+        b"1 measure x literal(1)\n2 number n len(x)\n3 if n eq 1\n4 build x literal(1)\n5 else\n\
+            6 build x literal(1)\n7 end\n8 write x\n",
+    ),
+    (
+        "if-without-else-keeps",
+        b"let x \"a\"\nlen n x\nif n gt 1\nlet x \"b\"\nend\nput x\n",
+        b"1 build x literal(1)\n2 number n len(x)\n3 if n gt 1\n4 build x literal(1)\n5 end\n6 write x\n",
+    ),
+    (
+        "paths-and-negative-numbers",
+        b"file f \"a\\\"\\\\\xc3\x88\"\nset n -9223372036854775808\nadd n -1 0\n",
+        b"1 measure f file(\"a\\x22\\x5c\\xc3\\x88\")\n2 number n set(-9223372036854775808)\n3 number n add(-1 0)\n",
+    ),
+];
+
+// A name, a script, and what its trivial plan shows.
+const UNPLANNED: &[(&str, &[u8], &[u8])] = &[
+    ("hello", HELLO, b"1 build x literal(5)\n2 write x\n"),
+    (
+        "substr-over-seam",
+        SEAM,
+        b"1 build a literal(3)\n2 build b literal(3)\n3 build t cat(a b)\n4 build z sub(t 2 3)\n5 write z\n",
+    ),
+    (
+        "loop-reads-next-turn",
+        b"let x \"\"\nrepeat 3\nput x\ncatc x x 65\nend\n",
+        b"1 build x literal(0)\n2 repeat 3\n3 write x\n4 build x cat(x run(65 1))\n5 end\n",
+    ),
+    (
+        "a-loop-and-a-branch",
+        b"let x \"a\"\nrepeat 3\nput x\ncatc x x 65\nend\nlen n x\nif n gt 1\nelse\nend\n",
+        b"1 build x literal(1)\n2 repeat 3\n3 write x\n4 build x cat(x run(65 1))\n5 end\n6 number n len(x)\n\
+            7 if n gt 1\n8 else\n9 end\n",
+    ),
+];
+
+#[test]
+fn plans_of_cases(rt: HostRuntime) {
+    for (name, script, shown) in PLANNED {
+        expect_shown(&rt, name, &plan_of(&rt, script), shown);
+    }
+}
+
+#[test]
+fn trivial_plans_of_cases(rt: HostRuntime) {
+    for (name, script, shown) in UNPLANNED {
+        expect_shown(&rt, name, &trivial_plan_of(&rt, script), shown);
+    }
+}
+
+// A sink that takes a byte a call and fails at the tenth call.
+#[test]
+fn a_sink_that_fails_has_a_prefix(rt: HostRuntime) {
+    let planned = plan_of(&rt, SEAM);
+    let mut sink = FuseSink::new(MemSink::new(rt.alloc()), 9, 1);
+    assert!(rt; planned.show(&mut sink) == Err(CordError::WriteFailed));
+    assert!(rt; sink.inner().bytes() == b"1 build a".as_slice());
+}

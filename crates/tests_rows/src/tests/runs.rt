@@ -1,0 +1,247 @@
+//! Cases of scripts through `run_text` and `run_unplanned`: the end, and what is written.
+mod blocks;
+mod cases;
+mod definitions;
+mod files;
+mod hostile;
+mod malformed;
+mod plans;
+mod refusals;
+
+use cord_io::{Files, FuseSink, MemFiles, MemSink, Sink};
+use cord_run::{End, FaultKind, run_text, run_unplanned};
+use cord_script::{Refusal, RefusalKind};
+use std::process::Abort;
+
+const HELLO: &[u8] = b"let x \"hello\"\nput x\n";
+
+// The bytes of a script that is shown with ` ; ` between its lines.
+fn lines(rt: &(impl AllocGlobal + Abort), shown: &str) -> Vec<u8> {
+    let text = shown.replace(rt.alloc(), " ; ", "\n");
+    let mut script = text.expect(rt, "no memory").into_bytes();
+    add(rt, &mut script, b"\n");
+    script
+}
+
+// The file "p" of the text `line` and byte 10, and one other file.
+fn line_and(rt: &(impl AllocGlobal + Abort), path: &str, bytes: &[u8]) -> MemFiles {
+    let alloc = rt.alloc();
+    let mut files = MemFiles::new(alloc);
+    files.add(alloc, "p", b"line\n").expect(rt, "no memory");
+    files.add(alloc, path, bytes).expect(rt, "no memory");
+    files
+}
+
+// Runs a script by its plan or without one. It promises nothing, so that what calls it has little to prove.
+fn run_way<F: Files, S: Sink>(
+    rt: &(impl AllocGlobal + Abort),
+    script: &[u8],
+    files: F,
+    sink: &mut S,
+    is_planned: bool,
+) -> (Result<End, Refusal>, F) {
+    assert!(rt; files.failures() < u64::MAX && sink.failures() < u64::MAX);
+    if is_planned {
+        run_text(rt.alloc(), script, files, sink)
+    } else {
+        run_unplanned(rt.alloc(), script, files, sink)
+    }
+}
+
+// Runs a script over no files, by its plan or without one, and compares the end and what is written.
+fn expect_end_of(
+    rt: &(impl AllocGlobal + Abort),
+    name: &str,
+    script: &[u8],
+    is_planned: bool,
+    end: End,
+    written: &[u8],
+) {
+    let mut sink = MemSink::new(rt.alloc());
+    let result = run_way(rt, script, MemFiles::new(rt.alloc()), &mut sink, is_planned).0;
+    assert!(rt; result == Ok(end), "{name}");
+    assert!(rt; sink.bytes() == written, "{name}");
+}
+
+// Runs a script both ways, and compares the end and what is written.
+fn expect_end(
+    rt: &(impl AllocGlobal + Abort),
+    name: &str,
+    script: &[u8],
+    end: End,
+    written: &[u8],
+) {
+    expect_end_of(rt, name, script, true, end, written);
+    expect_end_of(rt, name, script, false, end, written);
+}
+
+// Runs a script that is refused, by its plan or without one; nothing is written or finished.
+fn expect_refusal(
+    rt: &(impl AllocGlobal + Abort),
+    name: &str,
+    script: &[u8],
+    refusal: Refusal,
+    is_planned: bool,
+) {
+    let files = MemFiles::new(rt.alloc());
+    let mut sink = FuseSink::new(MemSink::new(rt.alloc()), 0, 1);
+    let result = run_way(rt, script, files, &mut sink, is_planned).0;
+    assert!(rt; result == Err(refusal), "{name}");
+    assert!(rt; sink.failures() == 0, "{name}");
+}
+
+// Runs a script that is refused, both ways.
+fn expect_refused(
+    rt: &(impl AllocGlobal + Abort),
+    name: &str,
+    script: &[u8],
+    line: u32,
+    kind: RefusalKind,
+) {
+    expect_refusal(rt, name, script, Refusal { line, kind }, true);
+    expect_refusal(rt, name, script, Refusal { line, kind }, false);
+}
+
+// A text, and so many copies of a byte after it.
+fn filled(rt: &(impl AllocGlobal + Abort), text: &[u8], byte: u8, count: usize) -> Vec<u8> {
+    crate::filled(rt.alloc(), text, byte, count).expect(rt, "no memory")
+}
+
+// So many bytes, each of which is its place modulo 251, so that neighbouring blocks differ.
+fn numbered(rt: &(impl AllocGlobal + Abort), count: usize) -> Vec<u8> {
+    let mut bytes = Vec::new(rt.alloc());
+    for place in 0..count {
+        bytes.push((place % 251) as u8).expect(rt, "no memory");
+    }
+    bytes
+}
+
+// Appends a text.
+fn add(rt: &impl Abort, script: &mut Vec<u8>, text: &[u8]) {
+    script.extend_from_slice(text).expect(rt, "no memory");
+}
+
+// A line `let` for each of so many names of two letters.
+fn names(rt: &(impl AllocGlobal + Abort), count: u16) -> Vec<u8> {
+    let mut script = Vec::new(rt.alloc());
+    for n in 0..count {
+        let name = [b'a' + (n / 16 % 26) as u8, b'a' + (n % 16) as u8];
+        add(rt, &mut script, b"let ");
+        add(rt, &mut script, &name);
+        add(rt, &mut script, b" \"a\"\n");
+    }
+    script
+}
+
+#[test]
+fn lines_and_names_at_the_limit(rt: HostRuntime) {
+    let script = filled(&rt, b"", b'\n', 65_536);
+    expect_end(&rt, "lines-at-the-limit", &script, End::Done, b"");
+    expect_end(&rt, "names-at-the-limit", &names(&rt, 256), End::Done, b"");
+}
+
+// Of two names after the first few that share a slot each keeps its own number: 97 * 31 + 80 is 98 * 31 + 49.
+#[test]
+fn names_of_one_slot(rt: HostRuntime) {
+    let few =
+        "set n1 1 ; set n2 2 ; set n3 3 ; set n4 4 ; set n5 5 ; set n6 6 ; set n7 7 ; set n8 8";
+    let more =
+        "set aP 10 ; set b1 20 ; set n9 9 ; add aP aP 1 ; sprintf z \"%d %d %d %d\" aP b1 n1 n9 ; put z";
+    let mut script = lines(&rt, few);
+    add(&rt, &mut script, &lines(&rt, more));
+    expect_end(&rt, "names-of-one-slot", &script, End::Done, b"11 20 1 9");
+}
+
+// Runs a script over a sink that passes so many calls of at most 3 bytes, by its plan or without one.
+fn expect_fused(
+    rt: &(impl AllocGlobal + Abort),
+    name: &str,
+    script: &[u8],
+    passes: u64,
+    is_planned: bool,
+    end: End,
+    written: &[u8],
+) {
+    let files = MemFiles::new(rt.alloc());
+    let mut sink = FuseSink::new(MemSink::new(rt.alloc()), passes, 3);
+    let result = run_way(rt, script, files, &mut sink, is_planned).0;
+    assert!(rt; result == Ok(end), "{name}");
+    assert!(rt; sink.inner().bytes() == written, "{name}");
+}
+
+// A name, a script, the calls that its sink passes, the end, and what is written. Where the finish fails after a fault,
+// that is the end.
+const FUSED: &[(&str, &[u8], u64, End, &[u8])] = &[
+    ("fuse-sink-short-put", HELLO, 1, End::WriteFailed(2), b"hel"),
+    ("fuse-sink-enough", HELLO, 3, End::Done, b"hello"),
+    (
+        "fuse-sink-finish-fails",
+        b"let x \"a\"\nput x\n",
+        1,
+        End::WriteFailed(0),
+        b"a",
+    ),
+    (
+        "fuse-sink-fault-and-finish-fails",
+        b"let x \"a\"\nput x\nfetch n x 1\n",
+        1,
+        End::WriteFailed(0),
+        b"a",
+    ),
+    (
+        "fuse-sink-fault",
+        b"let x \"a\"\nput x\nfetch n x 1\n",
+        2,
+        End::Fault(3, FaultKind::OutOfRange),
+        b"a",
+    ),
+];
+
+#[test]
+fn cases_over_a_fuse(rt: HostRuntime) {
+    for &(name, script, passes, end, written) in FUSED {
+        expect_fused(&rt, name, script, passes, true, end, written);
+        expect_fused(&rt, name, script, passes, false, end, written);
+    }
+}
+
+// Where writing failed there is no finish.
+#[test]
+fn write_failed_is_not_finished(rt: HostRuntime) {
+    let files = MemFiles::new(rt.alloc());
+    let mut sink = FuseSink::new(MemSink::new(rt.alloc()), 0, 3);
+    let result = run_way(&rt, HELLO, files, &mut sink, true).0;
+    assert!(rt; result == Ok(End::WriteFailed(2)));
+    assert!(rt; sink.failures() == 1);
+}
+
+// Appends 200 lines, which make substrings of a text of two gigabytes.
+fn add_substrings(rt: &(impl AllocGlobal + Abort), script: &mut Vec<u8>) {
+    for k in 1..=200 {
+        let line = format!(in rt.alloc(); "substr y{k} x {k} 2147483000\n").expect(rt, "no memory");
+        add(rt, script, line.as_bytes());
+    }
+}
+
+// Appends 200 lines, which fetch the first byte of each.
+fn add_fetches(rt: &(impl AllocGlobal + Abort), script: &mut Vec<u8>) {
+    for k in 1..=200 {
+        let line = format!(in rt.alloc(); "fetch n y{k} 0\n").expect(rt, "no memory");
+        add(rt, script, line.as_bytes());
+    }
+}
+
+// A text of two gigabytes, 200 substrings of it, and the first byte of each.
+fn substrings(rt: &(impl AllocGlobal + Abort)) -> Vec<u8> {
+    let mut script = lines(rt, "let x \"ab\" ; repeat 30 ; cat x x x ; end");
+    add_substrings(rt, &mut script);
+    add_fetches(rt, &mut script);
+    add(rt, &mut script, b"sprintf z \"%d\" n\nput z\n");
+    script
+}
+
+// Substrings of a text of two gigabytes share it.
+#[test]
+fn substrings_share(rt: HostRuntime) {
+    expect_end(&rt, "substrings-share", &substrings(&rt), End::Done, b"97");
+}

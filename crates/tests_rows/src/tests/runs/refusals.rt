@@ -1,0 +1,140 @@
+//! Cases of scripts that are refused: the line and the kind, planned and unplanned.
+use super::{expect_refused, filled, lines, names};
+use cord_script::RefusalKind;
+use cord_script::RefusalKind::{
+    BadEscape, BadFormat, BadName, BadNumber, ElseAlone, EndAlone, MissingEnd, MissingIfEnd,
+    TooDeep, UnknownName, Unterminated, WrongCount, WrongKind,
+};
+
+// A name, a script with ` ; ` between its lines, the line and the kind of its refusal.
+pub(super) type Case = (&'static str, &'static str, u32, RefusalKind);
+
+pub(super) const REFUSALS: &[Case] = &[
+    ("unknown-name", "put x", 1, UnknownName),
+    ("cat-one-operand", "cat z x", 1, WrongCount),
+    ("let-quote-open", r#"let x "a"#, 1, Unterminated),
+    ("let-bad-escape", r#"let x "\q""#, 1, BadEscape),
+    ("repeat-open", "repeat 2", 1, MissingEnd),
+    ("end-alone", "end", 1, EndAlone),
+    ("sprintf-bad-format", r#"sprintf z "%5%""#, 1, BadFormat),
+    (
+        "fetch-into-cord",
+        r#"let x "a" ; fetch x x 0"#,
+        2,
+        WrongKind,
+    ),
+    (
+        "sprintf-argument-missing",
+        r#"sprintf z "%d""#,
+        1,
+        WrongCount,
+    ),
+    ("cat-quote-open", r#"cat z ""#, 1, Unterminated),
+    ("put-two-words", "put x y", 1, WrongCount),
+    ("let-digit-name", r#"let 9x "a""#, 1, BadName),
+    ("put-quoted-word", r#"put "x""#, 1, BadName),
+    ("file-empty-path", r#"file x """#, 1, BadName),
+    (
+        "chars-numeral-too-great",
+        "chars a 0 99999999999999999999",
+        1,
+        BadNumber,
+    ),
+    ("let-plain-word", "let x a", 1, WrongKind),
+    ("len-into-cord", r#"let x "a" ; len x x"#, 2, WrongKind),
+    ("cat-of-itself-unknown", "cat x x x", 1, UnknownName),
+    (
+        "loops-too-deep",
+        "repeat 1 ; repeat 1 ; repeat 1 ; repeat 1 ; repeat 1 ; repeat 1 ; repeat 1 ; repeat 1 ; repeat 1",
+        9,
+        TooDeep,
+    ),
+    (
+        "outer-repeat-open",
+        "repeat 1 ; repeat 1 ; end",
+        1,
+        MissingEnd,
+    ),
+    ("else-alone", "else", 1, ElseAlone),
+    ("else-twice", "if 1 eq 1 ; else ; else ; end", 3, ElseAlone),
+    ("else-in-repeat", "repeat 1 ; else ; end", 2, ElseAlone),
+    ("if-bad-relation", "if 1 ne 1 ; end", 1, BadName),
+    ("if-open-in-repeat", "repeat 2 ; if 1 eq 1", 2, MissingIfEnd),
+    (
+        "if-open-round-repeat",
+        "if 1 eq 1 ; repeat 2 ; end",
+        1,
+        MissingIfEnd,
+    ),
+    ("put-no-word", "put", 1, WrongCount),
+    ("let-no-text", "let x", 1, WrongCount),
+    ("put-number", "set n 1 ; put n", 2, WrongKind),
+    ("chars-quoted-number", r#"chars a "0" 1"#, 1, BadNumber),
+    ("fn-bad-function", "fn d letters 1", 1, BadName),
+    ("number-unknown", "set n m", 1, UnknownName),
+];
+
+#[test]
+fn refusals(rt: HostRuntime) {
+    for &(name, script, line, kind) in REFUSALS {
+        expect_refused(&rt, name, &lines(&rt, script), line, kind);
+    }
+}
+
+#[test]
+fn unknown_statement(rt: HostRuntime) {
+    expect_refused(
+        &rt,
+        "unknown-statement",
+        b"print x",
+        1,
+        RefusalKind::UnknownStatement,
+    );
+}
+
+// A name, a text and so many copies of a byte after it, which are the script, and the line and the kind of its refusal.
+const SIZES: &[(&str, &[u8], u8, usize, u32, RefusalKind)] = &[
+    (
+        "script-too-big",
+        b"",
+        b' ',
+        1_048_577,
+        0,
+        RefusalKind::TooBig,
+    ),
+    (
+        "too-many-lines",
+        b"",
+        b'\n',
+        65_537,
+        65_537,
+        RefusalKind::TooBig,
+    ),
+    (
+        "literal-too-long",
+        b"let x \"",
+        b'a',
+        65_536,
+        1,
+        RefusalKind::LiteralTooLong,
+    ),
+];
+
+#[test]
+fn sizes(rt: HostRuntime) {
+    for &(name, text, byte, count, line, kind) in SIZES {
+        expect_refused(&rt, name, &filled(&rt, text, byte, count), line, kind);
+    }
+}
+
+#[test]
+fn names_one_too_many(rt: HostRuntime) {
+    let script = names(&rt, 257);
+    expect_refused(
+        &rt,
+        "names-one-too-many",
+        &script,
+        257,
+        RefusalKind::TooMany,
+    );
+}
