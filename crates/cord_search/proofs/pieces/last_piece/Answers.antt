@@ -32,7 +32,7 @@ returns-in_ok-read-in-Func-clause-text g c = λ file_system kept.
     let out = c.read.new.out in
     let count = c.piece_len-count.result in
     let whole : span_len s ≡ len = ap span_len c.in-Func.is in
-    let room : count ≤ length c.args.buffer.now = omega (arith, c.piece_len-count.ensures.most, c.reported-buffer) in
+    let room : count ≤ length c.args.buffer.now = omega (arith, c.piece_len-count.ensures.most, c.told-buffer) in
     let long : length out ≡ count = c.read.auto.out ∙ length-take-le count c.args.buffer.now room in
     func_part (g.S.Source.table c.args.src.now file_system) s out c.in-Func.id.0 start len (start + (len - count)) (span_len s - length out)
     (λ t. ap (λ (s : Span). span_bytes t s) c.in-Func.is) (omega (arith, whole, long))
