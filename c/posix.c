@@ -165,11 +165,11 @@ int zc_from_path(const char *path, zc_cord *out) {
 
 /* ---- the files of lazy cords ---- */
 
-/* Opens a regular file and asks for what the system tells of it: its descriptor, or -1. A pipe with no writer doesn't
+/* Opens a regular file and asks for what the system reports of it: its descriptor, or -1. A pipe with no writer doesn't
    hold it up. */
-static int open_regular(const char *path, struct stat *told) {
+static int open_regular(const char *path, struct stat *status) {
     int fd = open_to_read(path, O_NONBLOCK | O_NOCTTY);
-    if (fd >= 0 && (fstat(fd, told) != 0 || !S_ISREG(told->st_mode))) {
+    if (fd >= 0 && (fstat(fd, status) != 0 || !S_ISREG(status->st_mode))) {
         close_after(fd);
         return -1;
     }
@@ -184,17 +184,17 @@ static uint32_t slot_of(const zc_files *files, uint32_t file) {
 }
 
 /* The slot that has the same file open: the count of the slots where none has. */
-static uint32_t slot_of_same(const zc_files *files, const struct stat *told) {
+static uint32_t slot_of_same(const zc_files *files, const struct stat *status) {
     struct stat own;
     uint32_t slot = 0;
     for (; slot < files->count; slot++)
-        if (fstat(files->fds[slot], &own) == 0 && own.st_dev == told->st_dev && own.st_ino == told->st_ino) break;
+        if (fstat(files->fds[slot], &own) == 0 && own.st_dev == status->st_dev && own.st_ino == status->st_ino) break;
     return slot;
 }
 
 /* Keeps an open file and writes its number to *file; where it was open before, or there is no room, it is closed. */
-static int keep(zc_files *files, int fd, const struct stat *told, uint32_t *file) {
-    uint32_t slot = slot_of_same(files, told);
+static int keep(zc_files *files, int fd, const struct stat *status, uint32_t *file) {
+    uint32_t slot = slot_of_same(files, status);
     if (slot < files->count) {
         close(fd);
     } else if (slot < ZC_MOST_FILES && files->next < UINT32_MAX) {
@@ -210,13 +210,13 @@ static int keep(zc_files *files, int fd, const struct stat *told, uint32_t *file
 }
 
 int zc_files_open(zc_files *files, const char *path, uint32_t *file, uint64_t *length) {
-    struct stat told;
+    struct stat status;
     int fd, code;
     if (files == NULL || path == NULL || file == NULL || length == NULL) return ZC_NULL;
-    fd = open_regular(path, &told);
+    fd = open_regular(path, &status);
     if (fd < 0) return ZC_READ_FAILED;
-    code = keep(files, fd, &told, file);
-    if (code == ZC_OK) *length = (uint64_t)told.st_size;
+    code = keep(files, fd, &status, file);
+    if (code == ZC_OK) *length = (uint64_t)status.st_size;
     return code;
 }
 
@@ -236,10 +236,10 @@ void zc_files_free(zc_files *files) {
 }
 
 /* The cord of an open file, which is kept if there is memory. */
-static int lazy_of(zc_files *files, int fd, const struct stat *told, zc_lazy *out) {
+static int lazy_of(zc_files *files, int fd, const struct stat *status, zc_lazy *out) {
     uint32_t file = 0, before = files->count;
-    int code = keep(files, fd, told, &file);
-    if (code == ZC_OK) code = zc_lazy_of_file(file, (uint64_t)told->st_size, out);
+    int code = keep(files, fd, status, &file);
+    if (code == ZC_OK) code = zc_lazy_of_file(file, (uint64_t)status->st_size, out);
     if (code != ZC_OK && files->count > before) {
         zc_files_close(files, file);
         files->next = file; /* nobody knows the number */
@@ -248,21 +248,21 @@ static int lazy_of(zc_files *files, int fd, const struct stat *told, zc_lazy *ou
 }
 
 int zc_lazy_from_path(zc_files *files, const char *path, zc_lazy *out) {
-    struct stat told;
+    struct stat status;
     int fd;
     if (files == NULL || path == NULL || out == NULL) return ZC_NULL;
-    fd = open_regular(path, &told);
-    return fd < 0 ? ZC_READ_FAILED : lazy_of(files, fd, &told, out);
+    fd = open_regular(path, &status);
+    return fd < 0 ? ZC_READ_FAILED : lazy_of(files, fd, &status, out);
 }
 
 int zc_lazy_by_length(zc_files *files, const char *path, zc_lazy *out) {
     zc_cord whole = ZC_EMPTY;
-    struct stat told;
+    struct stat status;
     int fd, code;
     if (files == NULL || path == NULL || out == NULL) return ZC_NULL;
-    fd = open_regular(path, &told);
+    fd = open_regular(path, &status);
     if (fd < 0) return ZC_READ_FAILED;
-    if (told.st_size > ZC_SHORT_FILE) return lazy_of(files, fd, &told, out);
+    if (status.st_size > ZC_SHORT_FILE) return lazy_of(files, fd, &status, out);
     code = take_whole(fd, &whole);
     if (code == ZC_OK) code = zc_lazy_from_cord(&whole, out);
     zc_free(&whole);

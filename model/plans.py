@@ -39,7 +39,7 @@ class Cat:
 
 
 def defining_expression(statement):
-    """The own expression of a simple statement, or None."""
+    """The defining expression of a simple statement, or None."""
     word, values = statement.word, statement.values
     if word in ("cat", "catn"):
         return Cat(tuple(map(Operand, values[1:])))

@@ -106,7 +106,7 @@ OPENS_AT(openat64)
 typedef int (*main_fn)(int, char **, char **);
 static main_fn program;
 
-static void told(void) {
+static void report(void) {
     const char *path = getenv("FAIL_COUNT");
     FILE *file;
     counting = 0;
@@ -124,7 +124,7 @@ static int counted_main(int argc, char **argv, char **envp) {
     is_short = getenv("FAIL_SHORT") != NULL;
     counting = 1;
     status = program(argc, argv, envp);
-    told();
+    report();
     return status;
 }
 

@@ -30,7 +30,7 @@ static void begin(void) {
     counting = name == NULL || strcmp(name, program_invocation_short_name) == 0;
 }
 
-static void told(void) {
+static void report(void) {
     const char *path = counting ? getenv("FAIL_COUNT") : NULL;
     counting = 0;
     if (path != NULL) {
@@ -97,7 +97,7 @@ static int counted_main(int argc, char **argv, char **envp) {
     int status;
     begin();
     status = program(argc, argv, envp);
-    told();
+    report();
     return status;
 }
 

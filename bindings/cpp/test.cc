@@ -123,9 +123,9 @@ static void iterations() {
     for (const std::string_view chunk : x.chunks(9990)) joined += chunk;
     EXPECT(joined == y.substr(9990));
     for (const std::string_view chunk : cord().chunks()) EXPECT(chunk.empty());
-    std::ostringstream told;
-    told << x << '|' << cord();
-    EXPECT(told.str() == y + "|");
+    std::ostringstream printed;
+    printed << x << '|' << cord();
+    EXPECT(printed.str() == y + "|");
     auto first = cord("gone").begin();
     EXPECT(*first == 'g' && *++first == 'o');
 }

@@ -6,9 +6,9 @@ fn folder() -> Option<String> {
     if let Ok(folder) = env::var("ZOMTSJE_LIB_DIR") {
         return Some(folder);
     }
-    let told = Command::new("pkg-config").args(["--variable=libdir", "zomtsje"]).output().ok()?;
-    let folder = String::from_utf8(told.stdout).ok()?;
-    (told.status.success() && !folder.trim().is_empty()).then(|| folder.trim().to_owned())
+    let printed = Command::new("pkg-config").args(["--variable=libdir", "zomtsje"]).output().ok()?;
+    let folder = String::from_utf8(printed.stdout).ok()?;
+    (printed.status.success() && !folder.trim().is_empty()).then(|| folder.trim().to_owned())
 }
 
 fn main() {
