@@ -406,7 +406,7 @@ inline std::ostream &operator<<(std::ostream &to, const cord &text) {
     return to;
 }
 
-// A cord that is made from its front to its end: what is added is gathered to leaves of up to 4,096 bytes.
+// A cord that is made from its beginning to its end: what is added is gathered to leaves of up to 4,096 bytes.
 class cord_builder {
 public:
     cord_builder() = default;

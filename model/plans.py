@@ -106,7 +106,7 @@ def reads(statement):
 
 
 def is_not_live(name, place, statements, after):
-    """Whether no path from behind place comes to a reading of name before an assignment of it."""
+    """Whether no path that begins after place comes to a reading of name before an assignment of it."""
     seen, waiting = set(), list(after[place])
     while waiting:
         here = waiting.pop()

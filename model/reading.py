@@ -98,7 +98,7 @@ class Before:
 
 
 def quoted_word(line, place):
-    """The text of the quoted word whose quote is at place, and the place behind it."""
+    """The text of the quoted word whose quote is at place, and the place after it."""
     text = bytearray()
     place += 1
     while place < len(line) and line[place] != ord('"'):
@@ -176,7 +176,7 @@ def value_of(role, word):
 
 
 def roles_of(word, count):
-    """The roles of the words behind a statement's word, of which there are count; those of a format come later."""
+    """The roles of the words after a statement's word, of which there are count; those of a format come later."""
     if word == "catn":
         right, roles = 3 <= count <= 17, [Role.NEW_CORD] + [Role.CORD] * (count - 1)
     elif word == "sprintf":
@@ -241,7 +241,7 @@ def check_blocks(statement, before):
 
 
 def take(statement, before):
-    """What stands behind the line; an if that had its else stands among the blocks as the else."""
+    """What stands after the line; an if that had its else stands among the blocks as the else."""
     if statement.target() is not None:
         before.kinds[statement.target()] = statement.roles[0].kind()
     if Role.PATH in statement.roles:

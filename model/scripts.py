@@ -156,7 +156,7 @@ class Scripts:
         return [*lines, b"repeat %d" % self.random.randint(1, 150), *body, b"end", b"put " + seen]
 
     def edits(self):
-        """Edits of a text: what stands before a place, another text, and what is behind a second place. Now and then
+        """Edits of a text: what stands before a place, another text, and what is after a second place. Now and then
         these overlap, bytes are lost at the end, the other text is the name's own, or a name holds the old text."""
         seen, more, front, behind, held = (name.encode() for name in self.random.sample(CORDS, 5))
         size = self.random.choice([6, 300, 20000])

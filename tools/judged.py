@@ -1,4 +1,4 @@
-"""Runs of programs that have to go well: each is told of in a line and counted, and the last line has the counts."""
+"""Runs of programs that have to go well: each has a line and is counted, and the last line has the counts."""
 import os
 import subprocess
 

@@ -122,8 +122,8 @@ class OfBytes(unittest.TestCase):
         for x, data in self.cases(100):
             for y in some_bytes(self.rng, 4), data, data + b"!", data[:-1]:
                 for other in y, Cord(y), bytearray(y):
-                    told = x == other, x != other, x < other, x <= other, x > other, x >= other
-                    self.assertEqual(told, (data == y, data != y, data < y, data <= y, data > y, data >= y))
+                    answers = x == other, x != other, x < other, x <= other, x > other, x >= other
+                    self.assertEqual(answers, (data == y, data != y, data < y, data <= y, data > y, data >= y))
             self.assertEqual(hash(x), hash(data))
         self.assertEqual({Cord(b"ab"): 1}[b"ab"], 1)
         self.assertNotEqual(Cord(b"a"), "a")
@@ -174,8 +174,8 @@ class Values(unittest.TestCase):
             "except MemoryError: print('refused')\n"
         )
         env = {**os.environ, "PYTHONPATH": os.path.dirname(os.path.dirname(zomtsje.__file__))}
-        told = subprocess.run([sys.executable, "-c", program], env=env, capture_output=True, text=True, check=False)
-        self.assertEqual(told.stdout, "refused\n", told.stderr)
+        ended = subprocess.run([sys.executable, "-c", program], env=env, capture_output=True, text=True, check=False)
+        self.assertEqual(ended.stdout, "refused\n", ended.stderr)
 
     def test_documented(self):
         self.assertEqual(doctest.testmod(zomtsje).failed, 0)

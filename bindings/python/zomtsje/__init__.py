@@ -6,7 +6,7 @@
     >>> bytes(new), bytes(old)
     (b'one two three', b'one three')
 
-Cord is a value like bytes: it never changes. Builder makes one from its front to its end, Editor keeps the versions of one
+Cord is a value like bytes: it never changes. Builder makes one from its beginning to its end, Editor keeps the versions of one
 under edit, and Cord.lazy opens a file that isn't read until its bytes are asked for. What is refused raises MemoryError,
 OverflowError (a cord has less than 2**40 bytes), OSError or IndexError.
 """

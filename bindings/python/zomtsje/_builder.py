@@ -1,4 +1,4 @@
-"""Builder, which makes a cord from its front to its end."""
+"""Builder, which makes a cord from its beginning to its end."""
 from __future__ import annotations
 
 from ._cord import Bytes, Cord

@@ -4,5 +4,5 @@ if exists('current_compiler')
 endif
 let current_compiler = 'cordsh'
 CompilerSet makeprg=(cordsh-explain\ --show-plan\ %:S\ >/dev/null)
-" FILE:LINE: text, then the line and its mark, then sentences behind two blanks
+" FILE:LINE: text, then the line and its mark, then sentences after two blanks
 CompilerSet errorformat=%E%f:%l:\ %m,%-C\ \ \ \ %.%#,%C\ \ %m,%-G%.%#

@@ -3,7 +3,7 @@ use crate::{Cord, Error};
 use std::{fmt, io};
 use zomtsje_sys as sys;
 
-/// Makes a cord from its front to its end: bytes are gathered to leaves of up to 4,096, cords are shared.
+/// Makes a cord from its beginning to its end: bytes are gathered to leaves of up to 4,096, cords are shared.
 ///
 /// ```
 /// use std::fmt::Write;

@@ -10,7 +10,7 @@
 //! assert_eq!(old, "one three");
 //! ```
 //!
-//! [`CordBuilder`] makes a cord from its front to its end, [`CordEditor`] keeps the versions of one under edit, and
+//! [`CordBuilder`] makes a cord from its beginning to its end, [`CordEditor`] keeps the versions of one under edit, and
 //! [`LazyCord`] has parts in [`Files`] that aren't read until their bytes are asked for.
 //!
 //! # Memory
