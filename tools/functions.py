@@ -37,7 +37,7 @@ def last_line(lines, begin, indent):
     """The last line of the function that begins at a line, and whether it has a body."""
     for number in range(begin, len(lines)):
         line = lines[number]
-        if line == indent + "}" or line.startswith(indent) and line.endswith("{}"):
+        if line == indent + "}" or re.match(indent + r"(\S.*)?\{\}$", line):
             return number, True
         if line.endswith(";") and not any(it.endswith("{") and it.startswith(indent) for it in lines[begin:number]):
             return number, False
