@@ -14,12 +14,11 @@ use Rattle.cord_plan.specs.Operands.{assigns, assigns_at, reads, reads_at}
 use Rattle.cord_plan.specs.declared.flow.numbering.Numbering.{Numbering}
 use Rattle.cord_plan.specs.Inlined.{each_from, is_block, is_block_at, preserves, setter}
 use Rattle.cord_plan.specs.inner.Choices.{nearest}
-use Rattle.cord_plan.specs.inner.Recent.{Notes, entry_of, reader, blocker, is_before, is_after, stay, unless_after}
+use Rattle.cord_plan.specs.inner.Recent.{Puts, entry_of, reader, blocker, is_before, is_after, stay, unless_after}
 use Rattle.cord_plan.proofs.Appending.{names_append}
 use Rattle.cord_plan.proofs.Chosen.{setter_is}
 use Rattle.cord_plan.proofs.Nearest.{each_more}
 use Rattle.cord_plan.proofs.PartSums.{preserves_append}
-use Rattle.cord_plan.proofs.Recents.{last_then}
 
 not_after : (p a : ℕ) → p ≤ a → is_after (Some p) a ≡ false
 not_after p a le = ap not (le-leb p a le)
@@ -189,18 +188,16 @@ module _ (s : List Statement) (t : Numbering) (b : ℕ) (l : Statement) (here : 
   up : b + 1 ≡ suc b
   up = omega arith
 
-  pub assigned_then : (old new : List (Option ℕ)) → Notes t (λ x. assigns l x) b old new →
-      ((x : List ℕ) (o : Option ℕ) → entry_of t old x ≡ Some o → o ≡ setter s x b) → (x : List ℕ) (o : Option ℕ) →
-      entry_of t new x ≡ Some o → o ≡ setter s x (b + 1)
-  assigned_then old new notes before x o is =
-      last_then (assigns l x) b (entry_of t old x) o (setter s x b) (sym (notes x) ∙ is) (λ q e. before x q e)
+  pub assigned_then : (old new : List (Option ℕ)) → Puts t (λ x. assigns l x) (Some b) old new →
+      ((x : List ℕ) → entry_of t old x ≡ setter s x b) → (x : List ℕ) → entry_of t new x ≡ setter s x (b + 1)
+  assigned_then old new notes before x =
+      notes x ∙ ap (λ (o : Option ℕ). if assigns l x then Some b else o) (before x)
       ∙ sym (ap (λ (n : ℕ). setter s x n) up ∙ ap (λ (at : Option Statement). if assigns_at at x then Some b else setter s x b) here)
 
-  pub read_then : (old new : List (Option ℕ)) → Notes t (λ x. reads l x) b old new →
-      ((x : List ℕ) (o : Option ℕ) → entry_of t old x ≡ Some o → o ≡ reader s x b) → (x : List ℕ) (o : Option ℕ) →
-      entry_of t new x ≡ Some o → o ≡ reader s x (b + 1)
-  read_then old new notes before x o is =
-      last_then (reads l x) b (entry_of t old x) o (reader s x b) (sym (notes x) ∙ is) (λ q e. before x q e)
+  pub read_then : (old new : List (Option ℕ)) → Puts t (λ x. reads l x) (Some b) old new →
+      ((x : List ℕ) → entry_of t old x ≡ reader s x b) → (x : List ℕ) → entry_of t new x ≡ reader s x (b + 1)
+  read_then old new notes before x =
+      notes x ∙ ap (λ (o : Option ℕ). if reads l x then Some b else o) (before x)
       ∙ sym (ap (λ (n : ℕ). reader s x n) up ∙ ap (λ (at : Option Statement). if reads_at at x then Some b else reader s x b) here)
 
   pub block_then : (old : Option ℕ) (v : Bool) → v ≡ is_block (shape_of l) → old ≡ blocker s b →

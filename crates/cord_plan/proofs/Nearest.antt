@@ -1,16 +1,15 @@
 -- The nearest line that assigns an operand, and what stands for the operand then.
-use Rattle.std.proofs.Common.{◌≡◌, ℕ, zero, suc, ◌+◌, ◌-◌, ◌<◌, ◌≤◌, Bool, true, false, ◌&&◌, ◌||◌, ◌==◌, List, ◌∷◌, ◌++◌, drop, length}
+use Rattle.std.proofs.Common.{◌≡◌, ℕ, zero, suc, ◌+◌, ◌-◌, ◌<◌, Bool, true, false, ◌&&◌, ◌||◌, ◌==◌, List, ◌∷◌, ◌++◌, drop, length}
 use Rattle.std.proofs.Common.{get_or, Option, Some, None, refl, sym, ap, ◌∙◌, arith}
 use Rattle.std.specs.Prelude.{slice_get, not, if◌then◌else◌, option_map}
 use Rattle.std.proofs.Math.Bool.{and-false}
-use Rattle.std.proofs.lemmas.Option.{slice_get-map, slice_get_read}
+use Rattle.std.proofs.lemmas.Option.{slice_get-map}
 use Rattle.std.proofs.lemmas.List.{at_drop_more}
 use Rattle.std.specs.Str.{bytes_eq}
 use Rattle.cord_syntax.specs.declared.statements.Statement.{Statement}
-use Rattle.cord_meaning.specs.Statements.{shape_of}
 use Rattle.cord_plan.specs.Exprs.{Expr, names}
-use Rattle.cord_plan.specs.Operands.{assigns, assigns_at, count, reads, reads_at, read_by}
-use Rattle.cord_plan.specs.Inlined.{Choice, named, replaced, Table, first_of, is_block, is_block_at, preserves, each_from, setter, is_small}
+use Rattle.cord_plan.specs.Operands.{assigns, assigns_at, count, reads_at, read_by}
+use Rattle.cord_plan.specs.Inlined.{Choice, named, replaced, Table, first_of, is_block_at, preserves, each_from, setter, is_small}
 use Rattle.cord_plan.specs.Inlined.{expr_with, chosen_from, chosen_of}
 use Rattle.cord_plan.specs.inner.Choices.{nearest, is_spare, stands, expression_of, expression_in, Has}
 use Rattle.cord_plan.proofs.Chosen.{setter_is}
@@ -161,24 +160,13 @@ needed_stands s later e a b l xs x needed = pick (count x xs == 1) (assigns l x 
     pick true false h = refl
     pick false f h = refl
 
--- what the nearest line is, by the line before
-pub near_here : (s : List Statement) (x : List ℕ) (p : ℕ) (l : Statement) → 0 < p → p ≤ length s → l ≡ get_or s (p - 1) l →
-    nearest s x p ≡ (if assigns l x then Some (p - 1) else (if is_block (shape_of l) || reads l x then None else nearest s x (p - 1)))
-near_here s x p l pos le is =
-    let up : p ≡ suc (p - 1) = omega arith in
-    let there : slice_get s (p - 1) ≡ Some l = slice_get_read s (length s) (p - 1) l refl (omega arith) is in
-    ap (λ (n : ℕ). nearest s x n) up
-    ∙ ap (λ (o : Option Statement). if assigns_at o x then Some (p - 1) else
-    (if is_block_at o || reads_at o x then None else nearest s x (p - 1))) there
-
 -- what each line preserves, by the first
-pub keep_here : (s : List Statement) (xs : List (List ℕ)) (p end : ℕ) (l : Statement) → p < end → end ≤ length s → l ≡ get_or s p l →
+pub keep_here : (s : List Statement) (xs : List (List ℕ)) (p end : ℕ) (l : Statement) → p < end → slice_get s p ≡ Some l →
     each_from (λ m. preserves (slice_get s m) xs) (end - p) p ≡ preserves (Some l) xs && each_from (λ m. preserves (slice_get s m) xs)
     (end - (p + 1))
     (p + 1)
-keep_here s xs p end l lt le is =
+keep_here s xs p end l lt there =
     let more : end - p ≡ suc (end - (p + 1)) = omega arith in
-    let there : slice_get s p ≡ Some l = slice_get_read s (length s) p l refl (omega arith) is in
     ap (λ (n : ℕ). each_from (λ m. preserves (slice_get s m) xs) n p) more
     ∙ ap (λ (o : Option Statement). preserves o xs && each_from (λ m. preserves (slice_get s m) xs) (end - (p + 1)) (p + 1)) there
 

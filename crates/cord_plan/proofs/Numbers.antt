@@ -307,6 +307,19 @@ module _ (t : Numbering) where
       let there : slice_get (names_of t) n ≡ Some x = cc in
       sym (place_at (names_of t) t.distinct x n there)
 
+  pub unnamed : (o : Option (List ℕ)) → IsNumber (names_of t) o None → o ≡ None
+  unnamed None e = refl
+  unnamed (Some x) e = let bad : ⊥ = cc in absurd bad
+
+  pub record NamedBy (o : Option (List ℕ)) (n : ℕ) : Type 0 where
+    pub name : List ℕ
+    pub is : o ≡ Some name
+    pub number : number_of t name ≡ Some n
+
+  pub named_by : (o : Option (List ℕ)) (n : ℕ) → IsNumber (names_of t) o (Some n) → NamedBy o n
+  named_by None n e = let bad : ⊥ = cc in absurd bad
+  named_by (Some x) n e = record { name = x; is = refl; number = sym (number_reported (Some x) (Some n) e) }
+
   module _ (xs : List (List ℕ)) (ns : List ℕ) (are : AreNumbers (names_of t) xs ns) where
     pub as_many : length ns ≡ length xs
     as_many = sym (length-map ns (λ n. slice_get (names_of t) n)) ∙ (ap length are ∙ length-map xs Some)
@@ -369,7 +382,7 @@ module _ (t : Numbering) where
       numbers.target ≡ line.target → numbers.read.now ≡ take (line.end - line.start) (drop line.start t.read.items) →
       IsNumbered t l numbers
   line_numbered l line numbers is target read = record {
-    target = target ∙ number_reported (target_of l) line.target is.target;
+    target = subst (λ (n : Option ℕ). IsNumber (names_of t) (target_of l) n) (sym target) is.target;
     read = rw read is.reads;
   }
 

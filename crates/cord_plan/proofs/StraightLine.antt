@@ -1,8 +1,8 @@
 -- On the way back over lines: which names they read before they assign them.
 use Rattle.std.proofs.Common.{◌≡◌, ◌⊎◌, ℕ, zero, suc, ◌+◌, ◌<◌, ◌≤◌, ◌==◌, Bool, true, false, ◌&&◌, ◌||◌}
-use Rattle.std.proofs.Common.{List, [], ◌∷◌, length, get_or, set}
+use Rattle.std.proofs.Common.{List, [], ◌∷◌, length, set}
 use Rattle.std.proofs.Common.{drop, Option, Some, None, inl, inr, refl, sym, ap, ◌∙◌, subst, arith, ◌*◌, ◌%◌, ◌^◌}
-use Rattle.std.specs.Prelude.{slice_get, option_map, is_some, if◌then◌else◌, replicate}
+use Rattle.std.specs.Prelude.{slice_get, is_some, if◌then◌else◌, replicate}
 use Rattle.std.specs.Int.{bit_at, w16}
 use Rattle.std.specs.Int.Bits.{or_zero_l}
 use Rattle.std.specs.Int.RustNames.{bit_or}
@@ -10,58 +10,40 @@ use Rattle.std.proofs.Math.Bool.{and-false, and-true, or-false}
 use Rattle.std.proofs.Math.Nat.{eq-or-lt_of_le}
 use Rattle.std.proofs.lemmas.Bool.Decides.{eqb_tells}
 use Rattle.std.proofs.lemmas.Nat.Bits.{bit_at-zero, bit_at_set_same, bit_at_set_other}
-use Rattle.std.proofs.lemmas.Option.{slice_get-get_or}
-use Rattle.std.proofs.lemmas.List.{get_or-replicate, length-replicate}
+use Rattle.std.proofs.lemmas.List.{length-replicate}
 use Rattle.cord_syntax.specs.declared.statements.Statement.{Statement}
-use Rattle.cord_plan.specs.Operands.{assigns, has, read_by, reads, target_of}
-use Rattle.cord_plan.specs.inner.StraightLine.{AreAhead, AreBits, AreReportedFrom, IsLineLater, flow, is_noted, later_in}
+use Rattle.cord_plan.specs.Operands.{assigns, read_by, reads, target_of}
+use Rattle.cord_plan.specs.inner.StraightLine.{AreAhead, AreBits, AreReportedFrom, IsLineLater, flow, later_in}
 use Rattle.cord_plan.specs.inner.NameSets.{bit}
 use Rattle.cord_plan.specs.inner.Numbering.{names_of, number_in}
-use Rattle.cord_plan.specs.inner.Recent.{Notes, Puts, entry_at, entry_of, noted}
+use Rattle.cord_plan.specs.inner.Recent.{Puts, entry_at, entry_of}
 use Rattle.cord_plan.specs.declared.flow.straight_line.LineLater.{LineLater}
 use Rattle.cord_plan.specs.declared.flow.numbering.Numbering.{Numbering}
 use Rattle.cord_plan.proofs.Choices.{simple_reads}
-use Rattle.cord_plan.proofs.Numbers.{Numbered, numbered, unnumbered}
-use Rattle.cord_plan.proofs.Recents.{set_apart, set_there}
+use Rattle.cord_plan.proofs.Recents.{none_noted, set_apart, set_there}
 use Rattle.cord_plan.proofs.Words.{bit_or_is, bit_zero_is}
 
 -- behind the last line
 pub none_ahead : (t : Numbering) → AreAhead [] t (replicate (length (names_of t)) None)
-none_ahead t = record { known = λ x. (at_all x (has (names_of t) x) refl).0; reported = λ x. (at_all x (has (names_of t) x) refl).1 }
-  where
-    places : List (Option ℕ)
-    places = replicate (length (names_of t)) None
-
-    at_all : (x : List ℕ) (v : Bool) → has (names_of t) x ≡ v → (is_some (entry_of t places x) ≡ has (names_of t) x) ×
-        (is_noted (entry_of t places x) ≡ false)
-    at_all x false e = rw (unnumbered t x e, e) (refl, refl)
-    at_all x true e =
-        let found : Numbered t x = numbered t x e in
-        let none : get_or places found.number None ≡ None = get_or-replicate (length (names_of t)) found.number None None found.within in
-        let lt : found.number < length places = simp length-replicate found.within in
-        let there : slice_get places found.number ≡ Some None = slice_get-get_or places found.number None lt ∙ ap Some none in
-        rw (found.is, there, e) (refl, refl)
+none_ahead t = record {
+  places_for = length-replicate (length (names_of t)) None;
+  reported = λ x. ap is_some (none_noted t (length (names_of t)) x);
+}
 
 -- what is noted for a name after one line more
-after_line : (known r a later : Bool) (p : ℕ) (e : Option (Option ℕ)) → is_some e ≡ known → is_noted e ≡ later → (r ≡ true → known ≡ true) →
-    (is_some (option_map (λ q. noted r p q) (option_map (λ q. if a then None else q) e)) ≡ known)
-    × (is_noted (option_map (λ q. noted r p q) (option_map (λ q. if a then None else q) e)) ≡ flow r later a)
-after_line known true a later p None k n named = let bad : ⊥ = cc (named refl) in absurd bad
-after_line known false a later p None k n named = (k, rw (sym n) refl)
-after_line known true a later p (Some q) k n named = (k, refl)
-after_line known false true later p (Some q) k n named = (k, sym (and-false later))
-after_line known false false later p (Some q) k n named = (k, n ∙ sym (and-true later))
+after_line : (r a : Bool) (p : ℕ) (e : Option ℕ) → is_some (if r then Some p else (if a then None else e)) ≡ flow r (is_some e) a
+after_line true a p e = refl
+after_line false true p e = sym (and-false (is_some e))
+after_line false false p e = sym (and-true (is_some e))
 
-pub line_more : (t : Numbering) (l : Statement) (ls : List Statement) (p : ℕ) (old now new : List (Option ℕ)) →
-    ((x : List ℕ) → reads l x ≡ true → has (names_of t) x ≡ true) → Puts t (λ x. assigns l x) None old now →
-    Notes t (λ x. reads l x) p now new →
-    AreAhead ls t old → AreAhead (l ∷ ls) t new
-line_more t l ls p old now new named clears notes ahead = record { known = λ x. (at_all x).0; reported = λ x. (at_all x).1 }
-  where
-    at_all : (x : List ℕ) → (is_some (entry_of t new x) ≡ has (names_of t) x) × (is_noted (entry_of t new x) ≡ later_in (l ∷ ls) x)
-    at_all x = rw (notes x, clears x)
-        (after_line (has (names_of t) x) (reads l x) (assigns l x) (later_in ls x) p (entry_of t old x) (ahead.known x)
-        (ahead.reported x) (named x))
+pub line_more : (t : Numbering) (l : Statement) (ls : List Statement) (p : ℕ) (old now new : List (Option ℕ)) → length new ≡ length old →
+    Puts t (λ x. assigns l x) None old now → Puts t (λ x. reads l x) (Some p) now new → AreAhead ls t old → AreAhead (l ∷ ls) t new
+line_more t l ls p old now new same clears notes ahead = record {
+  places_for = same ∙ ahead.places_for;
+  reported = λ x. ap is_some (notes x ∙ ap (λ (o : Option ℕ). if reads l x then Some p else o) (clears x))
+      ∙ (after_line (reads l x) (assigns l x) p (entry_of t old x)
+      ∙ ap (λ (later : Bool). flow (reads l x) later (assigns l x)) (ahead.reported x));
+}
 
 -- the bit of an operand
 pub one_bit : (k i : ℕ) → k < 16 → bit (1 * 2 ^ k % 65536) i ≡ (i == k)
@@ -105,11 +87,11 @@ bits_more holds xs k w v x a there is one bits = record {
 
 -- what is asked of a line, by what is noted behind it
 pub line_is : (t : Numbering) (places : List (Option ℕ)) (ls : List Statement) (l : Statement) (line : LineLater) (target : Option ℕ) →
-    AreAhead ls t places → line.target ≡ is_noted (entry_at places target) → target ≡ number_in t (target_of l) →
-    AreBits (λ x. is_noted (entry_of t places x)) (read_by l) line.operands →
+    AreAhead ls t places → line.target ≡ is_some (entry_at places target) → target ≡ number_in t (target_of l) →
+    AreBits (λ x. is_some (entry_of t places x)) (read_by l) line.operands →
     IsLineLater l (λ x. later_in ls x) line
 line_is t places ls l line target ahead reported number bits = record {
-  target = λ x e. reported ∙ (ap (λ (o : Option ℕ). is_noted (entry_at places o)) (number ∙ ap (λ (o : Option (List ℕ)). number_in t o) e)
+  target = λ x e. reported ∙ (ap (λ (o : Option ℕ). is_some (entry_at places o)) (number ∙ ap (λ (o : Option (List ℕ)). number_in t o) e)
       ∙ ahead.reported x);
   operands = λ xs e i x lt there. bits i x lt (ap (λ (ys : List (List ℕ)). slice_get ys i) (simple_reads l xs e) ∙ there) ∙ ahead.reported
       x;

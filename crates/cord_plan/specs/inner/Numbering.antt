@@ -2,7 +2,7 @@
 use Rattle.std.specs.Prelude.{◌≡◌, ℕ, ◌<◌, true, List, length, Option, slice_get}
 use Rattle.cord_syntax.specs.declared.statements.Statement.{Statement}
 use Rattle.cord_plan.specs.Operands.{has, reads_at}
-use Rattle.cord_plan.specs.inner.Places.{AreLines, HasNumbers, IsLineIn, place_in, place_of}
+use Rattle.cord_plan.specs.inner.Places.{AreLines, HasNumbers, IsLineIn, IsNumber, place_in, place_of}
 use Rattle.cord_plan.specs.declared.flow.numbering.LineNumbers.{LineNumbers}
 use Rattle.cord_plan.specs.declared.flow.numbering.Numbering.{Numbering}
 
@@ -15,6 +15,9 @@ number_of t x = place_of (names_of t) x
 
 abbrev pub number_in : Numbering → Option (List ℕ) → Option ℕ
 number_in t o = place_in (names_of t) o
+
+abbrev pub IsNumberIn : Numbering → Option (List ℕ) → Option ℕ → Type 0
+IsNumberIn t o number = IsNumber (names_of t) o number
 
 -- these are the numbers of the names of a line; they are kept for the line at a place, and for each line of a script
 abbrev pub IsNumbered : Numbering → Statement → LineNumbers → Type 0

@@ -64,5 +64,5 @@ AreLines s names read lines = (p : ℕ) (l : Statement) → slice_get s p ≡ So
 
 -- these are the numbers of the names of a line
 pub record HasNumbers (names : List (List ℕ)) (l : Statement) (numbers : LineNumbers) : Type 0 where
-  pub target : numbers.target ≡ place_in names (target_of l)
+  pub target : IsNumber names (target_of l) numbers.target
   pub read : AreNumbers names (read_by l) numbers.read.now

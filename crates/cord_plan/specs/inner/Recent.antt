@@ -1,11 +1,10 @@
 -- The last lines that assign and read each name, as the code notes them.
-use Rattle.std.specs.Prelude.{◌≡◌, ℕ, zero, suc, ◌-◌, Bool, true, false, not, nat_le, ◌||◌, List, if◌then◌else◌, Option}
-use Rattle.std.specs.Prelude.{Some, None, slice_get, option_map}
+use Rattle.std.specs.Prelude.{◌≡◌, ℕ, zero, suc, ◌-◌, Bool, true, false, not, nat_le, ◌||◌, List, length, if◌then◌else◌, Option}
+use Rattle.std.specs.Prelude.{Some, None, slice_get, unwrap_or}
 use Rattle.cord_syntax.specs.declared.statements.Statement.{Statement}
-use Rattle.cord_meaning.specs.Statements.{shape_of}
-use Rattle.cord_plan.specs.Operands.{reads, reads_at}
-use Rattle.cord_plan.specs.Inlined.{each_from, is_block, is_block_at, preserves, setter}
-use Rattle.cord_plan.specs.inner.Numbering.{number_of}
+use Rattle.cord_plan.specs.Operands.{reads_at}
+use Rattle.cord_plan.specs.Inlined.{each_from, is_block_at, preserves, setter}
+use Rattle.cord_plan.specs.inner.Numbering.{IsNumbering, names_of, number_of}
 use Rattle.cord_plan.specs.declared.flow.numbering.Numbering.{Numbering}
 use Rattle.cord_plan.specs.declared.flow.recent.Recent.{Recent}
 
@@ -17,10 +16,6 @@ reader s x (suc p) = if reads_at (slice_get s p) x then Some p else reader s x p
 abbrev pub blocker : List Statement → ℕ → Option ℕ
 blocker s zero = None
 blocker s (suc p) = if is_block_at (slice_get s p) then Some p else blocker s p
-
--- whether a line is a block's or reads x
-abbrev pub bars : Statement → List ℕ → Bool
-bars l x = is_block (shape_of l) || reads l x
 
 -- whether no line from a up to b assigns one of these names
 abbrev pub stay : List Statement → ℕ → ℕ → List (List ℕ) → Bool
@@ -41,27 +36,27 @@ abbrev pub is_before : Option ℕ → ℕ → Bool
 is_before None a = true
 is_before (Some p) a = not (nat_le a p)
 
--- what places, by the numbers of names, have for a name
-abbrev pub entry_at : List (Option ℕ) → Option ℕ → Option (Option ℕ)
+-- what places, by the numbers of names, have for a name, where they have anything
+abbrev pub entry_at : List (Option ℕ) → Option ℕ → Option ℕ
 entry_at places None = None
-entry_at places (Some n) = slice_get places n
+entry_at places (Some n) = unwrap_or (slice_get places n) None
 
-abbrev pub entry_of : Numbering → List (Option ℕ) → List ℕ → Option (Option ℕ)
+abbrev pub entry_of : Numbering → List (Option ℕ) → List ℕ → Option ℕ
 entry_of t places x = entry_at places (number_of t x)
+
+-- the places are as many as the names
+abbrev pub AreFor : Numbering → List (Option ℕ) → Type 0
+AreFor t places = length places ≡ length (names_of t)
 
 -- places come to have this for the names of which this holds, and for no other
 abbrev pub Puts : Numbering → (List ℕ → Bool) → Option ℕ → List (Option ℕ) → List (Option ℕ) → Type 0
-Puts t holds v old new = (x : List ℕ) → entry_of t new x ≡ option_map (λ o. if holds x then v else o) (entry_of t old x)
+Puts t holds v old new = (x : List ℕ) → entry_of t new x ≡ (if holds x then v else entry_of t old x)
 
--- a place is noted for the names of which this holds, and for no other
-abbrev pub noted : Bool → ℕ → Option ℕ → Option ℕ
-noted holds p o = if holds then Some p else o
-
-abbrev pub Notes : Numbering → (List ℕ → Bool) → ℕ → List (Option ℕ) → List (Option ℕ) → Type 0
-Notes t holds p old new = (x : List ℕ) → entry_of t new x ≡ option_map (λ o. noted (holds x) p o) (entry_of t old x)
-
--- the places are those of the lines before b
+-- the numbers are those of the lines, and the places those of the lines before b
 pub record IsRecent (s : List Statement) (b : ℕ) (r : Recent) : Type 0 where
-  pub assigned : (x : List ℕ) (o : Option ℕ) → entry_of r.later.now.numbering r.assigned.items x ≡ Some o → o ≡ setter s x b
-  pub read : (x : List ℕ) (o : Option ℕ) → entry_of r.later.now.numbering r.read.items x ≡ Some o → o ≡ reader s x b
+  pub numbered : IsNumbering s r.later.now.numbering
+  pub assigned_for : AreFor r.later.now.numbering r.assigned.items
+  pub read_for : AreFor r.later.now.numbering r.read.items
+  pub assigned : (x : List ℕ) → entry_of r.later.now.numbering r.assigned.items x ≡ setter s x b
+  pub read : (x : List ℕ) → entry_of r.later.now.numbering r.read.items x ≡ reader s x b
   pub block : r.block ≡ blocker s b

@@ -1,12 +1,11 @@
 -- What the code goes by that finds what is read later in a script without blocks.
-use Rattle.std.specs.Prelude.{◌≡◌, ℕ, ◌+◌, ◌<◌, ◌≤◌, Bool, true, false, not, ◌&&◌, ◌||◌, List, [], ◌∷◌, drop, Option, Some}
+use Rattle.std.specs.Prelude.{◌≡◌, ℕ, ◌+◌, ◌<◌, ◌≤◌, Bool, false, not, ◌&&◌, ◌||◌, List, [], ◌∷◌, drop, Option, Some}
 use Rattle.std.specs.Prelude.{slice_get, is_some}
 use Rattle.cord_syntax.specs.declared.statements.Statement.{Statement}
-use Rattle.cord_plan.specs.Operands.{assigns, has, reads, target_of}
+use Rattle.cord_plan.specs.Operands.{assigns, reads, target_of}
 use Rattle.cord_plan.specs.inner.Choices.{simple_operands}
 use Rattle.cord_plan.specs.inner.NameSets.{bit}
-use Rattle.cord_plan.specs.inner.Numbering.{names_of}
-use Rattle.cord_plan.specs.inner.Recent.{entry_of}
+use Rattle.cord_plan.specs.inner.Recent.{AreFor, entry_of}
 use Rattle.cord_plan.specs.declared.flow.numbering.Numbering.{Numbering}
 use Rattle.cord_plan.specs.declared.flow.straight_line.LineLater.{LineLater}
 
@@ -19,15 +18,10 @@ abbrev pub later_in : List Statement → List ℕ → Bool
 later_in [] x = false
 later_in (l ∷ ls) x = flow (reads l x) (later_in ls x) (assigns l x)
 
--- whether a line is noted
-abbrev pub is_noted : Option (Option ℕ) → Bool
-is_noted (Some (Some reader)) = true
-is_noted entry = false
-
 -- places, by the numbers of names, have a line for each name that these lines read before one assigns it, and for no other
 pub record AreAhead (ls : List Statement) (t : Numbering) (places : List (Option ℕ)) : Type 0 where
-  pub known : (x : List ℕ) → is_some (entry_of t places x) ≡ has (names_of t) x
-  pub reported : (x : List ℕ) → is_noted (entry_of t places x) ≡ later_in ls x
+  pub places_for : AreFor t places
+  pub reported : (x : List ℕ) → is_some (entry_of t places x) ≡ later_in ls x
 
 -- the bits of these names are those of which it holds, for the first of them
 abbrev pub AreBits : (List ℕ → Bool) → List (List ℕ) → ℕ → Type 0

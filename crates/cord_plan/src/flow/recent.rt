@@ -1,14 +1,13 @@
 // The last lines so far that assign and read each name.
-ghost use Rattle.std.specs.Prelude.{◌≡◌, ◌+◌, ℕ, List, Option, Some, IfOk, slice_get};
+ghost use Rattle.std.specs.Prelude.{◌≡◌, ◌+◌, ℕ, List, Option, Some, IfOk, if◌then◌else◌, slice_get};
 ghost use Rattle.cord_syntax.specs.declared.statements.Statement.{Statement};
 ghost use Rattle.cord_meaning.specs.Statements.{shape_of};
 ghost use Rattle.cord_plan.specs.Inlined.{is_block};
 ghost use Rattle.cord_plan.specs.Operands.{has, is_name};
 ghost use Rattle.cord_plan.specs.declared.flow.numbering.Numbering.{Numbering};
-ghost use Rattle.cord_plan.specs.inner.Numbering.{IsNumbered, names_of, number_in};
+ghost use Rattle.cord_plan.specs.inner.Numbering.{IsNumbered, IsNumberIn, IsNumbering, names_of};
 ghost use Rattle.cord_plan.specs.inner.Places.{AreNumbers};
-ghost use Rattle.cord_plan.specs.inner.Recent.{IsRecent, Notes, Puts, entry_at, entry_of, is_before, is_after};
-ghost use Rattle.cord_plan.specs.inner.Recent.{noted, unless_after};
+ghost use Rattle.cord_plan.specs.inner.Recent.{AreFor, IsRecent, Puts, entry_at, is_before, is_after, unless_after};
 
 use crate::flow::liveness::Later;
 use crate::flow::numbering::LineNumbers;
@@ -26,17 +25,11 @@ pub(crate) struct Recent<'a> {
     pub(crate) block: Option<usize>,
 }
 
-/// What places, by the numbers of names, have for a number: nothing where it isn't one of theirs.
-pub(crate) fn entry_at(places: &[Option<usize>], number: Option<usize>) -> Option<Option<usize>>
+/// What places, by the numbers of names, have for a number, where they have anything.
+pub(crate) fn entry_at(places: &[Option<usize>], number: Option<usize>) -> Option<usize>
     ensures { result ≡ entry_at places.now number }
 {
-    match number {
-        None => None,
-        Some(number) => match places.get(number) {
-            None => None,
-            Some(place) => Some(*place),
-        },
-    }
+    *places.get(number?)?
 }
 
 // Whether a place, where there is one, stands after another.
@@ -76,7 +69,7 @@ pub(crate) fn is_before(place: Option<usize>, other: usize) -> bool
 
 /// Puts an entry for the name of a number, where there is one.
 pub(crate) fn put(places: &mut [Option<usize>], number: Option<usize>, entry: Option<usize>)
-    ensures { (t : Numbering) (o : Option (List ℕ)) → number ≡ number_in t o →
+    ensures { (t : Numbering) (o : Option (List ℕ)) → IsNumberIn t o number → AreFor t places.old →
         Puts t (λ x. is_name o x) entry places.old places.new }
 {
     match number {
@@ -91,8 +84,8 @@ pub(crate) fn put(places: &mut [Option<usize>], number: Option<usize>, entry: Op
 
 /// Notes a place for the names of these numbers.
 pub(crate) fn note_all(places: &mut [Option<usize>], numbers: &[usize], place: usize)
-    ensures { (t : Numbering) (xs : List (List ℕ)) → AreNumbers (names_of t) xs numbers.now →
-        Notes t (λ x. has xs x) place places.old places.new }
+    ensures { (t : Numbering) (xs : List (List ℕ)) → AreNumbers (names_of t) xs numbers.now → AreFor t places.old →
+        Puts t (λ x. has xs x) (Some place) places.old places.new }
 {
     for number in numbers {
         put(places, Some(*number), Some(place));
@@ -101,7 +94,7 @@ pub(crate) fn note_all(places: &mut [Option<usize>], numbers: &[usize], place: u
 
 // The last line of a block after this line, where it was this one before it.
 fn block_after(before: Option<usize>, statement: &Statement, place: usize) -> Option<usize>
-    ensures { result ≡ noted (is_block (shape_of statement.now)) place before }
+    ensures { result ≡ (if is_block (shape_of statement.now) then Some place else before) }
 {
     if is_block(statement) {
         Some(place)
@@ -114,7 +107,7 @@ impl<'a> Recent<'a> {
     /// Before the first line.
     pub(crate) fn of(alloc: Global, later: &'a Later<'a>) -> Result<Self, AllocError>
         ensures later { IfOk result (λ r. r.later.now ≡ later.now) }
-        ensures recent { IfOk result (λ r. (s : List Statement) → IsRecent s 0 r) }
+        ensures recent { IfOk result (λ r. (s : List Statement) → IsNumbering s later.now.numbering → IsRecent s 0 r) }
     {
         let count = later.numbering.count();
         let assigned = vec![in alloc; None; count]?;

@@ -1,7 +1,7 @@
 // In a script without blocks, which names of each line are read later than the line.
-ghost use Rattle.std.specs.Prelude.{◌≡◌, ◌<◌, ◌==◌, ◌&&◌, [], ◌∷◌, ℕ, List, Some, IfOk, slice_get};
+ghost use Rattle.std.specs.Prelude.{◌≡◌, ◌<◌, ◌==◌, ◌&&◌, [], ◌∷◌, ℕ, List, Some, IfOk, is_some, slice_get};
 ghost use Rattle.cord_syntax.specs.declared.statements.Statement.{Statement};
-ghost use Rattle.cord_plan.specs.inner.StraightLine.{AreAhead, AreBits, AreReportedFrom, is_noted};
+ghost use Rattle.cord_plan.specs.inner.StraightLine.{AreAhead, AreBits, AreReportedFrom};
 ghost use Rattle.cord_plan.specs.inner.NameSets.{bit};
 ghost use Rattle.cord_plan.specs.inner.Numbering.{IsNumbered, IsNumbering, names_of};
 ghost use Rattle.cord_plan.specs.inner.Places.{AreNumbers};
@@ -79,18 +79,15 @@ impl Ahead {
 
     // Whether the name of a number is read before it is assigned.
     fn has(&self, number: Option<usize>) -> bool
-        ensures { result ≡ is_noted (entry_at self.now.read.items number) }
+        ensures { result ≡ is_some (entry_at self.now.read.items number) }
     {
-        match entry_at(&self.read, number) {
-            Some(Some(_)) => true,
-            _ => false,
-        }
+        entry_at(&self.read, number).is_some()
     }
 
     // Which of the first of these numbers are those of names that are read before they are assigned.
     fn operand_bits(&self, numbers: &[usize]) -> u16
         ensures { (t : Numbering) (xs : List (List ℕ)) → AreNumbers (names_of t) xs numbers.now →
-            AreBits (λ x. is_noted (entry_of t self.now.read.items x)) xs result }
+            AreBits (λ x. is_some (entry_of t self.now.read.items x)) xs result }
     {
         let mut bits = 0;
         for (index, number) in numbers.iter().enumerate() {

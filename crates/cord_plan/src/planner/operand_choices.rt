@@ -235,7 +235,7 @@ pub(crate) fn choose<'a>(
         (map choice_view chosen.now) (choice_view result) }
 {
     let number = number_at(line.numbers.read, chosen.len());
-    match nearest(line, operand, number) {
+    match nearest(line, number) {
         None => Choice::Named(operand),
         Some(source) => match expression_at(operations, source) {
             None => Choice::Named(operand),

@@ -11,6 +11,7 @@ use Rattle.cord_plan.specs.Planned as plan
 use Rattle.cord_plan.specs.Views.{expr_view, operation_view}
 use Rattle.cord_plan.specs.declared.flow.liveness.Later.{Later}
 use Rattle.cord_plan.proofs.Extending.{more_extending}
+use Rattle.cord_plan.proofs.Numbers.{number_reported}
 use Rattle.cord_plan.proofs.Marked.{all_begun, begun_long, begun_none, begun_then, expressions_then, written_back}
 use Rattle.cord_plan.proofs.planner.operations_of.Goals as goal
 
@@ -92,7 +93,7 @@ loop-place-init c = record {
   extending_room = omega (arith, c.in_ok-extending.ensures.len, c.in_ok-extending.ensures.capacity);
   extending = rw c.in_ok-extending.ensures.items (λ place reported. let bad : ⊥ = cc in absurd bad);
   later = c.in_ok-recent.ensures.later;
-  recent = c.in_ok-recent.ensures.recent c.args.statements.now;
+  recent = c.in_ok-recent.ensures.recent c.args.statements.now c.requires.numbered;
   known = c.in_ok-known.ensures c.args.later.now.numbering
       (map operation_expression (map operation_view c.in_ok-operations.operations.items));
 }
@@ -137,7 +138,7 @@ is_dead-dead-requires-clause-number c =
     let numbered : IsNumbered c.args.later.now.numbering l c.line-numbers.result =
     c.line-numbers.ensures l (c.requires.numbered p l
     (slice_get_read s (length s) p l refl c.loop-place-test.true c.index-statements-place.is)) in
-    numbered.target
+    number_reported c.args.later.now.numbering (target_of l) c.line-numbers.result.target numbered.target
 
 pub next_expression-requires-clause-long : goal.next_expression-requires-clause-long
 next_expression-requires-clause-long c =

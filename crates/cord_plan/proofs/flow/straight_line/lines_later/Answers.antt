@@ -2,12 +2,12 @@ use Rattle.std.proofs.Common.{◌≡◌, ◌+◌, ◌-◌, ◌<◌, List, drop, 
 use Rattle.std.proofs.Math.Seq.{drop-length}
 use Rattle.std.proofs.lemmas.Option.{slice_get_within}
 use Rattle.cord_syntax.specs.declared.statements.Statement.{Statement}
-use Rattle.cord_plan.specs.Operands.{read_by}
+use Rattle.cord_plan.specs.Operands.{read_by, target_of}
 use Rattle.cord_plan.specs.inner.StraightLine.{AreAhead, IsLineLater, later_in}
 use Rattle.cord_plan.specs.inner.Numbering.{IsNumbered}
 use Rattle.cord_plan.specs.declared.flow.straight_line.LineLater.{LineLater}
 use Rattle.cord_plan.proofs.StraightLine.{from_place, line_is, reported_more}
-use Rattle.cord_plan.proofs.Numbers.{line_there}
+use Rattle.cord_plan.proofs.Numbers.{line_there, number_reported}
 use Rattle.cord_plan.proofs.flow.straight_line.lines_later.Goals as goal
 
 pub loop-place-init : goal.loop-place-init
@@ -43,7 +43,7 @@ loop-place-preserved c =
     let numbered : IsNumbered t l numbers = c.line-numbers.ensures l there.2 in
     let line : LineLater = record { target = c.has.result; operands = c.operand_bits.result } in
     let reported : IsLineLater l (λ x. later_in (drop q s) x) line =
-    line_is t places (drop q s) l line numbers.target before.ahead c.has.ensures numbered.target
+    line_is t places (drop q s) l line numbers.target before.ahead c.has.ensures (number_reported t (target_of l) numbers.target numbered.target)
     (c.operand_bits.ensures t (read_by l) numbered.read) in
     record {
       size = length-set lines p line ∙ before.size;

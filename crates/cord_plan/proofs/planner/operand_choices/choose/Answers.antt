@@ -2,6 +2,7 @@ use Rattle.std.proofs.Common.{◌≡◌, ◌+◌, Bool, true, false, ◌&&◌, L
 use Rattle.cord_plan.specs.Exprs.{Expr, name}
 use Rattle.cord_plan.specs.Inlined.{expr_of, expr_with, is_small}
 use Rattle.cord_plan.specs.inner.Liveness.{reports}
+use Rattle.cord_plan.specs.inner.Numbering.{number_of}
 use Rattle.cord_plan.specs.inner.Steps.{operation_expression}
 use Rattle.cord_plan.specs.Views.{expr_view, operation_view}
 use Rattle.cord_plan.specs.inner.Choices.{choice_view, nearest, stands, expression_in}
@@ -33,7 +34,11 @@ returns-in-None c =
     let line = c.args.line.now in
     let before : List Expr = map (λ d. expr_of d) (map choice_view c.args.chosen.now) in
     let after : List Expr = map (λ y. name y) (drop (length (map choice_view c.args.chosen.now) + 1) (operand_names line.operands)) in
-    let far : nearest line.statements.now c.args.operand.now line.place ≡ None = sym c.in-None.ensures in
+    let number : c.number_at-number.result ≡ number_of line.recent.now.later.now.numbering c.args.operand.now =
+    c.number_at-number.ensures
+    ∙ operand_number line.recent.now.later.now.numbering line.statement.now line.numbers (operand_names line.operands)
+    (length c.args.chosen.now) c.args.operand.now c.requires.numbers c.requires.operands c.requires.operand in
+    let far : nearest line.statements.now c.args.operand.now line.place ≡ None = sym (c.in-None.ensures c.args.operand.now number) in
     λ t has. kept_far line.statements.now (reports line.recent.now.later.now) t line.place line.statement.now c.args.operand.now before
     after
     far
@@ -43,7 +48,12 @@ returns-in-None-expression_at c =
     let line = c.args.line.now in
     let before : List Expr = map (λ d. expr_of d) (map choice_view c.args.chosen.now) in
     let after : List Expr = map (λ y. name y) (drop (length (map choice_view c.args.chosen.now) + 1) (operand_names line.operands)) in
-    let near : nearest line.statements.now c.args.operand.now line.place ≡ Some c.in-Some.source = sym c.in-Some.ensures in
+    let number : c.number_at-number.result ≡ number_of line.recent.now.later.now.numbering c.args.operand.now =
+    c.number_at-number.ensures
+    ∙ operand_number line.recent.now.later.now.numbering line.statement.now line.numbers (operand_names line.operands)
+    (length c.args.chosen.now) c.args.operand.now c.requires.numbers c.requires.operands c.requires.operand in
+    let near : nearest line.statements.now c.args.operand.now line.place ≡ Some c.in-Some.source =
+    sym (c.in-Some.ensures c.args.operand.now number) in
     let bare : None ≡ expression_in (map operation_expression (map operation_view c.args.operations.now)) c.in-Some.source =
     c.in-None-expression_at.ensures in
     λ t has. kept_bare line.statements.now (reports line.recent.now.later.now) t line.place line.statement.now c.args.operand.now before
@@ -56,7 +66,12 @@ returns-then-stays_small c =
     let r = expr_view c.in-Some-expression_at.expression.now in
     let before : List Expr = map (λ d. expr_of d) (map choice_view c.args.chosen.now) in
     let after : List Expr = map (λ y. name y) (drop (length (map choice_view c.args.chosen.now) + 1) (operand_names line.operands)) in
-    let near : nearest line.statements.now c.args.operand.now line.place ≡ Some c.in-Some.source = sym c.in-Some.ensures in
+    let number : c.number_at-number.result ≡ number_of line.recent.now.later.now.numbering c.args.operand.now =
+    c.number_at-number.ensures
+    ∙ operand_number line.recent.now.later.now.numbering line.statement.now line.numbers (operand_names line.operands)
+    (length c.args.chosen.now) c.args.operand.now c.requires.numbers c.requires.operands c.requires.operand in
+    let near : nearest line.statements.now c.args.operand.now line.place ≡ Some c.in-Some.source =
+    sym (c.in-Some.ensures c.args.operand.now number) in
     let there : Some r ≡ expression_in (map operation_expression (map operation_view c.args.operations.now)) c.in-Some.source =
     c.in-Some-expression_at.ensures in
     let stable : stands line.statements.now (reports line.recent.now.later.now) r c.in-Some.source line.place line.statement.now
@@ -77,7 +92,12 @@ returns-else-stands c =
     let r = expr_view c.in-Some-expression_at.expression.now in
     let before : List Expr = map (λ d. expr_of d) (map choice_view c.args.chosen.now) in
     let after : List Expr = map (λ y. name y) (drop (length (map choice_view c.args.chosen.now) + 1) (operand_names line.operands)) in
-    let near : nearest line.statements.now c.args.operand.now line.place ≡ Some c.in-Some.source = sym c.in-Some.ensures in
+    let number : c.number_at-number.result ≡ number_of line.recent.now.later.now.numbering c.args.operand.now =
+    c.number_at-number.ensures
+    ∙ operand_number line.recent.now.later.now.numbering line.statement.now line.numbers (operand_names line.operands)
+    (length c.args.chosen.now) c.args.operand.now c.requires.numbers c.requires.operands c.requires.operand in
+    let near : nearest line.statements.now c.args.operand.now line.place ≡ Some c.in-Some.source =
+    sym (c.in-Some.ensures c.args.operand.now number) in
     let there : Some r ≡ expression_in (map operation_expression (map operation_view c.args.operations.now)) c.in-Some.source =
     c.in-Some-expression_at.ensures in
     let stable : stands line.statements.now (reports line.recent.now.later.now) r c.in-Some.source line.place line.statement.now
@@ -94,13 +114,6 @@ returns-else-stands c =
     (operand_names line.operands) (simple_reads line.statement.now (operand_names line.operands) c.requires.operands)
     c.in-Some.source r near
     (sym (first_in (map operation_expression (map operation_view c.args.operations.now)) t c.in-Some.source has) ∙ sym there) false refused
-
-pub nearest-requires-clause-number : goal.nearest-requires-clause-number
-nearest-requires-clause-number c =
-    let line = c.args.line.now in
-    c.number_at-number.ensures
-    ∙ operand_number line.recent.now.later.now.numbering line.statement.now line.numbers (operand_names line.operands)
-    (length c.args.chosen.now) c.args.operand.now c.requires.numbers c.requires.operands c.requires.operand
 
 pub is_operand_later-later-requires-clause-number : goal.is_operand_later-later-requires-clause-number
 is_operand_later-later-requires-clause-number c =

@@ -1,19 +1,19 @@
-use Rattle.std.proofs.Common.{◌≡◌, Some, None, sym, ◌∙◌}
+use Rattle.std.proofs.Common.{ℕ, Option, subst, sym, ◌∙◌}
 use Rattle.cord_plan.specs.Exprs.{names}
 use Rattle.cord_plan.specs.Operands.{target_of}
-use Rattle.cord_plan.specs.inner.Numbering.{number_of}
+use Rattle.cord_plan.specs.inner.Numbering.{IsNumberIn}
 use Rattle.cord_plan.proofs.Lacking.{preserves_all, preserves_lacking}
+use Rattle.cord_plan.proofs.Numbers.{NamedBy, named_by, unnamed}
 use Rattle.cord_plan.proofs.planner.unchanged.preserves.Goals as goal
 
 pub returns-in-None : goal.returns-in-None
-returns-in-None c =
-    let none : target_of c.args.statement.now ≡ None = cc in
-    λ e facts. sym (preserves_all c.args.statement.now none (names e))
+returns-in-None c = λ t l e number facts.
+    sym (preserves_all l (unnamed t (target_of l) (subst (λ (n : Option ℕ). IsNumberIn t (target_of l) n) c.in-None.is number))
+    (names e))
 
-pub returns-in-Some-number_of : goal.returns-in-Some-number_of
-returns-in-Some-number_of c =
-    let target = c.in-Some.target.now in
-    let some : target_of c.args.statement.now ≡ Some target = cc in
-    let number : number_of c.args.numbering.now target ≡ Some c.in-Some-number_of.number = sym c.in-Some-number_of.ensures in
-    λ e facts. c.lacks.ensures c.args.numbering.now e target facts number
-    ∙ sym (preserves_lacking c.args.statement.now target some (names e))
+pub returns-in-Some : goal.returns-in-Some
+returns-in-Some c = λ t l e number facts.
+    let n = c.in-Some.number in
+    let found : NamedBy t (target_of l) n =
+    named_by t (target_of l) n (subst (λ (n : Option ℕ). IsNumberIn t (target_of l) n) c.in-Some.is number) in
+    c.lacks.ensures t e found.name facts found.number ∙ sym (preserves_lacking l found.name found.is (names e))

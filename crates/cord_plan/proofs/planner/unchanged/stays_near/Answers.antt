@@ -1,31 +1,54 @@
-use Rattle.std.proofs.Common.{◌≡◌, ℕ, ◌+◌, ◌-◌, Bool, true, false, ◌&&◌, Some, sym, ap, ◌∙◌, arith}
+use Rattle.std.proofs.Common.{◌≡◌, ℕ, ◌+◌, ◌-◌, ◌<◌, ◌≤◌, Bool, true, false, ◌&&◌, length, Some, sym, ap, ◌∙◌, arith}
 use Rattle.std.specs.Prelude.{slice_get}
 use Rattle.cord_syntax.specs.declared.statements.Statement.{Statement}
-use Rattle.cord_plan.specs.Exprs.{names}
+use Rattle.cord_plan.specs.Exprs.{Expr, names}
 use Rattle.cord_plan.specs.Inlined.{each_from, preserves}
-use Rattle.cord_plan.specs.inner.Recent.{stay}
+use Rattle.cord_plan.specs.Operands.{target_of}
+use Rattle.cord_plan.specs.inner.Numbering.{IsLineAt, IsNumbered, IsNumberIn}
+use Rattle.cord_plan.specs.inner.Recent.{IsRecent, stay}
+use Rattle.cord_plan.specs.declared.flow.numbering.LineNumbers.{LineNumbers}
+use Rattle.cord_plan.specs.declared.planner.operand_choices.Line.{Line}
 use Rattle.cord_plan.proofs.Nearest.{keep_here}
+use Rattle.cord_plan.proofs.Numbers.{line_there}
 use Rattle.cord_plan.proofs.planner.unchanged.stays_near.Goals as goal
+
+-- the line at a place before a line, and what it preserves
+module _ (line : Line) (recent : IsRecent line.statements.now line.place line.recent.now)
+    (place : line.place ≤ length line.statements.now) (p : ℕ) (lt : p < line.place) where
+  there : (l : Statement) × (slice_get line.statements.now p ≡ Some l) × IsLineAt line.recent.now.later.now.numbering l p
+  there = line_there line.recent.now.later.now.numbering line.statements.now recent.numbered p (omega (arith, lt, place))
+
+  kept_here : (numbers : LineNumbers) →
+      ((l : Statement) → IsLineAt line.recent.now.later.now.numbering l p → IsNumbered line.recent.now.later.now.numbering l numbers) →
+      (e : Expr) (v : Bool) →
+      ((l : Statement) → IsNumberIn line.recent.now.later.now.numbering (target_of l) numbers.target → v ≡ preserves (Some l) (names e)) →
+      stay line.statements.now p line.place (names e) ≡ v && stay line.statements.now (p + 1) line.place (names e)
+  kept_here numbers numbered e v kept =
+      keep_here line.statements.now (names e) p line.place there.0 lt there.1
+      ∙ ap (λ (w : Bool). w && stay line.statements.now (p + 1) line.place (names e)) (sym (kept there.0 (numbered there.0 there.2).target))
+
+pub line-requires : goal.line-requires
+line-requires c =
+    let found = there c.args.line.now c.requires.recent c.requires.place c.loop-p.p c.loop-p-test.true in
+    (found.0, found.2)
 
 pub returns-then-not-branch : goal.returns-then-not-branch
 returns-then-not-branch c = λ e facts.
-    let s = c.args.line.now.statements.now in
-    let kept : c.in_ok-preserves.field-0 ≡ preserves (Some c.index-line-p.result) (names e) =
-    c.in_ok-preserves.ensures e facts ∙ ap (λ (l : Statement). preserves (Some l) (names e)) (sym c.index-line-p.is) in
-    let stable : preserves (Some c.index-line-p.result) (names e) ≡ false = cc in
+    let line = c.args.line.now in
+    let no : c.in_ok-preserves.field-0 ≡ false = cc in
     sym (c.loop-p.invariant e facts
-    ∙ (keep_here s (names e) c.loop-p.p c.args.line.now.place c.index-line-p.result c.loop-p-test.true c.requires c.index-line-p.is
-    ∙ ap (λ (v : Bool). v && stay s (c.loop-p.p + 1) c.args.line.now.place (names e)) stable))
+    ∙ (kept_here line c.requires.recent c.requires.place c.loop-p.p c.loop-p-test.true c.line.result c.line.ensures e
+    c.in_ok-preserves.field-0 (λ l number. c.in_ok-preserves.ensures line.recent.now.later.now.numbering l e number facts)
+    ∙ ap (λ (v : Bool). v && stay line.statements.now (c.loop-p.p + 1) line.place (names e)) no))
 
 pub loop-p-preserved : goal.loop-p-preserved
 loop-p-preserved c = λ e facts.
-    let s = c.args.line.now.statements.now in
-    let kept : c.in_ok-preserves.field-0 ≡ preserves (Some c.index-line-p.result) (names e) =
-    c.in_ok-preserves.ensures e facts ∙ ap (λ (l : Statement). preserves (Some l) (names e)) (sym c.index-line-p.is) in
-    let stable : preserves (Some c.index-line-p.result) (names e) ≡ true = cc in
+    let line = c.args.line.now in
+    let yes : c.in_ok-preserves.field-0 ≡ true = cc in
     c.loop-p.invariant e facts
-    ∙ (keep_here s (names e) c.loop-p.p c.args.line.now.place c.index-line-p.result c.loop-p-test.true c.requires c.index-line-p.is
-    ∙ ap (λ (v : Bool). v && stay s (c.loop-p.p + 1) c.args.line.now.place (names e)) stable)
+    ∙ (kept_here line c.requires.recent c.requires.place c.loop-p.p c.loop-p-test.true c.line.result c.line.ensures e
+    c.in_ok-preserves.field-0 (λ l number. c.in_ok-preserves.ensures line.recent.now.later.now.numbering l e number facts)
+    ∙ ap (λ (v : Bool). v && stay line.statements.now (c.loop-p.p + 1) line.place (names e)) yes)
 
 pub returns : goal.returns
 returns c = λ e facts.

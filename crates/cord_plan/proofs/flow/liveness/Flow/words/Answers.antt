@@ -6,7 +6,7 @@ use Rattle.cord_plan.specs.Operands.{assigns, read_by, reads, target_of}
 use Rattle.cord_plan.specs.inner.Liveness.{at}
 use Rattle.cord_plan.specs.inner.NameSets.{column}
 use Rattle.cord_plan.specs.inner.Numbering.{IsNumbered}
-use Rattle.cord_plan.proofs.Numbers.{line_there}
+use Rattle.cord_plan.proofs.Numbers.{line_there, number_reported}
 use Rattle.cord_plan.proofs.Words.{reported_more, size_more}
 use Rattle.cord_plan.proofs.Sweeps.{assigned_at, readers_partly}
 use Rattle.cord_plan.proofs.flow.liveness.Flow.words.Goals as goal
@@ -43,7 +43,7 @@ loop-place-preserved c =
           c.loop-place-test.true is (c.loop-place.invariant.read x i b) (c.mark_all.ensures t (read_by l) numbered.read x i b));
       assigned = λ x i b. rw c.push_reserved-in-loop-place.ensures.items (reported_more (λ m. assigns m x) s k l c.loop-place.assigned.items
           c.mark_target.result i c.loop-place-test.true is (c.loop-place.invariant.assigned x i b)
-          (c.mark_target.ensures t (target_of l) numbered.target x i b));
+          (c.mark_target.ensures t (target_of l) (number_reported t (target_of l) _ numbered.target) x i b));
     }
 
 pub returns-clause-read : goal.returns-clause-read

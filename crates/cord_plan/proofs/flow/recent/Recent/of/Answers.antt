@@ -1,5 +1,6 @@
-use Rattle.std.proofs.Common.{◌≡◌, None, refl, rules}
+use Rattle.std.proofs.Common.{◌≡◌, None, refl, ◌∙◌, rules}
 use Rattle.std.specs.Prelude.{replicate}
+use Rattle.std.proofs.lemmas.List.{length-replicate}
 use Rattle.cord_plan.proofs.Recents.{none_noted}
 use Rattle.cord_plan.proofs.flow.recent.Recent.of.Goals as goal
 
@@ -10,8 +11,11 @@ returns-clause-recent c =
     let assigned : c.in_ok-assigned.assigned.items ≡ replicate n None =
     c.in_ok-assigned.ensures.items_if_clones_equal (λ x h. search rules) in
     let read : c.in_ok-read.read.items ≡ replicate n None = c.in_ok-read.ensures.items_if_clones_equal (λ x h. search rules) in
-    λ s. record {
-      assigned = λ x o e. none_noted t n x o (rw assigned at e);
-      read = λ x o e. none_noted t n x o (rw read at e);
+    λ s numbered. record {
+      numbered = numbered;
+      assigned_for = rw assigned (length-replicate n None ∙ c.count-count.ensures);
+      read_for = rw read (length-replicate n None ∙ c.count-count.ensures);
+      assigned = λ x. rw assigned (none_noted t n x);
+      read = λ x. rw read (none_noted t n x);
       block = refl;
     }

@@ -1,14 +1,13 @@
 use Rattle.std.proofs.Common.{◌≡◌, ◌<◌, ℕ, Option, Some, length, get_or, sym, ap, ◌∙◌, arith}
-use Rattle.std.specs.Prelude.{slice_get}
+use Rattle.std.specs.Prelude.{is_some, slice_get}
 use Rattle.std.proofs.lemmas.Option.{slice_get-get_or, slice_get_within}
-use Rattle.cord_plan.specs.inner.StraightLine.{is_noted}
 use Rattle.cord_plan.specs.inner.Recent.{entry_at, entry_of}
 use Rattle.cord_plan.proofs.StraightLine.{bits_more, bits_start}
 use Rattle.cord_plan.proofs.Numbers.{as_many, name_at}
 use Rattle.cord_plan.proofs.flow.straight_line.Ahead.operand_bits.Goals as goal
 
 pub loop-index-init : goal.loop-index-init
-loop-index-init c = λ t xs are. bits_start (λ x. is_noted (entry_of t c.args.self.now.read.items x)) xs
+loop-index-init c = λ t xs are. bits_start (λ x. is_some (entry_of t c.args.self.now.read.items x)) xs
 
 pub loop-index-preserved : goal.loop-index-preserved
 loop-index-preserved c = λ t xs are.
@@ -18,8 +17,8 @@ loop-index-preserved c = λ t xs are.
     let n = get_or ns k 0 in
     let there : slice_get ns k ≡ Some n = slice_get-get_or ns k 0 c.loop-index-test.true in
     let found = name_at t xs ns are k n there in
-    bits_more (λ x. is_noted (entry_of t places x)) xs k c.loop-index.bits c.operand_bit-bits.result found.name c.has.result found.there
-    (c.has.ensures ∙ ap (λ (o : Option ℕ). is_noted (entry_at places o)) (sym found.number)) c.operand_bit-bits.ensures
+    bits_more (λ x. is_some (entry_of t places x)) xs k c.loop-index.bits c.operand_bit-bits.result found.name c.has.result found.there
+    (c.has.ensures ∙ ap (λ (o : Option ℕ). is_some (entry_at places o)) (sym found.number)) c.operand_bit-bits.ensures
     (c.loop-index.invariant t xs are)
 
 pub returns-then-index-ge-OPERANDS : goal.returns-then-index-ge-OPERANDS

@@ -1,5 +1,5 @@
 use Rattle.std.proofs.Common.{List, ℕ}
-use Rattle.cord_plan.specs.inner.StraightLine.{is_noted}
+use Rattle.std.specs.Prelude.{is_some}
 use Rattle.cord_plan.specs.inner.Numbering.{names_of}
 use Rattle.cord_plan.specs.inner.Places.{AreNumbers}
 use Rattle.cord_plan.specs.inner.Recent.{entry_of}
@@ -9,4 +9,4 @@ use Rattle.cord_plan.proofs.flow.straight_line.Ahead.operand_bits.Given as goal
 
 abbrev pub invariant-loop-index : goal.invariant-loop-index
 invariant-loop-index l = (t : Numbering) (xs : List (List ℕ)) → AreNumbers (names_of t) xs l.numbers →
-    BitsTo (λ x. is_noted (entry_of t l.self.read.items x)) xs l.index l.bits
+    BitsTo (λ x. is_some (entry_of t l.self.read.items x)) xs l.index l.bits
