@@ -6,9 +6,8 @@ ghost use Rattle.cord_plan.specs.Views.{operation_view};
 
 use crate::planner::operand_choices::Choice;
 use crate::{Made, Operation};
-use cord_script::Statement;
+use core::mem::replace_with;
 use std::alloc::{AllocError, Global};
-use std::mem::replace;
 
 /// The places of the lines whose expressions a line takes, where it takes any for an operand.
 #[derive(Drop)]
@@ -63,9 +62,7 @@ fn measured(operation: Operation) -> Operation
 fn let_measure(operation: &mut Operation)
     ensures { operation_view operation.new ≡ measured true (operation_view operation.old) }
 {
-    let gap = Operation::Keep(Statement::End { line: 0 });
-    let taken = replace(operation, gap);
-    drop(replace(operation, measured(taken)));
+    replace_with(operation, (), |taken, unit| (measured(taken), unit));
 }
 
 // Lets the operation at a place, where there is one, only measure.
