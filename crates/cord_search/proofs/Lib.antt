@@ -7,3 +7,5 @@ pub mod Comparing
 pub mod Standing
 pub mod Repeating
 pub mod Moving
+pub mod Cuts
+pub mod Lasts

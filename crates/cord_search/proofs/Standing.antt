@@ -138,15 +138,8 @@ pub stands_first : (t : Table) (x s : Option Node) (start place : ℕ) → start
     StandsNot t x (bytes_of t s) start place → Some place ≡ first (bytes_of t x) start (bytes_of t s)
 stands_first t x s start place low h none = first_only (bytes_of t x) (bytes_of t s) start (Some place) (low, h, none)
 
--- no place is left
-pub stands_none : (t : Table) (x : Option Node) (s : List ℕ) (start place : ℕ) → text_len x < place + length s →
-    length (bytes_of t x) ≡ text_len x → StandsNot t x s start place → None ≡ first (bytes_of t x) start s
-stands_none t x s start place past p none =
-    first_only (bytes_of t x) s start None (λ k low at. ⊎_elim (λ (lt : k < place). none k low lt at)
-    (λ (le : place ≤ k). omega (arith, past, p, stands_inside (bytes_of t x) s k at)) (cases_lt k place))
-
 -- the prefix of a text stands where the text stands
-prefix_stands : (x s head : List ℕ) (q : ℕ) → head ≡ take (length head) s → StandsAt x s q → StandsAt x head q
+pub prefix_stands : (x s head : List ℕ) (q : ℕ) → head ≡ take (length head) s → StandsAt x s q → StandsAt x head q
 prefix_stands x s head q f at = record {
   within = at.within;
   rest = drop (length head) s ++ at.rest;
@@ -163,15 +156,6 @@ prefix_on t x s start place q head is f none =
     subst (λ (r : Option ℕ). IsFirst (bytes_of t x) place head r) (sym is) (first_is_least (bytes_of t x) head place) in
     λ k low to at. ⊎_elim (λ (lt : k < place). none k low lt at)
     (λ (le : place ≤ k). least.2 k le to (prefix_stands (bytes_of t x) (bytes_of t s) head k f at)) (cases_lt k place)
-
-pub prefix_none : (t : Table) (x s : Option Node) (start place : ℕ) (head : List ℕ) → None ≡ first (bytes_of t x) place head →
-    IsPieceOf t s 0 head → StandsNot t x (bytes_of t s) start place → None ≡ first (bytes_of t x) start (bytes_of t s)
-prefix_none t x s start place head is f none =
-    let least : IsFirst (bytes_of t x) place head None =
-    subst (λ (r : Option ℕ). IsFirst (bytes_of t x) place head r) (sym is) (first_is_least (bytes_of t x) head place) in
-    first_only (bytes_of t x) (bytes_of t s) start None (λ k low at.
-    ⊎_elim (λ (lt : k < place). none k low lt at) (λ (le : place ≤ k).
-    least k le (prefix_stands (bytes_of t x) (bytes_of t s) head k f at)) (cases_lt k place))
 
 -- a text that was copied whole
 pub whole_text : (t : Table) (s : Option Node) (xs : List ℕ) → IsPieceOf t s 0 xs → length xs ≡ text_len s →

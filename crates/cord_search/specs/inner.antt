@@ -3,3 +3,4 @@ pub mod Ahead
 pub mod Pieces
 pub mod Periods
 pub mod Searches
+pub mod Lasts

@@ -4,6 +4,7 @@
 
 mod ahead;
 mod bytes;
+mod last;
 mod limits;
 mod order;
 mod periods;
@@ -13,9 +14,10 @@ mod spans;
 mod substring;
 
 pub use bytes::{chr, fetch, rchr};
+pub use last::rstr;
 pub use limits::limits_are;
 pub use order::{cmp, ncmp};
-pub use substring::{MOST_BYTES, find_bytes, str};
+pub use substring::{MOST_BYTES, find_bytes, find_bytes_in, str, str_in};
 
 /// The most bytes of a run or of a function part that are looked at together, but for the windows of `str`.
 pub(crate) const PIECE_LEN: usize = 512;

@@ -13,12 +13,13 @@ use cord_core::Cord;
 use cord_io::{ReadFault, Source};
 use cord_pos::{Position, Span};
 
-// At least `count` bytes of a position's cord from a place on, which it has, where this span begins: the rest of a
+// At least `count` bytes of a position's cord from a place on, all before `end`, where this span begins: the rest of a
 // leaf where that is enough. Else they are copied, some times as many where there are, so that a search which goes on
 // after them copies no byte often. The position is moved on over the parts that are copied.
 pub(crate) fn window_at<'a, S: Source>(
     position: &mut Position,
     place: u64,
+    end: u64,
     span: Span<'a>,
     count: usize,
     room: &'a mut [u8],
@@ -28,23 +29,26 @@ pub(crate) fn window_at<'a, S: Source>(
     requires span { IsSpanOf position.old.cord place span }
     requires valid { IsSome position.old.index }
     requires most { count ≤ length room.old }
-    requires inside { place + count ≤ text_len position.old.cord }
+    requires inside { place + count ≤ end }
+    requires within { end ≤ text_len position.old.cord }
     requires fits { CordFitsIn (S.lengths src.old) position.old.cord }
     ensures enough { IfOk result (λ window. count ≤ length window.now) }
-    ensures inside { IfOk result (λ window. place + length window.now ≤ text_len position.old.cord) }
+    ensures inside { IfOk result (λ window. place + length window.now ≤ end) }
     ensures text { (file_system : FileSystem) → S.consistent src.new file_system →
         IfOk result (λ window. IsPieceOf (S.table src.old file_system) position.old.cord place window.now) }
     ensures cord { position.new.cord ≡ position.old.cord }
     ensures valid { IsSome position.new.index }
     ensures read { HasRead ⟦<S as Source>⟧ src.old src.new result }
 {
+    let left = end - place;
     if let Span::Bytes(bytes) = span {
         if count <= bytes.len() {
-            return Ok(bytes);
+            let most = bytes.len().min(left as usize);
+            return Ok(&bytes[..most]);
         }
     }
     let most = count.saturating_mul(4).max(PIECE_LEN).min(room.len());
-    let len = (most as u64).min(position.cord().len() - place);
+    let len = (most as u64).min(left);
     let window = &mut room[..len as usize];
     gather_by(position, place, window, src)?;
     Ok(window)

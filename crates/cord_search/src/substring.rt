@@ -1,12 +1,12 @@
 // The places of a text in another.
-ghost use Rattle.std.specs.Prelude.{◌≡◌, ◌+◌, ◌<◌, ◌≤◌, length, true, false, is_err, IsOk, IfOk, IfErr, IfSome};
+ghost use Rattle.std.specs.Prelude.{◌≡◌, ◌+◌, ◌<◌, ◌≤◌, length, take, true, false, is_err, IsOk, IfOk, IfErr, IfSome};
 ghost use Rattle.cord_io.specs.Device.{FileSystem, count_after};
 ghost use Rattle.cord_io.specs.Frames.{LeavesSource};
 ghost use Rattle.cord_core.specs.Cord.{text_len, bytes_of, IsCord, CordFitsIn};
 ghost use Rattle.cord_core.specs.Texts.{first};
 ghost use Rattle.cord_search.specs.inner.Pieces.{IsPieceOf, IsStanding, StandsNot};
 ghost use Rattle.cord_search.specs.inner.Periods.{HasPeriods};
-ghost use Rattle.cord_search.specs.inner.Searches.{FindsBytes, FindsText, HasRead};
+ghost use Rattle.cord_search.specs.inner.Searches.{FindsBytesIn, FindsText, HasRead};
 
 use crate::PIECE_LEN;
 use crate::order::compare;
@@ -65,14 +65,41 @@ pub fn str<S: Source>(x: &Cord, start: u64, s: &Cord, src: &mut S) -> Result<Opt
     ensures steady { S.failures src.old < u64.MAX → S.failures src.new ≡ S.failures src.old → IsOk result }
     ensures source { LeavesSource ⟦<S as Source>⟧ src.old src.new }
 {
+    str_in(x, start, x.len(), s, src)
+}
+
+/// As `str`, in the first `end` bytes of `x`: the first place at `start` or later where `s` stands and ends at `end` or
+/// before. What lies behind `end` is not looked at, but to tell how far a text of more than `MOST_BYTES` repeats
+/// itself.
+pub fn str_in<S: Source>(
+    x: &Cord,
+    start: u64,
+    end: u64,
+    s: &Cord,
+    src: &mut S,
+) -> Result<Option<u64>, CordError>
+    requires fits { CordFitsIn (S.lengths src.old) x.now }
+    requires pattern_fits { CordFitsIn (S.lengths src.old) s.now }
+    ensures first { (file_system : FileSystem) → S.consistent src.new file_system → IfOk result (λ place.
+        place ≡ first (take end (bytes_of (S.table src.old file_system) x.now)) start
+        (bytes_of (S.table src.old file_system) s.now)) }
+    ensures from { IfOk result (λ found. IfSome found (λ place. start ≤ place)) }
+    ensures before { IfOk result (λ found. IfSome found (λ place. place + text_len s.now ≤ end)) }
+    ensures within { IfOk result (λ found. IfSome found (λ place. place + text_len s.now ≤ text_len x.now)) }
+    ensures refused { IfErr result (λ e. e ≡ CordError.ReadFailed) }
+    ensures count { S.failures src.new ≡ count_after (is_err result) (S.failures src.old) }
+    ensures steady { S.failures src.old < u64.MAX → S.failures src.new ≡ S.failures src.old → IsOk result }
+    ensures source { LeavesSource ⟦<S as Source>⟧ src.old src.new }
+{
     let count = s.len();
-    if !lies_inside(start, count, x.len()) {
+    let end = end.min(x.len());
+    if !lies_inside(start, count, end) {
         return Ok(None);
     }
     if count == 0 {
         return Ok(Some(start));
     }
-    let place = first_place(x, start, s, src)?;
+    let place = first_place(x, start, end, s, src)?;
     Ok(place)
 }
 
@@ -99,14 +126,32 @@ pub fn find_bytes<S: Source>(
     ensures steady { S.failures src.old < u64.MAX → S.failures src.new ≡ S.failures src.old → IsOk result }
     ensures source { LeavesSource ⟦<S as Source>⟧ src.old src.new }
 {
-    if !lies_inside(start, bytes.len() as u64, x.len()) {
-        return Ok(None);
-    }
-    let place = if bytes.len() <= PIECE_LEN {
-        place_of_bytes::<ROOM_LEN, S>(x, start, bytes, src)?
-    } else {
-        place_of_bytes::<WINDOW_LEN, S>(x, start, bytes, src)?
-    };
+    find_bytes_in(x, start, x.len(), bytes, src)
+}
+
+/// As `find_bytes`, in the first `end` bytes of `x`.
+pub fn find_bytes_in<S: Source>(
+    x: &Cord,
+    start: u64,
+    end: u64,
+    bytes: &[u8],
+    src: &mut S,
+) -> Result<Option<u64>, CordError>
+    requires some { 0 < length bytes.now }
+    requires few { length bytes.now ≤ MOST_BYTES }
+    requires fits { CordFitsIn (S.lengths src.old) x.now }
+    ensures first { (file_system : FileSystem) → S.consistent src.new file_system → IfOk result (λ place.
+        place ≡ first (take end (bytes_of (S.table src.old file_system) x.now)) start bytes.now) }
+    ensures from { IfOk result (λ found. IfSome found (λ place. start ≤ place)) }
+    ensures before { IfOk result (λ found. IfSome found (λ place. place + length bytes.now ≤ end)) }
+    ensures within { IfOk result (λ found. IfSome found (λ place. place + length bytes.now ≤ text_len x.now)) }
+    ensures refused { IfErr result (λ e. e ≡ CordError.ReadFailed) }
+    ensures count { S.failures src.new ≡ count_after (is_err result) (S.failures src.old) }
+    ensures steady { S.failures src.old < u64.MAX → S.failures src.new ≡ S.failures src.old → IsOk result }
+    ensures source { LeavesSource ⟦<S as Source>⟧ src.old src.new }
+{
+    let end = end.min(x.len());
+    let place = first_place_of_bytes(x, start, end, bytes, src)?;
     Ok(place)
 }
 
@@ -118,40 +163,68 @@ fn lies_inside(start: u64, count: u64, len: u64) -> bool
     start <= len && count <= len - start
 }
 
-// The first place of a text that isn't empty in another, from a place on.
-fn first_place<S: Source>(
+// The first place of a text that isn't empty in the first `end` bytes of another, from a place on.
+pub(crate) fn first_place<S: Source>(
     x: &Cord,
     start: u64,
+    end: u64,
     s: &Cord,
     src: &mut S,
 ) -> Result<Option<u64>, ReadFault>
     requires sound { IsCord x.now }
     requires pattern_sound { IsCord s.now }
     requires some { 0 < text_len s.now }
-    requires inside { start + text_len s.now ≤ text_len x.now }
+    requires inside { start + text_len s.now ≤ end }
+    requires end { end ≤ text_len x.now }
     requires fits { CordFitsIn (S.lengths src.old) x.now }
     requires pattern_fits { CordFitsIn (S.lengths src.old) s.now }
-    ensures first { FindsText ⟦<S as Source>⟧ src.old src.new x.now start s.now result }
+    ensures first { FindsText ⟦<S as Source>⟧ src.old src.new x.now start end s.now result }
     ensures from { IfOk result (λ found. IfSome found (λ place. start ≤ place)) }
-    ensures within { IfOk result (λ found. IfSome found (λ place. place + text_len s.now ≤ text_len x.now)) }
+    ensures within { IfOk result (λ found. IfSome found (λ place. place + text_len s.now ≤ end)) }
     ensures read { HasRead ⟦<S as Source>⟧ src.old src.new result }
 {
     let len = s.len();
     if len <= PIECE_LEN as u64 {
-        place_of_short::<PIECE_LEN, ROOM_LEN, S>(x, start, s, src)
+        place_of_short::<PIECE_LEN, ROOM_LEN, S>(x, start, end, s, src)
     } else if len <= PREFIX_LEN as u64 {
-        place_of_short::<PREFIX_LEN, WINDOW_LEN, S>(x, start, s, src)
+        place_of_short::<PREFIX_LEN, WINDOW_LEN, S>(x, start, end, s, src)
     } else {
-        place_of_long(x, start, s, src)
+        place_of_long(x, start, end, s, src)
     }
 }
 
-// The same where the text that is looked for has at most `N` bytes. It stands apart, so that only who calls it has
+// The first place of some bytes in the first `end` bytes of a text, from a place on.
+fn first_place_of_bytes<S: Source>(
+    x: &Cord,
+    start: u64,
+    end: u64,
+    bytes: &[u8],
+    src: &mut S,
+) -> Result<Option<u64>, ReadFault>
+    requires sound { IsCord x.now }
+    requires some { 0 < length bytes.now }
+    requires few { length bytes.now ≤ MOST_BYTES }
+    requires end { end ≤ text_len x.now }
+    requires fits { CordFitsIn (S.lengths src.old) x.now }
+    ensures first { FindsBytesIn ⟦<S as Source>⟧ src.old src.new x.now start end bytes.now result }
+    ensures from { IfOk result (λ found. IfSome found (λ place. start ≤ place)) }
+    ensures within { IfOk result (λ found. IfSome found (λ place. place + length bytes.now ≤ end)) }
+    ensures read { HasRead ⟦<S as Source>⟧ src.old src.new result }
+{
+    if bytes.len() <= PIECE_LEN {
+        place_of_bytes::<ROOM_LEN, S>(x, start, end, bytes, src)
+    } else {
+        place_of_bytes::<WINDOW_LEN, S>(x, start, end, bytes, src)
+    }
+}
+
+// The first place of a text where it has at most `N` bytes. It stands apart, so that only who calls it has
 // room for them and for windows of `M` bytes on the stack.
 #[inline(never)]
 fn place_of_short<const N: usize, const M: usize, S: Source>(
     x: &Cord,
     start: u64,
+    end: u64,
     s: &Cord,
     src: &mut S,
 ) -> Result<Option<u64>, ReadFault>
@@ -161,11 +234,12 @@ fn place_of_short<const N: usize, const M: usize, S: Source>(
     requires short { text_len s.now ≤ N }
     requires room { N ≤ M }
     requires few { M ≤ WINDOW_LEN }
+    requires end { end ≤ text_len x.now }
     requires fits { CordFitsIn (S.lengths src.old) x.now }
     requires pattern_fits { CordFitsIn (S.lengths src.old) s.now }
-    ensures first { FindsText ⟦<S as Source>⟧ src.old src.new x.now start s.now result }
+    ensures first { FindsText ⟦<S as Source>⟧ src.old src.new x.now start end s.now result }
     ensures from { IfOk result (λ found. IfSome found (λ place. start ≤ place)) }
-    ensures within { IfOk result (λ found. IfSome found (λ place. place + text_len s.now ≤ text_len x.now)) }
+    ensures within { IfOk result (λ found. IfSome found (λ place. place + text_len s.now ≤ end)) }
     ensures read { HasRead ⟦<S as Source>⟧ src.old src.new result }
 {
     let mut prefix = [0; N];
@@ -173,15 +247,16 @@ fn place_of_short<const N: usize, const M: usize, S: Source>(
     gather(s, 0, pattern, src)?;
     let finder = Finder::new(pattern);
     let mut room = [0; M];
-    let place = first_of(x, start, &finder, &mut room, src)?;
+    let place = first_of(x, start, end, &finder, &mut room, src)?;
     Ok(place)
 }
 
-// The first place of some bytes, which stands apart for the same reason.
+// That of some bytes, which stands apart for the same reason.
 #[inline(never)]
 fn place_of_bytes<const M: usize, S: Source>(
     x: &Cord,
     start: u64,
+    end: u64,
     bytes: &[u8],
     src: &mut S,
 ) -> Result<Option<u64>, ReadFault>
@@ -189,15 +264,16 @@ fn place_of_bytes<const M: usize, S: Source>(
     requires some { 0 < length bytes.now }
     requires room { length bytes.now ≤ M }
     requires few { M ≤ WINDOW_LEN }
+    requires end { end ≤ text_len x.now }
     requires fits { CordFitsIn (S.lengths src.old) x.now }
-    ensures first { FindsBytes ⟦<S as Source>⟧ src.old src.new x.now start bytes.now result }
+    ensures first { FindsBytesIn ⟦<S as Source>⟧ src.old src.new x.now start end bytes.now result }
     ensures from { IfOk result (λ found. IfSome found (λ place. start ≤ place)) }
-    ensures within { IfOk result (λ found. IfSome found (λ place. place + length bytes.now ≤ text_len x.now)) }
+    ensures within { IfOk result (λ found. IfSome found (λ place. place + length bytes.now ≤ end)) }
     ensures read { HasRead ⟦<S as Source>⟧ src.old src.new result }
 {
     let finder = Finder::new(bytes);
     let mut room = [0; M];
-    let place = first_of(x, start, &finder, &mut room, src)?;
+    let place = first_of(x, start, end, &finder, &mut room, src)?;
     Ok(place)
 }
 
@@ -206,18 +282,20 @@ fn place_of_bytes<const M: usize, S: Source>(
 fn place_of_long<S: Source>(
     x: &Cord,
     start: u64,
+    end: u64,
     s: &Cord,
     src: &mut S,
 ) -> Result<Option<u64>, ReadFault>
     requires sound { IsCord x.now }
     requires pattern_sound { IsCord s.now }
     requires long { PREFIX_LEN ≤ text_len s.now }
-    requires inside { start + text_len s.now ≤ text_len x.now }
+    requires inside { start + text_len s.now ≤ end }
+    requires end { end ≤ text_len x.now }
     requires fits { CordFitsIn (S.lengths src.old) x.now }
     requires pattern_fits { CordFitsIn (S.lengths src.old) s.now }
-    ensures first { FindsText ⟦<S as Source>⟧ src.old src.new x.now start s.now result }
+    ensures first { FindsText ⟦<S as Source>⟧ src.old src.new x.now start end s.now result }
     ensures from { IfOk result (λ found. IfSome found (λ place. start ≤ place)) }
-    ensures within { IfOk result (λ found. IfSome found (λ place. place + text_len s.now ≤ text_len x.now)) }
+    ensures within { IfOk result (λ found. IfSome found (λ place. place + text_len s.now ≤ end)) }
     ensures read { HasRead ⟦<S as Source>⟧ src.old src.new result }
 {
     let mut prefix = [0; PREFIX_LEN];
@@ -225,7 +303,7 @@ fn place_of_long<S: Source>(
     let repeats = repeats_of(s, &prefix, src)?;
     let finder = Finder::new(&prefix);
     let mut room = [0; WINDOW_LEN];
-    let place = first_confirmed(x, start, s, &finder, repeats, &mut room, src)?;
+    let place = first_confirmed(x, start, end, s, &finder, repeats, &mut room, src)?;
     Ok(place)
 }
 
@@ -234,6 +312,7 @@ fn place_of_long<S: Source>(
 fn first_confirmed<S: Source>(
     x: &Cord,
     start: u64,
+    end: u64,
     s: &Cord,
     prefix: &Finder,
     repeats: Option<Repeats>,
@@ -242,7 +321,8 @@ fn first_confirmed<S: Source>(
 ) -> Result<Option<u64>, ReadFault>
     requires sound { IsCord x.now }
     requires pattern_sound { IsCord s.now }
-    requires inside { start + text_len s.now ≤ text_len x.now }
+    requires inside { start + text_len s.now ≤ end }
+    requires end { end ≤ text_len x.now }
     requires some { 0 < length prefix.now }
     requires room { length prefix.now ≤ length room.old }
     requires prefix { (file_system : FileSystem) → S.consistent src.old file_system → IsPieceOf
@@ -252,15 +332,15 @@ fn first_confirmed<S: Source>(
         IfSome repeats (HasPeriods (S.table src.old file_system) s.now) }
     requires fits { CordFitsIn (S.lengths src.old) x.now }
     requires pattern_fits { CordFitsIn (S.lengths src.old) s.now }
-    ensures first { FindsText ⟦<S as Source>⟧ src.old src.new x.now start s.now result }
+    ensures first { FindsText ⟦<S as Source>⟧ src.old src.new x.now start end s.now result }
     ensures from { IfOk result (λ found. IfSome found (λ place. start ≤ place)) }
-    ensures within { IfOk result (λ found. IfSome found (λ place. place + text_len s.now ≤ text_len x.now)) }
+    ensures within { IfOk result (λ found. IfSome found (λ place. place + text_len s.now ≤ end)) }
     ensures read { HasRead ⟦<S as Source>⟧ src.old src.new result }
 {
-    let last = x.len() - s.len();
+    let last = end - s.len();
     let mut place = start;
     while place <= last {
-        let Some(found) = first_of(x, place, prefix, room, src)? else {
+        let Some(found) = first_of(x, place, end, prefix, room, src)? else {
             return Ok(None);
         };
         if last < found {
@@ -275,10 +355,12 @@ fn first_confirmed<S: Source>(
     Ok(None)
 }
 
-// The first place of some bytes in a text, from a place on: in what is left of the leaf that holds it, or after that.
+// The first place of some bytes in the first `end` bytes of a text, from a place on: in what is left of the leaf that
+// holds it, or after that.
 fn first_of<S: Source>(
     x: &Cord,
     start: u64,
+    end: u64,
     finder: &Finder,
     room: &mut [u8],
     src: &mut S,
@@ -286,27 +368,30 @@ fn first_of<S: Source>(
     requires sound { IsCord x.now }
     requires some { 0 < length finder.now }
     requires room { length finder.now ≤ length room.old }
+    requires end { end ≤ text_len x.now }
     requires fits { CordFitsIn (S.lengths src.old) x.now }
-    ensures first { FindsBytes ⟦<S as Source>⟧ src.old src.new x.now start finder.now result }
+    ensures first { FindsBytesIn ⟦<S as Source>⟧ src.old src.new x.now start end finder.now result }
     ensures from { IfOk result (λ found. IfSome found (λ place. start ≤ place)) }
-    ensures within { IfOk result (λ found. IfSome found (λ place. place + length finder.now ≤ text_len x.now)) }
+    ensures within { IfOk result (λ found. IfSome found (λ place. place + length finder.now ≤ end)) }
     ensures read { HasRead ⟦<S as Source>⟧ src.old src.new result }
 {
     let head = finder.needle();
-    if !lies_inside(start, head.len() as u64, x.len()) {
+    if !lies_inside(start, head.len() as u64, end) {
         return Ok(None);
     }
     let Span::Bytes(leaf) = cord_span_at(x, start) else {
-        return first_behind(x, start, start, finder, room, src);
+        return first_behind(x, start, end, start, finder, room, src);
     };
     if leaf.len() < head.len() {
-        return first_behind(x, start, start, finder, room, src);
+        return first_behind(x, start, end, start, finder, room, src);
     }
-    match finder.find(leaf) {
+    let most = leaf.len().min((end - start) as usize);
+    let front = &leaf[..most];
+    match finder.find(front) {
         Some(found) => Ok(Some(start + found as u64)),
         None => {
-            let after = start + (leaf.len() - head.len() + 1) as u64;
-            first_behind(x, start, after, finder, room, src)
+            let after = start + (front.len() - head.len() + 1) as u64;
+            first_behind(x, start, end, after, finder, room, src)
         }
     }
 }
@@ -318,6 +403,7 @@ fn first_of<S: Source>(
 fn first_behind<S: Source>(
     x: &Cord,
     start: u64,
+    end: u64,
     after: u64,
     finder: &Finder,
     room: &mut [u8],
@@ -327,25 +413,26 @@ fn first_behind<S: Source>(
     requires room { length finder.now ≤ length room.old }
     requires low { start ≤ after }
     requires inside { start < text_len x.now }
+    requires end { end ≤ text_len x.now }
     requires none { (file_system : FileSystem) → S.consistent src.old file_system →
         StandsNot (S.table src.old file_system) x.now finder.now start after }
     requires fits { CordFitsIn (S.lengths src.old) x.now }
-    ensures first { FindsBytes ⟦<S as Source>⟧ src.old src.new x.now start finder.now result }
+    ensures first { FindsBytesIn ⟦<S as Source>⟧ src.old src.new x.now start end finder.now result }
     ensures from { IfOk result (λ found. IfSome found (λ place. start ≤ place)) }
-    ensures within { IfOk result (λ found. IfSome found (λ place. place + length finder.now ≤ text_len x.now)) }
+    ensures within { IfOk result (λ found. IfSome found (λ place. place + length finder.now ≤ end)) }
     ensures read { HasRead ⟦<S as Source>⟧ src.old src.new result }
 {
     let head = finder.needle();
     let mut place = after;
     let mut position = Position::set(x, start);
-    while lies_inside(place, head.len() as u64, x.len()) {
+    while lies_inside(place, head.len() as u64, end) {
         let span = span_from(&mut position, place);
         let skipped = misfits(span, head);
         if 0 < skipped {
             place += skipped;
             continue;
         }
-        let window = window_at(&mut position, place, span, head.len(), room, src)?;
+        let window = window_at(&mut position, place, end, span, head.len(), room, src)?;
         match finder.find(window) {
             Some(found) => return Ok(Some(place + found as u64)),
             None => place += (window.len() - head.len() + 1) as u64,

@@ -1,8 +1,9 @@
-use Rattle.std.proofs.Common.{◌≡◌, ℕ, ◌≤◌, ◌∙◌, ap, List, length, arith}
+use Rattle.std.proofs.Common.{◌≡◌, ℕ, ◌+◌, ◌≤◌, ◌∙◌, ap, List, length, arith, rules}
 use Rattle.cord_io.specs.Table.{HasLengths}
-use Rattle.cord_search.proofs.Ranges.{cord_len}
+use Rattle.cord_core.specs.Cord.{bytes_of}
 use Rattle.cord_search.specs.inner.Pieces.{IsPieceOf}
-use Rattle.cord_search.proofs.Standing.{misfit_on, window_none, window_some, stands_none}
+use Rattle.cord_search.proofs.Standing.{misfit_on, window_none, window_some}
+use Rattle.cord_search.proofs.Cuts.{first_within, none_within}
 use Rattle.cord_search.proofs.substring.first_behind.Goals as goal
 
 pub loop-head-preserved-then-skipped-gt0 : goal.loop-head-preserved-then-skipped-gt0
@@ -56,15 +57,12 @@ returns-in-Some-clause-first g c = λ file_system kept.
     let text : IsPieceOf t c.args.x.now c.loop-head.place window =
     rw (c.loop-head.invariant.table, c.span_from-span.ensures.cord, c.loop-head.invariant.cord)
     at c.in_ok-window.ensures.text file_system kept in
-    window_some t c.args.x.now c.args.start c.loop-head.place c.in-Some.found window head c.find.result c.in-Some.is c.requires.some
-    c.find.ensures c.loop-head.invariant.low text (c.loop-head.invariant.none file_system before)
+    first_within (bytes_of t c.args.x.now) head c.args.end c.args.start (c.loop-head.place + c.in-Some.found) (search rules)
+    (window_some t c.args.x.now c.args.start c.loop-head.place c.in-Some.found window head c.find.result c.in-Some.is c.requires.some
+    c.find.ensures c.loop-head.invariant.low text (c.loop-head.invariant.none file_system before))
 
 pub returns-clause-first : goal.returns-clause-first
 returns-clause-first g c = λ file_system kept.
-    let t = g.S.Source.table c.args.src.now file_system in
-    let lengths = g.S.Source.lengths c.args.src.now in
-    let reported = g.met.S.Source.lengths_of_table c.args.src.now file_system (c.loop-head.invariant.earlier file_system kept) in
     let long : length c.needle-head.result.now ≡ length c.args.finder.now = ap (λ (ys : List ℕ). length ys) c.needle-head.ensures in
-    stands_none t c.args.x.now c.args.finder.now c.args.start c.loop-head.place
-    (omega (arith, c.lies_inside.ensures.outside c.loop-head-test.false, c.len.ensures.stored, long))
-    (cord_len lengths t c.args.x.now reported c.set-position.ensures.sound c.requires.fits) (c.loop-head.invariant.none file_system kept)
+    none_within (g.S.Source.table c.args.src.now file_system) c.args.x.now c.args.finder.now c.args.start c.loop-head.place c.args.end
+    (omega (arith, c.lies_inside.ensures.outside c.loop-head-test.false, long)) (c.loop-head.invariant.none file_system kept)

@@ -1,4 +1,4 @@
-use Rattle.std.proofs.Common.{◌≡◌, ◌+◌, ◌∙◌, Some, None, sym, subst, true, false, arith, rules}
+use Rattle.std.proofs.Common.{◌≡◌, ◌+◌, ◌∙◌, take, Some, None, sym, subst, true, false, arith, rules}
 use Rattle.std.specs.Prelude.{IfSome}
 use Rattle.cord_io.specs.Device.{FileSystem}
 use Rattle.cord_io.specs.Table.{Table}
@@ -7,7 +7,8 @@ use Rattle.cord_core.specs.Texts.{first}
 use Rattle.cord_search.proofs.Ranges.{cord_len}
 use Rattle.cord_search.specs.inner.Pieces.{IsPieceOf, IsStanding, StandsNot}
 use Rattle.cord_search.specs.inner.Periods.{HasPeriods}
-use Rattle.cord_search.proofs.Standing.{prefix_on, prefix_none, stands_on, stands_first, stands_none}
+use Rattle.cord_search.proofs.Standing.{prefix_on, stands_on, stands_first}
+use Rattle.cord_search.proofs.Cuts.{first_within, first_whole, none_within, prefix_none}
 use Rattle.cord_search.proofs.Repeating.{passed_on}
 use Rattle.cord_search.proofs.substring.first_confirmed.Goals as goal
 
@@ -30,7 +31,8 @@ loop-place-preserved g c = record {
       let prefix : IsPieceOf t c.args.s.now 0 c.args.prefix.now = c.requires.prefix file_system
       (c.loop-place.invariant.earlier file_system before) in
       let hit : Some c.in-Some.found ≡ first (bytes_of t c.args.x.now) c.loop-place.place c.args.prefix.now =
-      sym c.in-Some.is ∙ (rw c.loop-place.invariant.table at c.in_ok-found.ensures.first file_system after) in
+      first_whole (bytes_of t c.args.x.now) c.args.prefix.now c.args.end c.loop-place.place c.in-Some.found
+      (sym c.in-Some.is ∙ (rw c.loop-place.invariant.table at c.in_ok-found.ensures.first file_system after)) in
       let none = prefix_on t c.args.x.now c.args.s.now c.args.start c.loop-place.place c.in-Some.found c.args.prefix.now hit prefix
       (c.loop-place.invariant.none file_system before) in
       let here : IsStanding t c.args.x.now c.in-Some.found c.args.s.now false =
@@ -57,10 +59,10 @@ returns-in_default-clause-first g c = λ file_system kept.
     let before = c.in_ok-found.ensures.read.earlier file_system kept in
     let prefix : IsPieceOf t c.args.s.now 0 c.args.prefix.now = c.requires.prefix file_system
     (c.loop-place.invariant.earlier file_system before) in
-    let hit : None ≡ first (bytes_of t c.args.x.now) c.loop-place.place c.args.prefix.now =
-    ◌∙◌ {c = first (bytes_of t c.args.x.now) c.loop-place.place c.args.prefix.now} (sym c.in_default.is)
+    let hit : None ≡ first (take c.args.end (bytes_of t c.args.x.now)) c.loop-place.place c.args.prefix.now =
+    ◌∙◌ {c = first (take c.args.end (bytes_of t c.args.x.now)) c.loop-place.place c.args.prefix.now} (sym c.in_default.is)
     (rw c.loop-place.invariant.table at c.in_ok-found.ensures.first file_system kept) in
-    prefix_none t c.args.x.now c.args.s.now c.args.start c.loop-place.place c.args.prefix.now hit prefix
+    prefix_none t c.args.x.now c.args.s.now c.args.start c.loop-place.place c.args.end c.args.prefix.now hit prefix
     (c.loop-place.invariant.none file_system before)
 
 pub returns-then-last-found-clause-first : goal.returns-then-last-found-clause-first
@@ -71,14 +73,14 @@ returns-then-last-found-clause-first g c = λ file_system kept.
     let first_kept = c.loop-place.invariant.earlier file_system before in
     let reported = g.met.S.Source.lengths_of_table c.args.src.now file_system first_kept in
     let hit : Some c.in-Some.found ≡ first (bytes_of t c.args.x.now) c.loop-place.place c.args.prefix.now =
-    ◌∙◌ {c = first (bytes_of t c.args.x.now) c.loop-place.place c.args.prefix.now} (sym c.in-Some.is)
-    (rw c.loop-place.invariant.table at c.in_ok-found.ensures.first file_system kept) in
+    first_whole (bytes_of t c.args.x.now) c.args.prefix.now c.args.end c.loop-place.place c.in-Some.found
+    (◌∙◌ {c = first (take c.args.end (bytes_of t c.args.x.now)) c.loop-place.place c.args.prefix.now} (sym c.in-Some.is)
+    (rw c.loop-place.invariant.table at c.in_ok-found.ensures.first file_system kept)) in
     let none = prefix_on t c.args.x.now c.args.s.now c.args.start c.loop-place.place c.in-Some.found c.args.prefix.now hit
     (c.requires.prefix file_system first_kept) (c.loop-place.invariant.none file_system before) in
     let len = cord_len lengths t c.args.s.now reported c.requires.pattern_sound c.requires.pattern_fits in
-    stands_none t c.args.x.now (bytes_of t c.args.s.now) c.args.start c.in-Some.found
-    (omega (arith, len, c.if-last-found.true, c.len.ensures.stored, c.len-2.ensures.stored))
-    (cord_len lengths t c.args.x.now reported c.requires.sound c.requires.fits) none
+    none_within t c.args.x.now (bytes_of t c.args.s.now) c.args.start c.in-Some.found c.args.end
+    (omega (arith, len, c.if-last-found.true, c.len.ensures.stored)) none
 
 pub returns-then-branch-clause-first : goal.returns-then-branch-clause-first
 returns-then-branch-clause-first g c = λ file_system kept.
@@ -87,14 +89,21 @@ returns-then-branch-clause-first g c = λ file_system kept.
     let before = c.in_ok-found.ensures.read.earlier file_system after in
     let prefix : IsPieceOf t c.args.s.now 0 c.args.prefix.now = c.requires.prefix file_system
     (c.loop-place.invariant.earlier file_system before) in
+    let lengths = g.S.Source.lengths c.args.src.now in
+    let first_kept = c.loop-place.invariant.earlier file_system before in
+    let reported = g.met.S.Source.lengths_of_table c.args.src.now file_system first_kept in
+    let len = cord_len lengths t c.args.s.now reported c.requires.pattern_sound c.requires.pattern_fits in
     let hit : Some c.in-Some.found ≡ first (bytes_of t c.args.x.now) c.loop-place.place c.args.prefix.now =
-    sym c.in-Some.is ∙ (rw c.loop-place.invariant.table at c.in_ok-found.ensures.first file_system after) in
+    first_whole (bytes_of t c.args.x.now) c.args.prefix.now c.args.end c.loop-place.place c.in-Some.found
+    (sym c.in-Some.is ∙ (rw c.loop-place.invariant.table at c.in_ok-found.ensures.first file_system after)) in
     let none = prefix_on t c.args.x.now c.args.s.now c.args.start c.loop-place.place c.in-Some.found c.args.prefix.now hit prefix
     (c.loop-place.invariant.none file_system before) in
     let here : IsStanding t c.args.x.now c.in-Some.found c.args.s.now true =
     rw (c.first_of.ensures.read.table, c.loop-place.invariant.table, c.if-branch.true)
     at c.in_ok-stands_at.ensures.stands file_system kept in
-    stands_first t c.args.x.now c.args.s.now c.args.start c.in-Some.found (search rules) here none
+    first_within (bytes_of t c.args.x.now) (bytes_of t c.args.s.now) c.args.end c.args.start c.in-Some.found
+    (omega (arith, len, c.if-last-found.false, c.len.ensures.stored, c.requires.inside))
+    (stands_first t c.args.x.now c.args.s.now c.args.start c.in-Some.found (search rules) here none)
 
 pub returns-clause-first : goal.returns-clause-first
 returns-clause-first g c = λ file_system kept.
@@ -102,6 +111,5 @@ returns-clause-first g c = λ file_system kept.
     let lengths = g.S.Source.lengths c.args.src.now in
     let reported = g.met.S.Source.lengths_of_table c.args.src.now file_system (c.loop-place.invariant.earlier file_system kept) in
     let len = cord_len lengths t c.args.s.now reported c.requires.pattern_sound c.requires.pattern_fits in
-    stands_none t c.args.x.now (bytes_of t c.args.s.now) c.args.start c.loop-place.place
-    (omega (arith, len, c.loop-place-test.false, c.len.ensures.stored, c.len-2.ensures.stored))
-    (cord_len lengths t c.args.x.now reported c.requires.sound c.requires.fits) (c.loop-place.invariant.none file_system kept)
+    none_within t c.args.x.now (bytes_of t c.args.s.now) c.args.start c.loop-place.place c.args.end
+    (omega (arith, len, c.loop-place-test.false, c.len.ensures.stored)) (c.loop-place.invariant.none file_system kept)

@@ -1,4 +1,4 @@
-use Rattle.std.proofs.Common.{◌≡◌, ◌∙◌, ℕ, List, length, ap, arith}
+use Rattle.std.proofs.Common.{◌≡◌, ◌∙◌, ℕ, List, length, take, ap, arith}
 use Rattle.std.specs.Prelude.{replicate}
 use Rattle.std.proofs.lemmas.List.{length-take-le, length-replicate}
 use Rattle.cord_core.specs.Cord.{text_len, bytes_of}
@@ -22,4 +22,4 @@ returns-clause-first g c = λ file_system kept.
     let cut = length-take-le c.len.result (replicate g.row.N zero) (omega (arith, room, c.requires.short, c.len.ensures.stored)) in
     let long : length pattern ≡ text_len c.args.s.now = c.gather.auto.out ∙ cut ∙ c.len.ensures.stored in
     let found = rw (c.gather.ensures.read.table, c.new-finder.ensures) at c.in_ok-place.ensures.first file_system kept in
-    found ∙ ap (λ (xs : List ℕ). first (bytes_of t c.args.x.now) c.args.start xs) (whole_text t c.args.s.now pattern text long len)
+    found ∙ ap (λ (xs : List ℕ). first (take c.args.end (bytes_of t c.args.x.now)) c.args.start xs) (whole_text t c.args.s.now pattern text long len)

@@ -1,0 +1,107 @@
+-- Places of a text in the first bytes of another.
+use Rattle.std.proofs.Common.{◌≡◌, ℕ, ◌+◌, ◌-◌, ◌<◌, ◌≤◌, List, ◌++◌, length, take, drop, None, Some, sym, ◌∙◌, ap, subst, arith, ⊎_elim}
+use Rattle.std.proofs.Common.{append_assoc}
+use Rattle.std.specs.Prelude.{Option, Result, IfOk, IfSome, min}
+use Rattle.std.proofs.lemmas.Bool.{cases_lt}
+use Rattle.std.proofs.lemmas.List.{length-take, take-append-drop, drop-take, drop-append-le, take_all, take_min}
+use Rattle.cord_io.specs.Table.{Table}
+use Rattle.cord_node.specs.declared.Node.{Node}
+use Rattle.cord_node.proofs.Ranges.{take-append_right}
+use Rattle.cord_core.specs.Cord.{text_len, bytes_of}
+use Rattle.cord_core.specs.Texts.{StandsAt, first, IsFirst}
+use Rattle.cord_core.proofs.Searches.{first_is_least}
+use Rattle.cord_search.specs.inner.Pieces.{IsPieceOf, StandsNot}
+use Rattle.cord_search.proofs.Finding.{first_only}
+use Rattle.cord_search.proofs.Standing.{stands_inside, prefix_stands}
+
+-- as many bytes as there are
+pub take_limit : (t : Table) (x : Option Node) (end n e : ℕ) → length (bytes_of t x) ≡ text_len x → n ≡ text_len x → e ≡ min end n →
+    take e (bytes_of t x) ≡ take end (bytes_of t x)
+take_limit t x end n e len is h = rw (h, is, ← len) (take_min end (bytes_of t x))
+
+module _ (xs s : List ℕ) (e : ℕ) where
+  -- what stands in the first bytes stands in all
+  pub stands_whole : (q : ℕ) → StandsAt (take e xs) s q → StandsAt xs s q
+  stands_whole q at = record {
+    within = omega (arith, at.within, length-take e xs);
+    rest = at.rest ++ drop e xs;
+    here = ap (λ (ys : List ℕ). drop q ys) (sym (take-append-drop e xs)) ∙ drop-append-le q (take e xs) (drop e xs) at.within
+        ∙ ap (λ (ys : List ℕ). ys ++ drop e xs) at.here ∙ append_assoc s at.rest (drop e xs);
+  }
+
+  -- and ends in them
+  pub stands_before : (q : ℕ) → StandsAt (take e xs) s q → q + length s ≤ e
+  stands_before q at = omega (arith, stands_inside (take e xs) s q at, length-take e xs)
+
+  -- what ends in the first bytes stands there
+  pub stands_cut : (q : ℕ) → q + length s ≤ e → StandsAt xs s q → StandsAt (take e xs) s q
+  stands_cut q fits at =
+      let whole : e ≡ q + (e - q) = omega (arith, fits) in
+      record {
+        within = omega (arith, fits, at.within, length-take e xs);
+        rest = take (e - q - length s) at.rest;
+        here = ap (λ (n : ℕ). drop q (take n xs)) whole ∙ drop-take q (e - q) xs ∙ ap (λ (ys : List ℕ). take (e - q) ys) at.here
+            ∙ take-append_right s at.rest (e - q) (omega (arith, fits));
+      }
+
+  module _ (i : ℕ) where
+    -- the first place in all is that in the first bytes, if the text ends there
+    pub first_within : (q : ℕ) → q + length s ≤ e → Some q ≡ first xs i s → Some q ≡ first (take e xs) i s
+    first_within q fits is =
+        let least : IsFirst xs i s (Some q) = subst (λ (r : Option ℕ). IsFirst xs i s r) (sym is) (first_is_least xs s i) in
+        first_only (take e xs) s i (Some q)
+        (least.0, stands_cut q fits least.1, λ k low to at. least.2 k low to (stands_whole k at))
+
+    -- and the other way round
+    pub first_whole : (q : ℕ) → Some q ≡ first (take e xs) i s → Some q ≡ first xs i s
+    first_whole q is =
+        let least : IsFirst (take e xs) i s (Some q) =
+        subst (λ (r : Option ℕ). IsFirst (take e xs) i s r) (sym is) (first_is_least (take e xs) s i) in
+        first_only xs s i (Some q) (
+          least.0,
+          stands_whole q least.1,
+          λ k low to at. least.2 k low to (stands_cut k (omega (arith, to, stands_before q least.1)) at),
+        )
+
+    -- it stands there
+    pub first_stands : (q : ℕ) → Some q ≡ first (take e xs) i s → (i ≤ q) × (q + length s ≤ e) × StandsAt xs s q
+    first_stands q is =
+        let least : IsFirst (take e xs) i s (Some q) =
+        subst (λ (r : Option ℕ). IsFirst (take e xs) i s r) (sym is) (first_is_least (take e xs) s i) in
+        (least.0, stands_before q least.1, stands_whole q least.1)
+
+    -- nothing is found where the text stands nowhere
+    pub first_nowhere : None ≡ first (take e xs) i s → (q : ℕ) → i ≤ q → q + length s ≤ e → StandsAt xs s q → ⊥
+    first_nowhere is q low fits at =
+        let least : IsFirst (take e xs) i s None =
+        subst (λ (r : Option ℕ). IsFirst (take e xs) i s r) (sym is) (first_is_least (take e xs) s i) in
+        least q low (stands_cut q fits at)
+
+-- the first bytes, where they are all
+pub whole_found : {E : Type 0} (xs s : List ℕ) (i n : ℕ) (r : Result (Option ℕ) E) → length xs ≤ n →
+    IfOk r (λ place. place ≡ first (take n xs) i s) → IfOk r (λ place. place ≡ first xs i s)
+whole_found xs s i n r all h = subst (λ (ys : List ℕ). IfOk r (λ place. place ≡ first ys i s)) (take_all n xs all) h
+
+-- no place is left
+pub none_within : (t : Table) (x : Option Node) (s : List ℕ) (start place e : ℕ) → e < place + length s → StandsNot t x s start place →
+    None ≡ first (take e (bytes_of t x)) start s
+none_within t x s start place e past none =
+    let xs = bytes_of t x in
+    first_only (take e xs) s start None
+    (λ k low at. none k low (omega (arith, past, stands_before xs s e k at)) (stands_whole xs s e k at))
+
+-- a text stands nowhere where its front doesn't
+pub prefix_none : (t : Table) (x s : Option Node) (start place e : ℕ) (head : List ℕ) → None ≡ first (take e (bytes_of t x)) place head →
+    IsPieceOf t s 0 head → StandsNot t x (bytes_of t s) start place → None ≡ first (take e (bytes_of t x)) start (bytes_of t s)
+prefix_none t x s start place e head is f none =
+    let xs = bytes_of t x in
+    let least : IsFirst (take e xs) place head None =
+    subst (λ (r : Option ℕ). IsFirst (take e xs) place head r) (sym is) (first_is_least (take e xs) head place) in
+    first_only (take e xs) (bytes_of t s) start None (λ k low at.
+    ⊎_elim (λ (lt : k < place). none k low lt (stands_whole xs (bytes_of t s) e k at))
+    (λ (le : place ≤ k). least k le (prefix_stands (take e xs) (bytes_of t s) head k f at)) (cases_lt k place))
+
+-- what ends before a place ends before a later one
+pub ends_within : (r : Option ℕ) (n a b : ℕ) → a ≤ b → IfSome r (λ place. place + n ≤ a) → IfSome r (λ place. place + n ≤ b)
+ends_within None n a b le h = tt
+ends_within (Some p) n a b le h = omega (arith, le, h)
