@@ -14,14 +14,15 @@ use cord_io::{ReadFault, Source};
 use cord_pos::{Position, Span};
 
 // At least `count` bytes of a position's cord from a place on, all before `end`, where this span begins: the rest of a
-// leaf where that is enough. Else they are copied, some times as many where there are, so that a search which goes on
-// after them copies no byte often. The position is moved on over the parts that are copied.
+// leaf where that is enough. Else they are copied, some times as many where there are and at least `least`, so that a
+// search which goes on after them copies no byte often. The position is moved on over the parts that are copied.
 pub(crate) fn window_at<'a, S: Source>(
     position: &mut Position,
     place: u64,
     end: u64,
     span: Span<'a>,
     count: usize,
+    least: usize,
     room: &'a mut [u8],
     src: &mut S,
 ) -> Result<&'a [u8], ReadFault>
@@ -47,7 +48,7 @@ pub(crate) fn window_at<'a, S: Source>(
             return Ok(&bytes[..most]);
         }
     }
-    let most = count.saturating_mul(4).max(PIECE_LEN).min(room.len());
+    let most = count.saturating_mul(4).max(least).min(room.len());
     let len = (most as u64).min(left);
     let window = &mut room[..len as usize];
     gather_by(position, place, window, src)?;

@@ -397,8 +397,9 @@ fn first_of<S: Source>(
 }
 
 // The same where they stand at no place before `after`. A leaf is searched where it lies, as far as it goes on for
-// their length, and else a window of some times that length: so it takes linear time, whatever the parts are. It
-// stands apart, so that a search which ends in its first leaf keeps no path.
+// their length, and else a window of some times that length: so it takes linear time, whatever the parts are. The first
+// window is small, since bytes are often found near. It stands apart, so that a search which ends in its first leaf
+// keeps no path.
 #[inline(never)]
 fn first_behind<S: Source>(
     x: &Cord,
@@ -425,6 +426,7 @@ fn first_behind<S: Source>(
     let head = finder.needle();
     let mut place = after;
     let mut position = Position::set(x, start);
+    let mut least = PIECE_LEN;
     while lies_inside(place, head.len() as u64, end) {
         let span = span_from(&mut position, place);
         let skipped = misfits(span, head);
@@ -432,11 +434,12 @@ fn first_behind<S: Source>(
             place += skipped;
             continue;
         }
-        let window = window_at(&mut position, place, end, span, head.len(), room, src)?;
+        let window = window_at(&mut position, place, end, span, head.len(), least, room, src)?;
         match finder.find(window) {
             Some(found) => return Ok(Some(place + found as u64)),
             None => place += (window.len() - head.len() + 1) as u64,
         }
+        least = ROOM_LEN;
     }
     Ok(None)
 }
