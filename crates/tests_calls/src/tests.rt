@@ -1,5 +1,6 @@
 //! What each call of the library answers, case by case.
 mod balance;
+mod calls;
 mod cases;
 mod cords;
 mod depths;

@@ -1,33 +1,142 @@
 // Cases of worked examples, and what sharing shows.
+use super::calls::{Call, Shape, after, answer_of, expect_shape, leaf_fields};
 use super::cases::expect_case;
-use super::trees::{
-    bytes_of, cord_of, expect_text, func_fields, is_one, joined, part_of, run_fields, run_of,
-};
+use super::made::{Part, Parts, made};
+use super::trees::{cord_of, func_fields, is_one, joined, part_of, run_of};
+use Call::{Balance, Cat, CatBytes, CatChar, CatTo, Catn, Share, Substr};
+use Part::{Leaf, Run};
+use Shape::{Nothing, Size, Text};
 use cord_core::{Cord, Node};
 use cord_io::{CordError, MAX_LEN, SourceId};
 use std::alloc::Global;
 use std::process::Abort;
 use std::rc::{Rc, RcSlice};
 
-// The bytes, the start and the length of a cord that is one leaf.
-fn leaf_fields(cord: &Cord) -> Option<(&[u8], u64, u64)> {
-    match cord.root()?.as_ref() {
-        Node::Leaf {
-            bytes,
-            start,
-            len,
-            ..
-        } => Some((bytes.as_slice(), *start, *len)),
-        _ => None,
+// A leaf and a run.
+const ABCC: Parts = &[Leaf(b"ab"), Run(99, 2)];
+
+const ABCCDEF: Parts = &[Leaf(b"ab"), Run(99, 2), Leaf(b"def")];
+
+// The calls that make of the first what the second is.
+const D_AND_EF: [Call; 2] = [CatChar(100), CatBytes(b"ef")];
+
+const LONGEST: Parts = &[Run(0, MAX_LEN)];
+
+// Parts, the calls that are made one after another, and what the last one makes.
+const MADE: &[(&str, Parts, &[Call], Shape)] = &[
+    ("cord_calls", ABCC, &[], Text(b"abcc")),
+    ("cord_calls", ABCC, &D_AND_EF, Text(b"abccdef")),
+    ("cord_calls", ABCCDEF, &[Substr(1, 3)], Text(b"bcc")),
+    ("cord_calls", ABCCDEF, &[Share], Text(b"abccdef")),
+    ("cord_calls", ABCCDEF, &[Balance], Text(b"abccdef")),
+    (
+        "cords_in_a_row",
+        ABCCDEF,
+        &[Balance, Catn(2)],
+        Text(b"abccdefabccdef"),
+    ),
+    (
+        "a_part_of_a_leaf_shares_it",
+        &[Leaf(&[7; 100])],
+        &[Substr(10, 80)],
+        Shape::Leaf(&[7; 100], 10, 80),
+    ),
+    (
+        "a_part_of_a_run_is_a_run",
+        LONGEST,
+        &[Substr(5, 1000)],
+        Shape::Run(0, 1000),
+    ),
+    (
+        "depth_fifty",
+        &[Leaf(&[1; 65])],
+        &[CatBytes(&[2; 65]); 50],
+        Size(3_315, 50),
+    ),
+    ("nothing_has_no_root", &[], &[], Nothing),
+    ("nothing_is_made_of_nothing", &[], &[Balance], Nothing),
+    ("nothing_is_made_of_nothing", ABCC, &[Catn(0)], Nothing),
+    ("nothing_is_made_of_nothing", ABCC, &[Substr(4, 1)], Nothing),
+    ("nothing_is_made_of_nothing", ABCC, &[Substr(0, 0)], Nothing),
+];
+
+#[test]
+fn cases_of_cords(rt: HostRuntime) {
+    for &(name, parts, calls, shape) in MADE {
+        let cord = after(&rt, rt.alloc(), made(&rt, rt.alloc(), parts), calls);
+        expect_shape(&rt, rt.alloc(), name, &cord, shape);
     }
 }
 
-fn share_of(rt: &impl Abort, alloc: Global, cord: &Cord) -> Cord {
-    cord.share(alloc).expect(rt, "no memory")
+// Calls that give the very cord that they were given.
+const SHARED: &[(&str, Parts, Call)] = &[
+    ("share", ABCCDEF, Share),
+    ("substr", ABCCDEF, Substr(0, 7)),
+    ("catn", ABCCDEF, Catn(1)),
+    ("cat", ABCCDEF, CatTo(&[])),
+    ("balance", &[Leaf(&[7; 100]), Run(0, 1000)], Balance),
+];
+
+// That a call gives the very cord that it was given.
+fn expect_one(rt: &impl Abort, call: &str, answer: &Cord, cord: &Cord) {
+    expect_case(rt, is_one(answer, cord), call, cord.len());
 }
 
-fn balanced(rt: &impl Abort, alloc: Global, cord: &Cord) -> Cord {
-    cord.balance(alloc).expect(rt, "no memory")
+fn expect_itself(rt: &impl Abort, alloc: Global, name: &str, parts: Parts, call: Call) {
+    let cord = made(rt, alloc, parts);
+    let answer = answer_of(rt, alloc, &cord, call).expect(rt, "no cord");
+    expect_one(rt, name, &answer, &cord);
+}
+
+#[test]
+fn whole_cords_are_shared(rt: HostRuntime) {
+    for &(name, parts, call) in SHARED {
+        expect_itself(&rt, rt.alloc(), name, parts, call);
+    }
+}
+
+// Calls of the longest run that would make more bytes than a cord has.
+const TOO_LONG: &[(&str, Call)] = &[
+    ("cat", Cat(&[Leaf(b"a")])),
+    ("cat_char", CatChar(97)),
+    ("cat_bytes", CatBytes(b"a")),
+];
+
+fn is_too_long(answer: Result<Cord, CordError>) -> bool {
+    answer.err() == Some(CordError::TooLong)
+}
+
+fn expect_too_long(rt: &impl Abort, alloc: Global, name: &str, call: Call) {
+    let longest = made(rt, alloc, LONGEST);
+    let refused = is_too_long(answer_of(rt, alloc, &longest, call));
+    expect_case(rt, refused, name, MAX_LEN);
+    expect_shape(rt, alloc, name, &longest, Shape::Run(0, MAX_LEN));
+}
+
+#[test]
+fn too_long_unchanged(rt: HostRuntime) {
+    for &(name, call) in TOO_LONG {
+        expect_too_long(&rt, rt.alloc(), name, call);
+    }
+}
+
+// That two cords are the longest run and "a".
+fn expect_both(rt: &impl Abort, alloc: Global, cords: &[Cord; 2]) {
+    expect_shape(rt, alloc, "first", &cords[0], Shape::Run(0, MAX_LEN));
+    expect_shape(rt, alloc, "second", &cords[1], Shape::Leaf(b"a", 0, 1));
+}
+
+#[test]
+fn too_many_bytes(rt: HostRuntime) {
+    let alloc = rt.alloc();
+    let refused = is_too_long(Cord::chars(alloc, 0, MAX_LEN + 1));
+    expect_case(&rt, refused, "chars", MAX_LEN);
+    let cords = [run_of(&rt, alloc, 0, MAX_LEN), cord_of(&rt, alloc, b"a")];
+    let refused = is_too_long(Cord::catn(alloc, &cords));
+    expect_case(&rt, refused, "catn", MAX_LEN);
+    let refused = is_too_long(Cord::cat(alloc, &cords[0], &cords[1]));
+    expect_case(&rt, refused, "cat", MAX_LEN);
+    expect_both(&rt, alloc, &cords);
 }
 
 // A cord of a shared slice.
@@ -36,152 +145,31 @@ fn shared_cord(rt: &impl Abort, alloc: Global, bytes: &[u8]) -> Cord {
     Cord::from_shared(alloc, shared).expect(rt, "no memory")
 }
 
-fn longer_by(rt: &impl Abort, alloc: Global, cord: &Cord, bytes: &[u8]) -> Cord {
-    Cord::cat_bytes(alloc, cord, bytes).expect(rt, "no memory")
-}
-
-fn all_of(rt: &impl Abort, alloc: Global, cords: &[Cord]) -> Cord {
-    Cord::catn(alloc, cords).expect(rt, "no memory")
-}
-
-// A leaf, a run, a byte and bytes, one after the other.
-fn abccdef(rt: &impl Abort, alloc: Global) -> Cord {
-    let run = run_of(rt, alloc, 99, 2);
-    let cord = joined(rt, alloc, &cord_of(rt, alloc, b"ab"), &run);
-    expect_text(rt, alloc, &cord, b"abcc");
-    let cord = Cord::cat_char(alloc, &cord, 100).expect(rt, "no memory");
-    longer_by(rt, alloc, &cord, b"ef")
-}
-
-#[test]
-fn cord_calls(rt: HostRuntime) {
-    let alloc = rt.alloc();
-    let cord = abccdef(&rt, alloc);
-    assert!(rt; cord.len() == 7);
-    expect_text(&rt, alloc, &cord, b"abccdef");
-    expect_text(&rt, alloc, &part_of(&rt, alloc, &cord, 1, 3), b"bcc");
-    expect_text(&rt, alloc, &share_of(&rt, alloc, &cord), b"abccdef");
-    expect_text(&rt, alloc, &balanced(&rt, alloc, &cord), b"abccdef");
-}
-
-#[test]
-fn cords_in_a_row(rt: HostRuntime) {
-    let alloc = rt.alloc();
-    let cord = abccdef(&rt, alloc);
-    let shared = share_of(&rt, alloc, &cord);
-    let twice = all_of(&rt, alloc, &[shared, balanced(&rt, alloc, &cord)]);
-    assert!(rt; twice.len() == 14);
-    expect_text(&rt, alloc, &twice, b"abccdefabccdef");
-}
-
-#[test]
-fn digits_of_a_function(rt: HostRuntime) {
-    let digits = Cord::from_fn(rt.alloc(), SourceId(0), 8, 3).expect(&rt, "no memory");
-    assert!(rt; func_fields(&digits) == Some((SourceId(0), 8, 3)));
-}
-
-#[test]
-fn a_part_of_a_leaf_shares_it(rt: HostRuntime) {
-    let alloc = rt.alloc();
-    let leaf = cord_of(&rt, alloc, &[7; 100]);
-    let part = part_of(&rt, alloc, &leaf, 10, 80);
-    assert!(rt; leaf_fields(&part) == Some((&[7; 100], 10, 80)));
-}
-
-#[test]
-fn a_part_of_a_run_is_a_run(rt: HostRuntime) {
-    let alloc = rt.alloc();
-    let run = run_of(&rt, alloc, 0, MAX_LEN);
-    let part = part_of(&rt, alloc, &run, 5, 1000);
-    assert!(rt; run_fields(&part) == Some((0, 1000)));
-}
-
-// That a call is refused, since the text would be too long.
-fn expect_too_long(rt: &impl Abort, call: &str, answer: Result<Cord, CordError>) {
-    expect_case(rt, answer.err() == Some(CordError::TooLong), call, MAX_LEN);
-}
-
-#[test]
-fn too_long_unchanged(rt: HostRuntime) {
-    let alloc = rt.alloc();
-    let longest = run_of(&rt, alloc, 0, MAX_LEN);
-    let a = cord_of(&rt, alloc, b"a");
-    expect_too_long(&rt, "cat", Cord::cat(alloc, &longest, &a));
-    expect_too_long(&rt, "cat_char", Cord::cat_char(alloc, &longest, 97));
-    expect_too_long(&rt, "cat_bytes", Cord::cat_bytes(alloc, &longest, b"a"));
-    assert!(rt; run_fields(&longest) == Some((0, MAX_LEN)));
-    assert!(rt; leaf_fields(&a) == Some((b"a", 0, 1)));
-}
-
-#[test]
-fn too_many_bytes(rt: HostRuntime) {
-    let alloc = rt.alloc();
-    expect_too_long(&rt, "chars", Cord::chars(alloc, 0, MAX_LEN + 1));
-    let cords = [run_of(&rt, alloc, 0, MAX_LEN), cord_of(&rt, alloc, b"a")];
-    expect_too_long(&rt, "catn", Cord::catn(alloc, &cords));
-    assert!(rt; run_fields(&cords[0]) == Some((0, MAX_LEN)));
-    assert!(rt; leaf_fields(&cords[1]) == Some((b"a", 0, 1)));
-}
-
-// Nothing with 65 bytes appended 10,000 times, the k-th time of the byte k modulo 256; it never is deeper than 60.
-fn appended(rt: &impl Abort, alloc: Global) -> Cord {
-    let mut cord = Cord::empty();
-    for k in 0..10_000u32 {
-        cord = longer_by(rt, alloc, &cord, &[(k % 256) as u8; 65]);
-        assert!(rt; cord.depth() <= 60);
-    }
-    cord
-}
-
-#[test]
-fn depth_after_many_appends(rt: HostRuntime) {
-    let alloc = rt.alloc();
-    let cord = appended(&rt, alloc);
-    assert!(rt; cord.len() == 650_000);
-    let Ok(Some(bytes)) = bytes_of(alloc, &cord) else {
-        panic!(rt; "no bytes");
-    };
-    assert!(rt; bytes.len() == 650_000);
-    for (place, byte) in bytes.iter().enumerate() {
-        assert!(rt; *byte as usize == place / 65 % 256);
-    }
-}
-
-#[test]
-fn depth_fifty(rt: HostRuntime) {
-    let alloc = rt.alloc();
-    let mut cord = cord_of(&rt, alloc, &[1; 65]);
-    for _ in 0..50 {
-        cord = longer_by(&rt, alloc, &cord, &[2; 65]);
-    }
-    assert!(rt; cord.depth() == 50);
-}
-
-// That a call makes a cord of no byte and no node.
-fn expect_nothing(rt: &impl Abort, call: &str, cord: &Cord) {
-    expect_case(rt, cord.root().is_none(), call, cord.len());
-    expect_case(rt, cord.len() == 0 && cord.depth() == 0, call, cord.len());
+// A part of a function.
+fn func_of(rt: &impl Abort, alloc: Global, id: u32, start: u64, count: u64) -> Cord {
+    assert!(rt; start <= 10 && count <= 10);
+    Cord::from_fn(alloc, SourceId(id), start, count).expect(rt, "no memory")
 }
 
 #[test]
 fn nothing_has_no_root(rt: HostRuntime) {
     let alloc = rt.alloc();
-    expect_nothing(&rt, "empty", &Cord::empty());
-    expect_nothing(&rt, "from_bytes", &cord_of(&rt, alloc, b""));
-    expect_nothing(&rt, "from_shared", &shared_cord(&rt, alloc, b""));
-    expect_nothing(&rt, "chars", &run_of(&rt, alloc, 1, 0));
-    let part = Cord::from_fn(alloc, SourceId(9), 5, 0).expect(&rt, "no memory");
-    expect_nothing(&rt, "from_fn", &part);
+    let nothing = [
+        Cord::empty(),
+        cord_of(&rt, alloc, b""),
+        shared_cord(&rt, alloc, b""),
+        run_of(&rt, alloc, 1, 0),
+        func_of(&rt, alloc, 9, 5, 0),
+    ];
+    for cord in &nothing {
+        expect_shape(&rt, alloc, "nothing_has_no_root", cord, Nothing);
+    }
 }
 
 #[test]
-fn nothing_is_made_of_nothing(rt: HostRuntime) {
-    let alloc = rt.alloc();
-    let leaf = cord_of(&rt, alloc, b"abc");
-    expect_nothing(&rt, "catn", &all_of(&rt, alloc, &[]));
-    expect_nothing(&rt, "substr past", &part_of(&rt, alloc, &leaf, 3, 1));
-    expect_nothing(&rt, "substr", &part_of(&rt, alloc, &leaf, 0, 0));
-    expect_nothing(&rt, "balance", &balanced(&rt, alloc, &Cord::empty()));
+fn digits_of_a_function(rt: HostRuntime) {
+    let digits = func_of(&rt, rt.alloc(), 0, 8, 3);
+    assert!(rt; func_fields(&digits) == Some((SourceId(0), 8, 3)));
 }
 
 #[test]
@@ -190,36 +178,18 @@ fn a_shared_slice_is_a_leaf(rt: HostRuntime) {
     assert!(rt; leaf_fields(&shared) == Some((b"abc", 0, 3)));
 }
 
-// That a call gives the very cord that it was given.
-fn expect_one(rt: &impl Abort, call: &str, answer: &Cord, cord: &Cord) {
-    expect_case(rt, is_one(answer, cord), call, cord.len());
-}
-
-#[test]
-fn whole_cords_are_shared(rt: HostRuntime) {
-    let alloc = rt.alloc();
-    let cord = abccdef(&rt, alloc);
-    expect_one(&rt, "share", &share_of(&rt, alloc, &cord), &cord);
-    let whole = part_of(&rt, alloc, &cord, 0, cord.len());
-    expect_one(&rt, "substr", &whole, &cord);
-    let once = all_of(&rt, alloc, &[share_of(&rt, alloc, &cord)]);
-    expect_one(&rt, "catn", &once, &cord);
-    expect_one(
-        &rt,
-        "cat",
-        &joined(&rt, alloc, &Cord::empty(), &cord),
-        &cord,
-    );
-}
-
 #[test]
 fn parts_are_shared(rt: HostRuntime) {
     let alloc = rt.alloc();
     let part = cord_of(&rt, alloc, &[7; 100]);
     let cord = joined(&rt, alloc, &part, &run_of(&rt, alloc, 0, 1000));
-    expect_one(&rt, "balance", &balanced(&rt, alloc, &cord), &cord);
     expect_one(&rt, "substr", &part_of(&rt, alloc, &cord, 0, 100), &part);
-    assert!(rt; !is_one(&cord_of(&rt, alloc, &[7; 100]), &part));
+    let equal = cord_of(&rt, alloc, &[7; 100]);
+    expect_case(&rt, !is_one(&equal, &part), "two leaves", 100);
+}
+
+fn balanced(rt: &impl Abort, alloc: Global, cord: &Cord) -> Cord {
+    cord.balance(alloc).expect(rt, "no memory")
 }
 
 // Whether a tree is this node, over and over.
@@ -243,7 +213,7 @@ fn repeats(cord: &Cord, piece: &Cord) -> bool {
 
 // Two leaves that are one, and this so often more after it.
 fn repeated(rt: &impl Abort, alloc: Global, piece: &Cord) -> Cord {
-    let mut cord = share_of(rt, alloc, piece);
+    let mut cord = joined(rt, alloc, piece, &Cord::empty());
     for _ in 0..40 {
         cord = joined(rt, alloc, &cord, piece);
     }

@@ -8,6 +8,35 @@ use std::alloc::Global;
 use std::process::Abort;
 use std::rt::HostRuntime;
 
+// What is added to an extensible cord, or the text that it has.
+#[derive(Clone, Copy)]
+enum Step {
+    // A byte, so many times.
+    Byte(u8, usize),
+    Bytes(&'static [u8]),
+    Cord(&'static [u8]),
+    Text(&'static [u8]),
+}
+
+use Step::{Byte, Bytes, Text};
+
+// Steps one after another.
+const TEXTS: &[&[Step]] = &[
+    &[
+        Text(b""),
+        Byte(97, 1),
+        Bytes(b"bc"),
+        Step::Cord(b"de"),
+        Text(b"abcde"),
+    ],
+    &[
+        Byte(65, 129),
+        Text(&[65; 129]),
+        Byte(65, 1),
+        Text(&[65; 130]),
+    ],
+];
+
 fn empty_ext(rt: &impl Abort, alloc: Global) -> ExtCord {
     ExtCord::new(alloc).expect(rt, "no memory")
 }
@@ -34,24 +63,37 @@ fn expect_ext(rt: &impl Abort, alloc: Global, ext: &mut ExtCord, text: &[u8]) {
     expect_text(rt, alloc, &cord_in(rt, alloc, ext), text);
 }
 
-// So many times the byte "A", one by one.
+// A byte so many times, one by one.
+fn add_times(rt: &impl Abort, alloc: Global, ext: &mut ExtCord, byte: u8, count: usize) {
+    for _ in 0..count {
+        add_byte(rt, alloc, ext, byte);
+    }
+}
+
+// So many times the byte "A".
 fn ext_of(rt: &impl Abort, alloc: Global, count: usize) -> ExtCord {
     let mut ext = empty_ext(rt, alloc);
-    for _ in 0..count {
-        add_byte(rt, alloc, &mut ext, 65);
-    }
+    add_times(rt, alloc, &mut ext, 65, count);
     ext
 }
 
+fn take_step(rt: &impl Abort, alloc: Global, ext: &mut ExtCord, step: Step) {
+    match step {
+        Byte(byte, count) => add_times(rt, alloc, ext, byte, count),
+        Bytes(bytes) => add_bytes(rt, alloc, ext, bytes),
+        Step::Cord(bytes) => add_cord(rt, alloc, ext, &cord_of(rt, alloc, bytes)),
+        Text(text) => expect_ext(rt, alloc, ext, text),
+    }
+}
+
 #[test]
-fn ext_cord_calls(rt: HostRuntime) {
-    let alloc = rt.alloc();
-    let mut ext = empty_ext(&rt, alloc);
-    expect_ext(&rt, alloc, &mut ext, b"");
-    add_byte(&rt, alloc, &mut ext, 97);
-    add_bytes(&rt, alloc, &mut ext, b"bc");
-    add_cord(&rt, alloc, &mut ext, &cord_of(&rt, alloc, b"de"));
-    expect_ext(&rt, alloc, &mut ext, b"abcde");
+fn texts_of_steps(rt: HostRuntime) {
+    for steps in TEXTS {
+        let mut ext = empty_ext(&rt, rt.alloc());
+        for step in *steps {
+            take_step(&rt, rt.alloc(), &mut ext, *step);
+        }
+    }
 }
 
 #[test]
@@ -65,15 +107,6 @@ fn a_cord_stays_while_more_is_added(rt: HostRuntime) {
 }
 
 #[test]
-fn ext_cord_129_appends(rt: HostRuntime) {
-    let alloc = rt.alloc();
-    let mut ext = ext_of(&rt, alloc, 129);
-    expect_ext(&rt, alloc, &mut ext, &[65; 129]);
-    add_byte(&rt, alloc, &mut ext, 65);
-    expect_ext(&rt, alloc, &mut ext, &[65; 130]);
-}
-
-#[test]
 fn ext_cord_leaf_size(rt: HostRuntime) {
     let alloc = rt.alloc();
     for (count, depth) in [(4096, 0), (4097, 1)] {
@@ -83,17 +116,34 @@ fn ext_cord_leaf_size(rt: HostRuntime) {
     }
 }
 
+// That an extensible cord of the longest text takes no byte more.
+fn expect_full(rt: &impl Abort, alloc: Global, ext: &mut ExtCord, more: &Cord) {
+    let too_long = Err(CordError::TooLong);
+    expect_case(rt, ext.append(alloc, 1) == too_long, "append", 1);
+    expect_case(
+        rt,
+        ext.append_bytes(alloc, b"ab") == too_long,
+        "append_bytes",
+        2,
+    );
+    expect_case(
+        rt,
+        ext.append_cord(alloc, more) == too_long,
+        "append_cord",
+        more.len(),
+    );
+    expect_case(rt, ext.len() == MAX_LEN, "length", ext.len());
+}
+
 #[test]
 fn too_long_unchanged(rt: HostRuntime) {
     let alloc = rt.alloc();
     let longest = run_of(&rt, alloc, 0, MAX_LEN);
     let mut ext = empty_ext(&rt, alloc);
     add_cord(&rt, alloc, &mut ext, &longest);
-    assert!(rt; ext.append(alloc, 1) == Err(CordError::TooLong));
-    assert!(rt; ext.append_bytes(alloc, b"ab") == Err(CordError::TooLong));
-    assert!(rt; ext.append_cord(alloc, &longest) == Err(CordError::TooLong));
-    assert!(rt; ext.len() == MAX_LEN);
-    assert!(rt; run_fields(&cord_in(&rt, alloc, &mut ext)) == Some((0, MAX_LEN)));
+    expect_full(&rt, alloc, &mut ext, &longest);
+    let cord = cord_in(&rt, alloc, &mut ext);
+    expect_case(&rt, run_fields(&cord) == Some((0, MAX_LEN)), "run", MAX_LEN);
 }
 
 #[test]

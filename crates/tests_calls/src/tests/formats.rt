@@ -215,11 +215,21 @@ const FORMAT_CASES: &[Number] = &[
     (b"%lu", 3, b"3"),
 ];
 
+// The cases of numbers.
+const NUMBERS: &[&[Number]] = &[
+    DECIMALS,
+    PRECISE,
+    UNSIGNED,
+    OCTALS,
+    HEXADECIMALS,
+    BYTES,
+    FORMAT_CASES,
+];
+
 // A text, and the place from which on it is no format.
 type BadText = (&'static str, usize);
 
-// The cases of formats that are none.
-const BAD_FORMAT_CASES: &[BadText] = &[
+const BAD_FORMATS: &[BadText] = &[
     ("%05s", 0),
     ("%+u", 0),
     ("%.1c", 0),
@@ -227,9 +237,6 @@ const BAD_FORMAT_CASES: &[BadText] = &[
     ("%5%", 0),
     ("%", 0),
     ("%10000d", 0),
-];
-
-const BAD_FORMATS: &[BadText] = &[
     ("a%q", 1),
     ("%lld%llld", 4),
     ("100%", 3),
@@ -267,6 +274,11 @@ const LONG: &[(&str, Pieces, &[Argument], Pieces)] = &[
     ),
 ];
 
+// That something holds of a format.
+fn expect_format(rt: &impl Abort, holds: bool, name: &str, format: &[u8]) {
+    assert!(rt; holds, "{name}: {format:?}");
+}
+
 fn format_of(rt: &impl Abort, alloc: Global, format: &[u8]) -> Format {
     Format::parse(alloc, format).expect(rt, "no format")
 }
@@ -297,7 +309,7 @@ fn printed(rt: &impl Abort, alloc: Global, format: &[u8], arguments: &[Argument]
     let args = args_of(rt, alloc, arguments);
     let cord = print_of(rt, alloc, &parsed, &args);
     let reported = sprintf_len(&parsed, &args);
-    assert!(rt; reported == Ok(cord.len()), "the length of {format:?}");
+    expect_format(rt, reported == Ok(cord.len()), "the length", format);
     cord
 }
 
@@ -315,10 +327,7 @@ fn expect_printed(
     (format, arguments, want): (&[u8], &[Argument], &[u8]),
 ) {
     let shown = print_bytes(rt, alloc, format, arguments);
-    assert!(rt;
-        shown.as_slice() == want,
-        "{name}: {format:?} is not {want:?}"
-    );
+    expect_format(rt, shown.as_slice() == want, name, format);
 }
 
 // That the print of a format is refused for this.
@@ -331,9 +340,9 @@ fn expect_refused(
     let parsed = format_of(rt, alloc, format);
     let args = args_of(rt, alloc, arguments);
     let reported = sprintf_len(&parsed, &args);
-    assert!(rt; reported == Err(error), "{name}: {format:?}");
+    expect_format(rt, reported == Err(error), name, format);
     let refused = sprintf(alloc, &parsed, &args).err();
-    assert!(rt; refused == Some(error), "{name}: {format:?}");
+    expect_format(rt, refused == Some(error), name, format);
 }
 
 // That numbers print as in C.
@@ -349,33 +358,10 @@ fn expect_numbers(rt: &impl Abort, alloc: Global, numbers: &[Number]) {
 }
 
 #[test]
-fn decimals_print_as_in_c(rt: HostRuntime) {
-    expect_numbers(&rt, rt.alloc(), DECIMALS);
-}
-
-#[test]
-fn precise_decimals_print_as_in_c(rt: HostRuntime) {
-    expect_numbers(&rt, rt.alloc(), PRECISE);
-}
-
-#[test]
-fn unsigned_decimals_print_as_in_c(rt: HostRuntime) {
-    expect_numbers(&rt, rt.alloc(), UNSIGNED);
-}
-
-#[test]
-fn octals_print_as_in_c(rt: HostRuntime) {
-    expect_numbers(&rt, rt.alloc(), OCTALS);
-}
-
-#[test]
-fn hexadecimals_print_as_in_c(rt: HostRuntime) {
-    expect_numbers(&rt, rt.alloc(), HEXADECIMALS);
-}
-
-#[test]
-fn bytes_print_as_in_c(rt: HostRuntime) {
-    expect_numbers(&rt, rt.alloc(), BYTES);
+fn numbers_print_as_in_c(rt: HostRuntime) {
+    for numbers in NUMBERS {
+        expect_numbers(&rt, rt.alloc(), numbers);
+    }
 }
 
 #[test]
@@ -410,7 +396,7 @@ fn every_byte_is_printed(rt: HostRuntime) {
 fn prints_of_some_length(rt: HostRuntime) {
     for &(name, format, arguments, length) in LENGTHS {
         let cord = printed(&rt, rt.alloc(), format, arguments);
-        assert!(rt; cord.len() == length, "{name}: {format:?}");
+        expect_format(&rt, cord.len() == length, name, format);
     }
 }
 
@@ -418,9 +404,9 @@ fn prints_of_some_length(rt: HostRuntime) {
 fn wide_numbers_and_texts_print_as_in_c(rt: HostRuntime) {
     for &(format, arguments, length, start, end) in WIDE {
         let shown = print_bytes(&rt, rt.alloc(), format, arguments);
-        assert!(rt; shown.len() == length, "{format:?}");
-        assert!(rt; shown.starts_with(start), "{format:?}");
-        assert!(rt; shown.ends_with(end), "{format:?}");
+        expect_format(&rt, shown.len() == length, "the length", format);
+        expect_format(&rt, shown.starts_with(start), "the start", format);
+        expect_format(&rt, shown.ends_with(end), "the end", format);
     }
 }
 
@@ -444,26 +430,23 @@ fn refusals_in_order(rt: HostRuntime) {
     }
 }
 
-fn expect_bad(rt: &impl Abort, alloc: Global, formats: &[BadText]) {
-    for &(format, place) in formats {
-        let error = Format::parse(alloc, format.as_bytes()).err();
-        assert!(rt; error == Some(FormatError::BadFormat(place)), "{format}");
-        assert!(rt;
-            Format::bad_offset(format.as_bytes()) == Some(place),
-            "{format}"
-        );
-    }
-}
-
-#[test]
-fn format_rows(rt: HostRuntime) {
-    expect_numbers(&rt, rt.alloc(), FORMAT_CASES);
-    expect_bad(&rt, rt.alloc(), BAD_FORMAT_CASES);
+fn expect_bad(rt: &impl Abort, alloc: Global, format: &str, place: usize) {
+    let bytes = format.as_bytes();
+    let error = Format::parse(alloc, bytes).err();
+    expect_format(
+        rt,
+        error == Some(FormatError::BadFormat(place)),
+        format,
+        bytes,
+    );
+    expect_format(rt, Format::bad_offset(bytes) == Some(place), format, bytes);
 }
 
 #[test]
 fn bad_formats(rt: HostRuntime) {
-    expect_bad(&rt, rt.alloc(), BAD_FORMATS);
+    for &(format, place) in BAD_FORMATS {
+        expect_bad(&rt, rt.alloc(), format, place);
+    }
 }
 
 // A cord before a comma and a padded byte.

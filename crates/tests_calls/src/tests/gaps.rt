@@ -121,32 +121,30 @@ fn typed(rt: &impl Abort, alloc: Global, count: u64) -> EditBuffer {
     buffer
 }
 
-#[test]
-fn a_gap_is_one_leaf(rt: HostRuntime) {
-    let alloc = rt.alloc();
-    let cord = cord_in(&rt, alloc, &mut typed(&rt, alloc, 4_096));
-    assert!(rt; cord.len() == 4_106 && cord.depth() == 2);
-    expect_text(
-        &rt,
-        alloc,
-        &part_of(&rt, alloc, &cord, 5, 4_096),
-        &[97; 4_096],
-    );
-    assert!(rt; part_of(&rt, alloc, &cord, 5, 4_096).depth() == 0);
+// How many bytes are typed, and how deep they are: a gap is one leaf, and one that is full moves on.
+const TYPED: &[(u64, u32)] = &[(4_096, 0), (4_097, 1)];
+
+fn expect_typed(rt: &impl Abort, alloc: Global, count: u64, depth: u32) {
+    let cord = cord_in(rt, alloc, &mut typed(rt, alloc, count));
+    let part = part_of(rt, alloc, &cord, 5, count);
+    let bytes = Vec::from_elem(alloc, 97, count as usize).expect(rt, "no memory");
+    expect_case(rt, cord.len() == count.saturating_add(10), "typed", count);
+    expect_case(rt, part.depth() == depth, "depth", count);
+    expect_text(rt, alloc, &part, &bytes);
 }
 
 #[test]
-fn a_gap_that_is_full_moves_on(rt: HostRuntime) {
+fn typed_bytes(rt: HostRuntime) {
+    for &(count, depth) in TYPED {
+        expect_typed(&rt, rt.alloc(), count, depth);
+    }
+}
+
+#[test]
+fn a_gap_between_two_runs(rt: HostRuntime) {
     let alloc = rt.alloc();
-    let cord = cord_in(&rt, alloc, &mut typed(&rt, alloc, 4_097));
-    assert!(rt; cord.len() == 4_107);
-    expect_text(
-        &rt,
-        alloc,
-        &part_of(&rt, alloc, &cord, 5, 4_097),
-        &[97; 4_097],
-    );
-    assert!(rt; part_of(&rt, alloc, &cord, 5, 4_097).depth() == 1);
+    let cord = cord_in(&rt, alloc, &mut typed(&rt, alloc, 4_096));
+    expect_case(&rt, cord.depth() == 2, "depth", cord.len());
 }
 
 #[test]
@@ -177,19 +175,30 @@ fn many_bytes_are_leaves(rt: HostRuntime) {
     );
 }
 
+// That a buffer of the longest text takes no byte more.
+fn expect_full(rt: &impl Abort, alloc: Global, buffer: &mut EditBuffer) {
+    let too_long = Err(CordError::TooLong);
+    let byte = cord_of(rt, alloc, b"a");
+    expect_case(rt, buffer.insert(alloc, 5, b"a") == too_long, "insert", 5);
+    expect_case(
+        rt,
+        buffer.splice(alloc, 5, 0, &byte) == too_long,
+        "splice",
+        5,
+    );
+    expect_case(rt, buffer.len() == MAX_LEN, "length", buffer.len());
+}
+
 #[test]
 fn a_text_at_the_limit_stays(rt: HostRuntime) {
     let alloc = rt.alloc();
-    let longest = run_of(&rt, alloc, 0, MAX_LEN);
-    let mut buffer = buffer_of(&rt, alloc, &longest);
-    assert!(rt; buffer.insert(alloc, 5, b"a") == Err(CordError::TooLong));
-    assert!(rt; buffer.splice(alloc, 5, 0, &cord_of(&rt, alloc, b"a")) == Err(CordError::TooLong));
-    assert!(rt; buffer.len() == MAX_LEN);
+    let mut buffer = buffer_of(&rt, alloc, &run_of(&rt, alloc, 0, MAX_LEN));
+    expect_full(&rt, alloc, &mut buffer);
     let cord = cord_in(&rt, alloc, &mut buffer);
-    assert!(rt; run_fields(&cord) == Some((0, MAX_LEN)));
+    expect_case(&rt, run_fields(&cord) == Some((0, MAX_LEN)), "run", MAX_LEN);
     remove(&rt, alloc, &mut buffer, 5, 1);
     insert(&rt, alloc, &mut buffer, 5, b"a");
-    assert!(rt; buffer.len() == MAX_LEN);
+    expect_full(&rt, alloc, &mut buffer);
 }
 
 #[test]

@@ -56,6 +56,13 @@ fn raw_buf_calls(rt: HostRuntime) {
     assert!(rt; buffer.len() == 0);
 }
 
+// That a buffer of all the bytes that it has room for has this text.
+fn expect_full_chain(rt: &impl Abort, alloc: Global, buffer: &RawBuf, text: &[u8]) {
+    assert!(rt; buffer.len() == 4_096);
+    expect_text(rt, alloc, buffer, text);
+    expect_at(rt, alloc, buffer, 127, &[127, 128]);
+}
+
 #[test]
 fn raw_buf_full_chain(rt: HostRuntime) {
     let alloc = rt.alloc();
@@ -64,9 +71,7 @@ fn raw_buf_full_chain(rt: HostRuntime) {
     for run in text.chunks(100) {
         extend(&rt, alloc, &mut buffer, run);
     }
-    assert!(rt; buffer.len() == 4_096);
-    expect_text(&rt, alloc, &buffer, &text);
-    expect_at(&rt, alloc, &buffer, 127, &[127, 128]);
+    expect_full_chain(&rt, alloc, &buffer, &text);
 }
 
 #[test]
@@ -77,8 +82,7 @@ fn bytes_pushed_one_by_one_fill_the_chain(rt: HostRuntime) {
     for byte in &text {
         push(&rt, alloc, &mut buffer, *byte);
     }
-    assert!(rt; buffer.len() == 4_096);
-    expect_text(&rt, alloc, &buffer, &text);
+    expect_full_chain(&rt, alloc, &buffer, &text);
 }
 
 #[test]

@@ -1,8 +1,10 @@
 // No call copies a leaf of more than 64 bytes: what it makes of cords and nodes holds the very bytes of their leaves.
 ghost use Rattle.cord_node.specs.Tree.{IsSound};
 
+use super::calls::{Call, after};
 use super::cases::expect_case;
-use super::trees::{joined, part_of, pattern, run_of};
+use super::made::{Part, Parts};
+use super::trees::{joined, part_of, pattern};
 use cord_balance::balance_parts;
 use cord_core::Cord;
 use cord_ec::ExtCord;
@@ -66,22 +68,6 @@ fn share_of(rt: &impl Abort, alloc: Global, cord: &Cord) -> Cord {
     cord.share(alloc).expect(rt, "no memory")
 }
 
-fn balanced(rt: &impl Abort, alloc: Global, cord: &Cord) -> Cord {
-    cord.balance(alloc).expect(rt, "no memory")
-}
-
-fn all_of(rt: &impl Abort, alloc: Global, cords: &[Cord]) -> Cord {
-    Cord::catn(alloc, cords).expect(rt, "no memory")
-}
-
-fn longer_by(rt: &impl Abort, alloc: Global, cord: &Cord, bytes: &[u8]) -> Cord {
-    Cord::cat_bytes(alloc, cord, bytes).expect(rt, "no memory")
-}
-
-fn longer_by_one(rt: &impl Abort, alloc: Global, cord: &Cord) -> Cord {
-    Cord::cat_char(alloc, cord, 46).expect(rt, "no memory")
-}
-
 // A cord with another one in the place of its five bytes from the tenth on.
 fn spliced(rt: &impl Abort, alloc: Global, cord: &Cord, middle: &Cord) -> Cord {
     let mut edited = share_of(rt, alloc, cord);
@@ -89,106 +75,65 @@ fn spliced(rt: &impl Abort, alloc: Global, cord: &Cord, middle: &Cord) -> Cord {
     edited
 }
 
-// A cord forty times, one after the other.
-fn forty(rt: &impl Abort, alloc: Global, cord: &Cord) -> Cord {
-    let mut all = Cord::empty();
-    for _ in 0..40 {
-        all = joined(rt, alloc, &all, cord);
-    }
-    all
-}
+// Three points.
+const POINTS: Parts = &[Part::Run(46, 3)];
 
-fn expect_joins(rt: &impl Abort, alloc: Global, leaf: &Leaf, len: u64) {
-    assert!(rt; len <= 1_000_000);
-    let cord = &leaf.cord;
-    let points = run_of(rt, alloc, 46, 3);
-    expect_shared(rt, "from_shared", cord, leaf, len);
-    expect_shared(rt, "share", &share_of(rt, alloc, cord), leaf, len);
-    expect_shared(
-        rt,
-        "cat of two",
-        &joined(rt, alloc, cord, cord),
-        leaf,
-        2 * len,
-    );
-    expect_shared(
-        rt,
-        "cat before",
-        &joined(rt, alloc, &points, cord),
-        leaf,
-        len,
-    );
-    expect_shared(rt, "cat_char", &longer_by_one(rt, alloc, cord), leaf, len);
-    expect_shared(
-        rt,
-        "cat_bytes",
-        &longer_by(rt, alloc, cord, b"ab"),
-        leaf,
-        len,
-    );
-    let three = [share_of(rt, alloc, cord), points, share_of(rt, alloc, cord)];
-    expect_shared(rt, "catn", &all_of(rt, alloc, &three), leaf, 2 * len);
-    let many = forty(rt, alloc, cord);
-    expect_shared(rt, "cat of forty", &many, leaf, 40 * len);
-    expect_shared(rt, "balance", &balanced(rt, alloc, &many), leaf, 40 * len);
-}
+// So many times the length of the leaf, and so many bytes more and less.
+type Count = (u64, u64, u64);
 
-fn expect_parts(rt: &impl Abort, alloc: Global, leaf: &Leaf, other: &Leaf, len: u64) {
-    assert!(rt; len >= 65 && len <= 1_000_000);
-    let cord = &leaf.cord;
-    expect_shared(
-        rt,
-        "substr of one",
-        &part_of(rt, alloc, cord, len / 2, 1),
-        leaf,
-        1,
-    );
-    expect_shared(
-        rt,
-        "substr of 64",
-        &part_of(rt, alloc, cord, 0, 64),
-        leaf,
-        64,
-    );
-    expect_shared(
-        rt,
-        "substr",
-        &part_of(rt, alloc, cord, 1, len - 2),
-        leaf,
-        len - 2,
-    );
-    let longer = joined(rt, alloc, cord, &run_of(rt, alloc, 46, 3));
-    expect_shared(
-        rt,
+// What is made of a cord that is one leaf, and how many bytes of it are those of the leaf.
+const MADE: &[(&str, &[Call], Count)] = &[
+    ("from_shared", &[], (1, 0, 0)),
+    ("share", &[Call::Share], (1, 0, 0)),
+    ("cat of two", &[Call::Twice], (2, 0, 0)),
+    ("cat before", &[Call::CatTo(POINTS)], (1, 0, 0)),
+    ("cat_char", &[Call::CatChar(46)], (1, 0, 0)),
+    ("cat_bytes", &[Call::CatBytes(b"ab")], (1, 0, 0)),
+    ("catn", &[Call::Cat(POINTS), Call::Catn(2)], (2, 0, 0)),
+    ("catn of three", &[Call::Catn(3)], (3, 0, 0)),
+    ("cat of forty", &[Call::Times(40)], (40, 0, 0)),
+    ("balance", &[Call::Times(40), Call::Balance], (40, 0, 0)),
+    ("substr of one", &[Call::Substr(32, 1)], (0, 1, 0)),
+    ("substr of 64", &[Call::Substr(0, 64)], (0, 64, 0)),
+    ("substr", &[Call::Between(1, 1)], (1, 0, 2)),
+    (
         "substr over a seam",
-        &part_of(rt, alloc, &longer, len - 9, 11),
-        leaf,
-        9,
-    );
-    let both = joined(rt, alloc, cord, &other.cord);
+        &[Call::Cat(POINTS), Call::FromEnd(12, 11)],
+        (0, 9, 0),
+    ),
+    ("substr of all", &[Call::Between(0, 0)], (1, 0, 0)),
+    (
+        "substr, a whole leaf",
+        &[Call::Cat(POINTS), Call::Between(0, 2)],
+        (1, 0, 0),
+    ),
+];
+
+fn expect_made(
+    rt: &impl Abort,
+    alloc: Global,
+    name: &str,
+    leaf: &Leaf,
+    calls: &[Call],
+    (times, more, less): Count,
+) {
+    let cord = after(rt, alloc, share_of(rt, alloc, &leaf.cord), calls);
+    let whole = leaf.cord.len().saturating_mul(times);
+    let count = whole.saturating_add(more).saturating_sub(less);
+    expect_shared(rt, name, &cord, leaf, count);
+}
+
+// A cord of two leaves, and one with the second leaf in the place of five bytes of the first.
+fn expect_two(rt: &impl Abort, alloc: Global, leaf: &Leaf, other: &Leaf, len: u64) {
+    assert!(rt; len >= 65 && len <= 1_000_000);
+    let both = joined(rt, alloc, &leaf.cord, &other.cord);
     let middle = part_of(rt, alloc, &both, 1, 2 * len - 2);
     expect_shared(rt, "substr, left", &middle, leaf, len - 1);
     expect_shared(rt, "substr, right", &middle, other, len - 1);
-    let edited = spliced(rt, alloc, cord, &other.cord);
+    let edited = spliced(rt, alloc, &leaf.cord, &other.cord);
     expect_shared(rt, "splice, around", &edited, leaf, len - 5);
     expect_shared(rt, "splice, inside", &edited, other, len);
-    expect_shared(rt, "splice, before", cord, leaf, len);
-}
-
-// That a range with a whole leaf shares it.
-fn expect_whole(rt: &impl Abort, alloc: Global, leaf: &Leaf, len: u64) {
-    assert!(rt; len <= 1_000_000);
-    let cord = &leaf.cord;
-    let longer = joined(rt, alloc, cord, &run_of(rt, alloc, 46, 3));
-    expect_shared(
-        rt,
-        "substr of all",
-        &part_of(rt, alloc, cord, 0, len),
-        leaf,
-        len,
-    );
-    let prefix = part_of(rt, alloc, &longer, 0, len + 1);
-    expect_shared(rt, "substr, a whole leaf", &prefix, leaf, len);
+    expect_shared(rt, "splice, before", &leaf.cord, leaf, len);
 }
 
 #[test]
@@ -196,9 +141,10 @@ fn cords_share_their_leaves(rt: HostRuntime) {
     for len in LENGTHS {
         let leaf = leaf_of(&rt, rt.alloc(), *len);
         let other = leaf_of(&rt, rt.alloc(), *len);
-        expect_joins(&rt, rt.alloc(), &leaf, *len);
-        expect_parts(&rt, rt.alloc(), &leaf, &other, *len);
-        expect_whole(&rt, rt.alloc(), &leaf, *len);
+        for &(name, calls, count) in MADE {
+            expect_made(&rt, rt.alloc(), name, &leaf, calls, count);
+        }
+        expect_two(&rt, rt.alloc(), &leaf, &other, *len);
     }
 }
 
@@ -230,41 +176,28 @@ fn printed(rt: &impl Abort, alloc: Global, format: &[u8], cord: &Cord) -> Cord {
     sprintf(alloc, &format, &args).expect(rt, "no memory")
 }
 
+// What is printed of a leaf and of the same leaf.
+// The count is so many times the length of the leaf, and so many bytes more.
+const PRINTED: &[(&str, &[u8], u64, u64)] = &[
+    ("sprintf", b"%s%r", 2, 0),
+    ("sprintf between", b"a%sb%5sc", 2, 0),
+    ("sprintf of a part", b"%.65s|%.65s", 0, 130),
+];
+
 #[test]
 fn texts_that_grow_share_their_leaves(rt: HostRuntime) {
+    let alloc = rt.alloc();
     for len in LENGTHS {
-        let alloc = rt.alloc();
         let leaf = leaf_of(&rt, alloc, *len);
-        assert!(rt; *len <= 1_000_000);
-        expect_shared(&rt, "to_cord", &taken(&rt, alloc, &leaf.cord), &leaf, *len);
-        expect_shared(
-            &rt,
-            "append_cord",
-            &gathered(&rt, alloc, &leaf.cord),
-            &leaf,
-            2 * *len,
-        );
-        expect_shared(
-            &rt,
-            "sprintf",
-            &printed(&rt, alloc, b"%s%r", &leaf.cord),
-            &leaf,
-            2 * *len,
-        );
-        expect_shared(
-            &rt,
-            "sprintf between",
-            &printed(&rt, alloc, b"a%sb%5sc", &leaf.cord),
-            &leaf,
-            2 * *len,
-        );
-        expect_shared(
-            &rt,
-            "sprintf of a part",
-            &printed(&rt, alloc, b"%.65s|%.65s", &leaf.cord),
-            &leaf,
-            130,
-        );
+        let cord = taken(&rt, alloc, &leaf.cord);
+        expect_shared(&rt, "to_cord", &cord, &leaf, *len);
+        let cord = gathered(&rt, alloc, &leaf.cord);
+        expect_shared(&rt, "append_cord", &cord, &leaf, len.saturating_mul(2));
+        for &(name, format, times, more) in PRINTED {
+            let cord = printed(&rt, alloc, format, &leaf.cord);
+            let count = len.saturating_mul(times).saturating_add(more);
+            expect_shared(&rt, name, &cord, &leaf, count);
+        }
     }
 }
 

@@ -176,27 +176,94 @@ impl rt::Files for Machine {
     }
 }
 
+const MID_STREAM: &[Ask] = &[Reads(2, 4, b"2345"), Fault(6), Fault(6), Failures(2)];
+
+// The trouble of a machine whose files fail after so many reads, and what is asked of one of them. A name is its path.
+const ASKED: &[(&str, Trouble, u8, &[Ask])] = &[
+    // Reading on needs no call for each part: a read and one of the rest.
+    (
+        "reads_on_ahead",
+        Trouble::Nothing,
+        2,
+        &[
+            Reads(0, 3, b"012"),
+            Reads(3, 3, b"345"),
+            Reads(6, 3, b"678"),
+            Reads(9, 3, b"9"),
+            Reads(5, 3, b"567"),
+            Failures(0),
+        ],
+    ),
+    // A read elsewhere, no shorter than what was read in order before, and one of all that is left are read as they
+    // are, in one call: where it fails they fail.
+    (
+        "reads_elsewhere_as_they_are",
+        Trouble::InterruptedOnce,
+        2,
+        &[
+            Reads(6, 2, b"67"),
+            Reads(2, 2, b"23"),
+            Failures(0),
+            Fault(4),
+            Failures(1),
+        ],
+    ),
+    // A read elsewhere asks for as many bytes as were read in order before, so what follows there takes no call.
+    (
+        "reads_a_range_elsewhere_in_one_call",
+        Trouble::Nothing,
+        2,
+        &[
+            Reads(5, 5, b"56789"),
+            Reads(0, 2, b"01"),
+            Reads(2, 2, b"23"),
+            Failures(0),
+        ],
+    ),
+    // A file that is read with short gaps is read ahead, as one that is read in order.
+    (
+        "reads_ahead_over_gaps",
+        Trouble::Nothing,
+        2,
+        &[
+            Reads(0, 2, b"01"),
+            Reads(4, 2, b"45"),
+            Reads(8, 2, b"89"),
+            Failures(0),
+        ],
+    ),
+    // A call that fails while it reads ahead is made again for the bytes that were asked for.
+    (
+        "a_fault_ahead_is_no_fault",
+        Trouble::InterruptedOnce,
+        1,
+        &[Reads(0, 4, b"0123"), Reads(4, 4, b"4567"), Failures(0)],
+    ),
+    // A read after a fault asks the machine again.
+    (
+        "faults_in_mid_stream_are_counted",
+        Trouble::EmptyRead,
+        1,
+        MID_STREAM,
+    ),
+    (
+        "faults_in_mid_stream_are_counted",
+        Trouble::Interrupted,
+        1,
+        MID_STREAM,
+    ),
+];
+
 // Asks a file of a machine.
-fn expect_asked(rt: &impl Abort, alloc: Global, machine: Machine, asks: &[Ask]) {
-    expect_all(rt, &mut DiskFiles::new(machine, alloc), "digits", asks);
+fn expect_asked(rt: &impl Abort, alloc: Global, path: &str, machine: Machine, asks: &[Ask]) {
+    expect_all(rt, &mut DiskFiles::new(machine, alloc), path, asks);
 }
 
-// Reading on needs no call for each part: a read and one of the rest.
 #[test]
-fn reads_on_ahead(rt: HostRuntime) {
-    let machine = Machine {
-        trouble: Trouble::Nothing,
-        reads: 2,
-    };
-    let asks = [
-        Reads(0, 3, b"012"),
-        Reads(3, 3, b"345"),
-        Reads(6, 3, b"678"),
-        Reads(9, 3, b"9"),
-        Reads(5, 3, b"567"),
-        Failures(0),
-    ];
-    expect_asked(&rt, rt.alloc(), machine, &asks);
+fn cases_of_machines(rt: HostRuntime) {
+    for &(path, trouble, reads, asks) in ASKED {
+        expect_asked(&rt, rt.alloc(), path, Machine { trouble, reads }, asks);
+    }
 }
 
 // Opens two files of ten bytes.
@@ -235,77 +302,6 @@ fn reads_two_files_ahead(rt: HostRuntime) {
         reads: 2,
     };
     read_in_turn(&rt, &mut DiskFiles::new(machine, rt.alloc()));
-}
-
-// A read elsewhere, no shorter than what was read in order before, and one of all that is left are read as they are, in
-// one call: where it fails they fail.
-#[test]
-fn reads_elsewhere_as_they_are(rt: HostRuntime) {
-    let machine = Machine {
-        trouble: Trouble::InterruptedOnce,
-        reads: 2,
-    };
-    let asks = [
-        Reads(6, 2, b"67"),
-        Reads(2, 2, b"23"),
-        Failures(0),
-        Fault(4),
-        Failures(1),
-    ];
-    expect_asked(&rt, rt.alloc(), machine, &asks);
-}
-
-// A read elsewhere asks for as many bytes as were read in order before, so what follows there takes no call.
-#[test]
-fn reads_a_range_elsewhere_in_one_call(rt: HostRuntime) {
-    let machine = Machine {
-        trouble: Trouble::Nothing,
-        reads: 2,
-    };
-    let asks = [
-        Reads(5, 5, b"56789"),
-        Reads(0, 2, b"01"),
-        Reads(2, 2, b"23"),
-        Failures(0),
-    ];
-    expect_asked(&rt, rt.alloc(), machine, &asks);
-}
-
-// A file that is read with short gaps is read ahead, as one that is read in order.
-#[test]
-fn reads_ahead_over_gaps(rt: HostRuntime) {
-    let machine = Machine {
-        trouble: Trouble::Nothing,
-        reads: 2,
-    };
-    let asks = [
-        Reads(0, 2, b"01"),
-        Reads(4, 2, b"45"),
-        Reads(8, 2, b"89"),
-        Failures(0),
-    ];
-    expect_asked(&rt, rt.alloc(), machine, &asks);
-}
-
-// A call that fails while it reads ahead is made again for the bytes that were asked for.
-#[test]
-fn a_fault_ahead_is_no_fault(rt: HostRuntime) {
-    let machine = Machine {
-        trouble: Trouble::InterruptedOnce,
-        reads: 1,
-    };
-    let asks = [Reads(0, 4, b"0123"), Reads(4, 4, b"4567"), Failures(0)];
-    expect_asked(&rt, rt.alloc(), machine, &asks);
-}
-
-// A read after a fault asks the machine again.
-#[test]
-fn faults_in_mid_stream_are_counted(rt: HostRuntime) {
-    for trouble in [Trouble::EmptyRead, Trouble::Interrupted] {
-        let machine = Machine { trouble, reads: 1 };
-        let asks = [Reads(2, 4, b"2345"), Fault(6), Fault(6), Failures(2)];
-        expect_asked(&rt, rt.alloc(), machine, &asks);
-    }
 }
 
 #[test]
@@ -351,21 +347,33 @@ const REMOVED: &[Ask] = &[
     Failures(0),
 ];
 
+// Opens a real file, which is removed before it is read.
+fn read_removed<R: rt::Files + AllocGlobal + Abort + Clone>(rt: &R)
+where
+    R::File: FileExt,
+{
+    write_digits(rt, REAL_PATH);
+    let mut files = real(rt);
+    let no = opened(rt, &mut files, REAL_PATH);
+    remove(rt, REAL_PATH);
+    expect_answers(rt, &mut files, no, REMOVED);
+}
+
 #[test]
 fn real_files(rt: HostRuntime) {
-    write_digits(&rt, REAL_PATH);
-    let mut files = real(&rt);
-    let no = opened(&rt, &mut files, REAL_PATH);
-    remove(&rt, REAL_PATH);
-    expect_answers(&rt, &mut files, no, REMOVED);
+    read_removed(&rt);
+}
+
+// That two paths of real files can't be opened.
+fn expect_unopened<F: Files>(rt: &impl Abort, files: &mut F, one: &str, other: &str) {
+    expect_no_file(rt, files, one, OpenFault::Failed);
+    expect_no_file(rt, files, other, OpenFault::Failed);
+    expect_case(rt, files.failures() == 2, one, 2);
 }
 
 #[test]
 fn directories_and_bad_paths_are_no_files(rt: HostRuntime) {
-    let mut files = real(&rt);
-    expect_no_file(&rt, &mut files, ".", OpenFault::Failed);
-    expect_no_file(&rt, &mut files, "out\0side", OpenFault::Failed);
-    assert!(rt; files.failures() == 2);
+    expect_unopened(&rt, &mut real(&rt), ".", "out\0side");
 }
 
 // Reads from a place of a file on. A file system that agrees with all that was reported has these bytes there.
@@ -424,15 +432,21 @@ where
 }
 
 // What was told of a real file agrees with what was written there.
+fn read_written<R: rt::Files + AllocGlobal + Abort + Clone>(rt: &R, path: &str)
+where
+    R::File: FileExt,
+{
+    write_digits(rt, path);
+    let mut files = real(rt);
+    expect_reported(rt, &mut files, path, 3, b"3456");
+    expect_reported(rt, &mut files, path, 8, b"89");
+    expect_unreported(rt, &mut files, path, 10);
+    remove(rt, path);
+    expect_unreported(rt, &mut files, path, 0);
+    expect_case(rt, files.failures() == 0, path, 0);
+}
+
 #[test]
 fn reported_bytes_of_a_real_file(rt: HostRuntime) {
-    let path = "cord_calls_told";
-    write_digits(&rt, path);
-    let mut files = real(&rt);
-    expect_reported(&rt, &mut files, path, 3, b"3456");
-    expect_reported(&rt, &mut files, path, 8, b"89");
-    expect_unreported(&rt, &mut files, path, 10);
-    remove(&rt, path);
-    expect_unreported(&rt, &mut files, path, 0);
-    assert!(rt; files.failures() == 0);
+    read_written(&rt, "cord_calls_told");
 }

@@ -22,9 +22,13 @@ fn errors_say_what_they_are(rt: HostRuntime) {
     }
 }
 
+fn expect_error(rt: &impl Abort, error: CordError, wanted: CordError) {
+    assert!(rt; error == wanted, "{error} is not {wanted}");
+}
+
 #[test]
 fn faults_become_errors(rt: HostRuntime) {
-    assert!(rt; CordError::from(ReadFault) == CordError::ReadFailed);
-    assert!(rt; CordError::from(WriteFault) == CordError::WriteFailed);
-    assert!(rt; CordError::from(AllocError) == CordError::NoMemory);
+    expect_error(&rt, CordError::from(ReadFault), CordError::ReadFailed);
+    expect_error(&rt, CordError::from(WriteFault), CordError::WriteFailed);
+    expect_error(&rt, CordError::from(AllocError), CordError::NoMemory);
 }

@@ -1,7 +1,9 @@
 // What files with a fuse pass, and what they answer when it is spent.
+use super::super::cases::expect_case;
 use super::Ask::{self, Failures, Fault, Open, Read};
 use super::{digits_file, expect_all, expect_no_file};
 use cord_io::{CutFiles, Files, FuseFiles, OpenFault};
+use std::process::Abort;
 
 // Over a fuse of three calls, one of which is spent, and one for the opening.
 const THREE_CALLS: &[Ask] = &[
@@ -19,31 +21,45 @@ const CUT_INSIDE: &[Ask] = &[Fault(4), Failures(1), Read(1, 8, b"123"), Failures
 // Over a fuse of one call, which is the opening.
 const ONE_CALL: &[Ask] = &[Failures(0), Open("digits", OpenFault::Failed), Failures(1)];
 
+// Opens the digits and asks then; so many calls of the files inside have failed in the end.
+fn expect_fused<F: Files>(rt: &impl Abort, files: &mut FuseFiles<F>, asks: &[Ask], inside: u64) {
+    expect_all(rt, files, "digits", asks);
+    expect_case(rt, files.inner().failures() == inside, "inside", inside);
+}
+
+// That a path can't be opened, and how many calls have failed then.
+fn expect_unopened<F: Files>(
+    rt: &impl Abort,
+    files: &mut FuseFiles<F>,
+    path: &str,
+    fault: OpenFault,
+    failures: u64,
+) {
+    expect_no_file(rt, files, path, fault);
+    expect_case(rt, files.failures() == failures, path, failures);
+}
+
 #[test]
 fn files_pass_so_many_calls(rt: HostRuntime) {
     let mut files = FuseFiles::new(digits_file(&rt, rt.alloc()), 3);
-    expect_no_file(&rt, &mut files, "letters", OpenFault::NotFound);
-    assert!(rt; files.failures() == 0);
-    expect_all(&rt, &mut files, "digits", THREE_CALLS);
-    assert!(rt; files.inner().failures() == 0);
+    expect_unopened(&rt, &mut files, "letters", OpenFault::NotFound, 0);
+    expect_fused(&rt, &mut files, THREE_CALLS, 0);
 }
 
 #[test]
 fn failures_of_the_files_inside_are_counted(rt: HostRuntime) {
-    let mut files = FuseFiles::new(CutFiles::new(digits_file(&rt, rt.alloc()), 4), 4);
-    expect_all(&rt, &mut files, "digits", CUT_INSIDE);
-    assert!(rt; files.inner().failures() == 1);
+    let cut = CutFiles::new(digits_file(&rt, rt.alloc()), 4);
+    expect_fused(&rt, &mut FuseFiles::new(cut, 4), CUT_INSIDE, 1);
 }
 
 #[test]
 fn a_spent_fuse_opens_nothing(rt: HostRuntime) {
     let mut files = FuseFiles::new(digits_file(&rt, rt.alloc()), 0);
-    expect_no_file(&rt, &mut files, "digits", OpenFault::Failed);
-    assert!(rt; files.failures() == 1);
+    expect_unopened(&rt, &mut files, "digits", OpenFault::Failed, 1);
 }
 
 #[test]
 fn a_fuse_of_one_call_opens_once(rt: HostRuntime) {
     let mut files = FuseFiles::new(digits_file(&rt, rt.alloc()), 1);
-    expect_all(&rt, &mut files, "digits", ONE_CALL);
+    expect_fused(&rt, &mut files, ONE_CALL, 0);
 }

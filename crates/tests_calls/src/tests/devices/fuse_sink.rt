@@ -1,7 +1,9 @@
 // What a sink with a fuse passes, and what it answers when that is spent.
+use super::super::cases::expect_case;
 use super::Offer::{self, Failed, Finished, Refused, Taken, Unfinished};
 use super::expect_offers;
 use cord_io::{FuseSink, MemSink, Sink};
+use std::process::Abort;
 
 // Over a fuse of three calls of at most two bytes.
 const THREE_CALLS: &[Offer] = &[
@@ -17,19 +19,27 @@ const THREE_CALLS: &[Offer] = &[
 // Over a fuse of four calls of at most three bytes, whose sink passes one.
 const ONE_CALL_INSIDE: &[Offer] = &[Taken(b"hello", 3), Refused(b"lo"), Unfinished, Failed(2)];
 
+// Makes offers to a sink over a fuse; so many calls of the sink inside have failed then.
+fn expect_fused<S: Sink>(rt: &impl Abort, sink: &mut FuseSink<S>, offers: &[Offer], inside: u64) {
+    expect_offers(rt, sink, offers);
+    expect_case(rt, sink.inner().failures() == inside, "inside", inside);
+}
+
+fn expect_bytes(rt: &impl Abort, sink: &MemSink, bytes: &[u8]) {
+    assert!(rt; sink.bytes() == bytes);
+}
+
 #[test]
 fn a_sink_passes_so_many_calls(rt: HostRuntime) {
     let mut sink = FuseSink::new(MemSink::new(rt.alloc()), 3, 2);
-    expect_offers(&rt, &mut sink, THREE_CALLS);
-    assert!(rt; sink.inner().bytes() == b"hel".as_slice());
-    assert!(rt; sink.inner().failures() == 0);
+    expect_fused(&rt, &mut sink, THREE_CALLS, 0);
+    expect_bytes(&rt, sink.inner(), b"hel");
 }
 
 #[test]
 fn failures_of_the_sink_inside_are_counted(rt: HostRuntime) {
     let spent = FuseSink::new(MemSink::new(rt.alloc()), 1, 9);
     let mut sink = FuseSink::new(spent, 4, 3);
-    expect_offers(&rt, &mut sink, ONE_CALL_INSIDE);
-    assert!(rt; sink.inner().failures() == 2);
-    assert!(rt; sink.inner().inner().bytes() == b"hel".as_slice());
+    expect_fused(&rt, &mut sink, ONE_CALL_INSIDE, 2);
+    expect_bytes(&rt, sink.inner().inner(), b"hel");
 }
