@@ -85,7 +85,10 @@ pub use cord_io::{
 pub use cord_iter::{Visitor, iter, iter5, put, riter, riter4, to_vec};
 pub use cord_pos::{Position, Span};
 pub use cord_printf::{Arg, Format, FormatError, PrintError, sprintf, sprintf_len};
-pub use cord_search::{MOST_BYTES, chr, cmp, fetch, find_bytes, ncmp, rchr, str, str as find};
+pub use cord_search::{
+    MOST_BYTES, chr, cmp, fetch, find_bytes, find_bytes_in, ncmp, rchr, rstr, str, str as find,
+    str_in,
+};
 pub use doubling::repeated;
 pub use editor::TextEditor;
 pub use lines::Lines;

@@ -1,12 +1,13 @@
 // What stands where in a text.
 ghost use Rattle.std.specs.Prelude.{◌≡◌, ◌↔◌, ◌+◌, ◌<◌, ◌≤◌, [], ◌∷◌, IfOk, IfSome, IsOk, IsOkUnless};
-ghost use Rattle.std.specs.Prelude.{IsTrue, Some, drop, length, slice_get};
+ghost use Rattle.std.specs.Prelude.{IsTrue, Some, take, drop, length, slice_get};
 ghost use Rattle.cord_core.specs.Texts.{first};
+ghost use Rattle.cord_search.specs.LastTexts.{last_text};
 ghost use Rattle.cord.specs.Places.{last_before, BeginsWith, EndsWith};
 
 use crate::{NoSource, Text};
 use cord_io::{CordError, MAX_LEN};
-use cord_search::{MOST_BYTES, chr, fetch, find_bytes, rchr, str};
+use cord_search::{MOST_BYTES, chr, fetch, find_bytes, rchr, rstr, str, str_in};
 use std::alloc::Global;
 
 impl Text {
@@ -33,6 +34,48 @@ impl Text {
             unreachable!()
         };
         place
+    }
+
+    /// As `find_text`, in the first `end` bytes: the first place from `start` on where the bytes of `pattern` stand and
+    /// end at `end` or before.
+    pub fn find_text_in(&self, pattern: &Text, start: u64, end: u64) -> Option<u64>
+        ensures first { result ≡ first (take end self.now) start pattern.now }
+        ensures from { IfSome result (λ place. start ≤ place) }
+        ensures before { IfSome result (λ place. place + length pattern.now ≤ end) }
+        ensures inside { IfSome result (λ place. place + length pattern.now ≤ length self.now) }
+    {
+        let Ok(place) = str_in(&self.cord, start, end, &pattern.cord, &mut NoSource) else {
+            unreachable!()
+        };
+        place
+    }
+
+    /// The last place where the bytes of `pattern` stand and end at `end` or before. No bytes stand last at `end`, or
+    /// at the end of the text. It takes a time linear in the pattern and in how far the place lies before `end`.
+    pub fn rfind_text(&self, pattern: &Text, end: u64) -> Option<u64>
+        ensures last { result ≡ last_text self.now end pattern.now }
+        ensures before { IfSome result (λ place. place + length pattern.now ≤ end) }
+        ensures inside { IfSome result (λ place. place + length pattern.now ≤ length self.now) }
+    {
+        let Ok(place) = rstr(&self.cord, end, &pattern.cord, &mut NoSource) else {
+            unreachable!()
+        };
+        place
+    }
+
+    /// As `rfind_text`, of some bytes, which are copied: so memory may be refused. A pattern that is longer than the
+    /// text isn't.
+    pub fn rfind(&self, alloc: Global, pattern: &[u8], end: u64) -> Result<Option<u64>, CordError>
+        ensures last { IfOk result (λ found. found ≡ last_text self.now end pattern.now) }
+        ensures before { IfOk result (λ found. IfSome found (λ place. place + length pattern.now ≤ end)) }
+        ensures inside { IfOk result (λ found. IfSome found (λ place. place + length pattern.now ≤ length self.now)) }
+        ensures refused { IsOkUnless result CordError.NoMemory }
+    {
+        if self.len() < pattern.len() as u64 {
+            return Ok(None);
+        }
+        let pattern = Text::from_bytes(alloc, pattern)?;
+        Ok(self.rfind_text(&pattern, end))
     }
 
     /// The first place from `start` on where `pattern` stands. No bytes stand at each place up to the end. Only a

@@ -184,6 +184,8 @@ enum Ask {
     First(u8, u64, Option<u64>),
     // Where a byte stands last, before a place.
     Last(u8, u64, Option<u64>),
+    FindIn(&'static [u8], u64, u64, Option<u64>),
+    FindLast(&'static [u8], u64, Option<u64>),
     StartsWith(&'static [u8], bool),
     EndsWith(&'static [u8], bool),
     // How it compares with these bytes.
@@ -194,7 +196,9 @@ enum Ask {
     Line(u64, Option<&'static [u8]>),
 }
 
-use Ask::{Byte, Count, EndsWith, Find, First, Last, Len, Line, Order, StartsWith};
+use Ask::{
+    Byte, Count, EndsWith, Find, FindIn, FindLast, First, Last, Len, Line, Order, StartsWith,
+};
 
 // Of "hello world".
 const OF_HELLO: &[Ask] = &[
@@ -207,6 +211,13 @@ const OF_HELLO: &[Ask] = &[
     First(b'l', 11, None),
     Last(b'o', 7, Some(4)),
     Last(b'o', 99, Some(7)),
+    FindIn(b"o", 0, 5, Some(4)),
+    FindIn(b"o", 0, 4, None),
+    FindIn(b"", 3, 2, None),
+    FindLast(b"o", 99, Some(7)),
+    FindLast(b"o", 7, Some(4)),
+    FindLast(b"o", 4, None),
+    FindLast(b"", 3, Some(3)),
     StartsWith(b"hello ", true),
     StartsWith(b"hello world!", false),
     EndsWith(b"o world", true),
@@ -237,6 +248,17 @@ fn is_found(
     text.find(alloc, pattern, start).expect(rt, "no memory") == wanted
 }
 
+fn is_last(
+    rt: &impl Abort,
+    alloc: Global,
+    text: &Text,
+    (pattern, end): (&[u8], u64),
+    wanted: Option<u64>,
+) -> bool {
+    let found = text.rfind(alloc, pattern, end).expect(rt, "no memory");
+    found == wanted && text.rfind_text(&text_of(rt, alloc, pattern), end) == wanted
+}
+
 fn is_order(rt: &impl Abort, alloc: Global, text: &Text, other: &[u8], order: Ordering) -> bool {
     let other = text_of(rt, alloc, other);
     let named = text.compare(&other) == order && text.cmp(&other) == order;
@@ -257,6 +279,10 @@ fn answers(rt: &impl Abort, alloc: Global, text: &Text, ask: Ask) -> bool {
         Find(pattern, start, wanted) => is_found(rt, alloc, text, (pattern, start), wanted),
         First(byte, start, wanted) => text.find_byte(byte, start) == wanted,
         Last(byte, end, wanted) => text.rfind_byte(byte, end) == wanted,
+        FindIn(pattern, start, end, wanted) => {
+            text.find_text_in(&text_of(rt, alloc, pattern), start, end) == wanted
+        }
+        FindLast(pattern, end, wanted) => is_last(rt, alloc, text, (pattern, end), wanted),
         StartsWith(bytes, wanted) => text.starts_with(bytes) == wanted,
         EndsWith(bytes, wanted) => text.ends_with(bytes) == wanted,
         Order(other, order) => is_order(rt, alloc, text, other, order),

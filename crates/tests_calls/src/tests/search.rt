@@ -4,7 +4,9 @@ use super::entry::six_hundred;
 use super::made::{Part, Parts, longer, made};
 use Part::{Func, Leaf, Run, Twice};
 use cord_io::{CordError, MAX_LEN, Source};
-use cord_search::{MOST_BYTES, chr, cmp, fetch, find_bytes, ncmp, rchr, str};
+use cord_search::{
+    MOST_BYTES, chr, cmp, fetch, find_bytes, find_bytes_in, ncmp, rchr, rstr, str, str_in,
+};
 use std::alloc::Global;
 use std::process::Abort;
 
@@ -432,6 +434,40 @@ fn expect_bytes(
     let cord = made(rt, alloc, parts);
     let found = find_bytes(&cord, from, bytes, &mut six_hundred((reads, u64::MAX)));
     expect_case(rt, found == answer, name, from);
+}
+
+// What ends before a place: the first place of a pattern from the front on, and the last one.
+const WITHIN: &[(Parts, u64, &[u8], Option<u64>, Option<u64>)] = &[
+    (ABABC, 5, b"ab", Some(0), Some(2)),
+    (ABABC, 3, b"ab", Some(0), Some(0)),
+    (ABABC, 1, b"ab", None, None),
+    (ABABC, 9, b"abc", Some(2), Some(2)),
+    (ABABC, 4, b"abc", None, None),
+    (&[Run(b'a', 2), Leaf(b"ab")], 9, b"aa", Some(0), Some(1)),
+    (
+        RUN_AND_LEAF,
+        MAX_LEN,
+        b"aab",
+        Some(MAX_LEN - 3),
+        Some(MAX_LEN - 3),
+    ),
+    (RUN_AND_LEAF, MAX_LEN - 1, b"aab", None, None),
+    (RUN_AND_LEAF, MAX_LEN - 1, b"aa", Some(0), Some(MAX_LEN - 3)),
+];
+
+#[test]
+fn cases_before_an_end(rt: HostRuntime) {
+    for &(parts, end, bytes, first, last) in WITHIN {
+        let cord = made(&rt, rt.alloc(), parts);
+        let pattern = made(&rt, rt.alloc(), &[Leaf(bytes)]);
+        let mut source = six_hundred(NONE);
+        let found = str_in(&cord, 0, end, &pattern, &mut source);
+        let by_bytes = find_bytes_in(&cord, 0, end, bytes, &mut source);
+        let found_last = rstr(&cord, end, &pattern, &mut source);
+        expect_case(&rt, found == Ok(first), "str_in", end);
+        expect_case(&rt, by_bytes == Ok(first), "find_bytes_in", end);
+        expect_case(&rt, found_last == Ok(last), "rstr", end);
+    }
 }
 
 #[test]
