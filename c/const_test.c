@@ -110,6 +110,9 @@ static void make(void) {
     DO(zc_splice(&out, 1, 2, &held->y));
     EXPECT(zc_str(&held->x, 0, &held->y, &at) == ZC_OK && at == 4000);
     EXPECT(zc_find(&held->x, 0, "\none", 4, &at) == ZC_OK && at == 5078);
+    EXPECT(zc_str_in(&held->x, 0, 9000, &held->y, &at) == ZC_OK && at == 4000);
+    EXPECT(zc_rstr(&held->x, 12900, &held->y, &at) == ZC_OK);
+    EXPECT(zc_rfind(&held->x, 12900, "one", 3, &at) == ZC_OK && at > 5078);
     EXPECT(zc_cmp(&held->x, &held->y, &order) == ZC_OK && order == -1);
     EXPECT(zc_equal(&held->x, &held->x, &order) == ZC_OK && order == 1);
     DO(zc_ncmp(&held->x, 4000, &held->y, 0, 3000, &order));

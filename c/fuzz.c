@@ -341,6 +341,14 @@ static uint64_t last_place(const text *x, uint64_t end, unsigned char byte) {
     return found == NULL ? ZC_NOT_FOUND : (uint64_t)(found - x->bytes);
 }
 
+static uint64_t last_place_of(const text *x, uint64_t end, const unsigned char *bytes, size_t count) {
+    uint64_t stop = smaller(end, x->count);
+    if (stop < count) return ZC_NOT_FOUND;
+    for (uint64_t at = stop - count + 1; at-- > 0;)
+        if (count == 0 || memcmp(x->bytes + at, bytes, count) == 0) return at;
+    return ZC_NOT_FOUND;
+}
+
 static int ends_with(const text *x, const text *end) {
     return end->count <= x->count && memcmp(x->bytes + x->count - end->count, end->bytes, end->count) == 0;
 }
@@ -359,11 +367,23 @@ static void search(size_t x, size_t y) {
     wanted = first_place(&texts[x], start, part.bytes, part.count);
     block = block_of(part.bytes, part.count);
     if (is_done(zc_find(&cords[x], start, block, part.count, &place))) CHECK(place == wanted);
+    wanted = last_place_of(&texts[x], start, part.bytes, part.count);
+    if (is_done(zc_rfind(&cords[x], start, block, part.count, &place))) CHECK(place == wanted);
     CHECK(zc_starts_with(&cords[x], block, part.count) == (first_place(&texts[x], 0, part.bytes, part.count) == 0));
     CHECK(zc_ends_with(&cords[x], block, part.count) == ends_with(&texts[x], &part));
     free(block);
     CHECK(zc_chr(&cords[x], start, byte, &place) == ZC_OK && place == first_place(&texts[x], start, &byte, 1));
     CHECK(zc_rchr(&cords[x], start, byte, &place) == ZC_OK && place == last_place(&texts[x], start, byte));
+}
+
+static void search_before(size_t x, size_t y, uint64_t start, uint64_t end) {
+    uint64_t place = 7;
+    text whole = texts[x];
+    whole.count = smaller(end, whole.count);
+    CHECK(zc_str_in(&cords[x], start, end, &cords[y], &place) == ZC_OK);
+    CHECK(place == first_place(&whole, start, texts[y].bytes, texts[y].count));
+    CHECK(zc_rstr(&cords[x], end, &cords[y], &place) == ZC_OK);
+    CHECK(place == last_place_of(&texts[x], end, texts[y].bytes, texts[y].count));
 }
 
 static void search_cord(size_t x, size_t y) {
@@ -373,6 +393,7 @@ static void search_cord(size_t x, size_t y) {
         CHECK(place == first_place(&texts[x], start, texts[y].bytes, texts[y].count));
     else
         CHECK(place == 7);
+    search_before(x, y, start, place_in(&texts[x]));
     for (size_t i = 0; i < texts[x].count; i++) count += texts[x].bytes[i] == byte;
     CHECK(zc_count(&cords[x], byte) == count);
 }

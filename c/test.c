@@ -38,6 +38,24 @@ static uint64_t place_of(zc_cord *x, uint64_t start, zc_cord *y) {
     return place;
 }
 
+static uint64_t place_before(zc_cord *x, uint64_t start, uint64_t end, zc_cord *y) {
+    uint64_t place = 12345;
+    DO(zc_str_in(x, start, end, y, &place));
+    return place;
+}
+
+static uint64_t last_place_of(zc_cord *x, uint64_t end, zc_cord *y) {
+    uint64_t place = 12345;
+    DO(zc_rstr(x, end, y, &place));
+    return place;
+}
+
+static uint64_t last_place_of_bytes(zc_cord *x, uint64_t end, const char *bytes) {
+    uint64_t place = 12345;
+    DO(zc_rfind(x, end, bytes, strlen(bytes), &place));
+    return place;
+}
+
 static uint64_t place_of_bytes(zc_cord *x, uint64_t start, const char *bytes) {
     uint64_t place = 12345;
     DO(zc_find(x, start, bytes, strlen(bytes), &place));
@@ -386,6 +404,33 @@ static void trees(void) {
     zc_free(&flat);
 }
 
+/* The last place among many, near the end or far from it, and over seams of parts. */
+static void searches_from_the_back(void) {
+    zc_cord word = ZC_EMPTY, many = ZC_EMPTY, run = ZC_EMPTY, both = ZC_EMPTY, long_run = ZC_EMPTY;
+    DO(zc_from_bytes("one two ", 8, &word));
+    DO(zc_repeat(&word, 100000, &many));
+    DO(zc_chars('x', UINT64_C(1) << 39, &run));
+    DO(zc_cat(&many, &run, &both));
+    EXPECT(last_place_of(&many, 800000, &word) == 799992);
+    EXPECT(last_place_of(&many, 799999, &word) == 799984);
+    EXPECT(last_place_of_bytes(&many, 799999, "o one t") == 799990);
+    EXPECT(last_place_of(&many, 7, &word) == ZC_NOT_FOUND);
+    EXPECT(last_place_of_bytes(&both, UINT64_MAX, "two x") == 799996);
+    EXPECT(last_place_of_bytes(&both, 800000, "two x") == ZC_NOT_FOUND);
+    EXPECT(last_place_of_bytes(&run, 5000, "xx") == 4998);
+    EXPECT(last_place_of_bytes(&both, UINT64_MAX, "xo") == ZC_NOT_FOUND);
+    DO(zc_chars('x', 20000, &long_run));
+    EXPECT(last_place_of(&both, 900000, &long_run) == 880000);
+    EXPECT(last_place_of(&both, 819999, &long_run) == ZC_NOT_FOUND);
+    EXPECT(place_before(&both, 0, 819999, &long_run) == ZC_NOT_FOUND);
+    EXPECT(place_before(&both, 0, 820000, &long_run) == 800000);
+    zc_free(&word);
+    zc_free(&many);
+    zc_free(&run);
+    zc_free(&both);
+    zc_free(&long_run);
+}
+
 static void searches(void) {
     zc_cord a = ZC_EMPTY, b = ZC_EMPTY;
     DO(zc_from_bytes("abcabcabd", 9, &a));
@@ -400,9 +445,24 @@ static void searches(void) {
     EXPECT(place_of(&a, 0, &b) == 0);
     EXPECT(place_of(&a, 9, &b) == 9);
     EXPECT(place_of(&a, 10, &b) == ZC_NOT_FOUND);
+    EXPECT(place_before(&a, 4, 4, &b) == 4);
+    EXPECT(place_before(&a, 5, 4, &b) == ZC_NOT_FOUND);
+    EXPECT(last_place_of(&a, 4, &b) == 4);
+    EXPECT(last_place_of(&a, UINT64_MAX, &b) == 9);
     DO(zc_from_bytes("abd", 3, &b));
     EXPECT(place_of(&a, 0, &b) == 6);
     EXPECT(place_of(&a, 7, &b) == ZC_NOT_FOUND);
+    EXPECT(place_before(&a, 0, 9, &b) == 6);
+    EXPECT(place_before(&a, 0, 8, &b) == ZC_NOT_FOUND);
+    EXPECT(place_before(&a, 6, UINT64_MAX, &b) == 6);
+    EXPECT(last_place_of(&a, 9, &b) == 6);
+    EXPECT(last_place_of(&a, 8, &b) == ZC_NOT_FOUND);
+    EXPECT(last_place_of_bytes(&a, 9, "abc") == 3);
+    EXPECT(last_place_of_bytes(&a, 5, "abc") == 0);
+    EXPECT(last_place_of_bytes(&a, 2, "abc") == ZC_NOT_FOUND);
+    EXPECT(last_place_of_bytes(&a, 9, "abcabcabdx") == ZC_NOT_FOUND);
+    EXPECT(last_place_of_bytes(&a, 9, "") == 9);
+    searches_from_the_back();
     EXPECT(place_of_bytes(&a, 0, "abd") == 6);
     EXPECT(place_of_bytes(&a, 2, "bca") == 4);
     EXPECT(place_of_bytes(&a, 7, "abd") == ZC_NOT_FOUND);
@@ -545,6 +605,10 @@ static void nulls(void) {
     EXPECT(zc_str(none, 0, &a, &place) == ZC_NULL);
     EXPECT(zc_str(&a, 0, none, &place) == ZC_NULL);
     EXPECT(zc_str(&a, 0, &b, no_place) == ZC_NULL);
+    EXPECT(zc_str_in(none, 0, 9, &a, &place) == ZC_NULL && zc_str_in(&a, 0, 9, none, &place) == ZC_NULL);
+    EXPECT(zc_str_in(&a, 0, 9, &b, no_place) == ZC_NULL && zc_rstr(&a, 9, &b, no_place) == ZC_NULL);
+    EXPECT(zc_rstr(none, 9, &a, &place) == ZC_NULL && zc_rstr(&a, 9, none, &place) == ZC_NULL);
+    EXPECT(zc_rfind(none, 9, "a", 1, &place) == ZC_NULL && zc_rfind(&a, 9, "a", 1, no_place) == ZC_NULL);
     EXPECT(zc_find(none, 0, "a", 1, &place) == ZC_NULL);
     EXPECT(zc_find(&a, 0, "a", 1, no_place) == ZC_NULL);
     EXPECT(zc_cmp(none, &a, &order) == ZC_NULL);

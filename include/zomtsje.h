@@ -168,6 +168,17 @@ int zc_rchr(const zc_cord *x, uint64_t end, unsigned char byte, uint64_t *place)
    each place up to the end. It takes no memory. O(n) in both texts. */
 int zc_str(const zc_cord *x, uint64_t start, const zc_cord *y, uint64_t *place);
 
+/* As zc_str, in the first end bytes of x: the bytes of y end at end or before. What lies behind isn't searched. */
+int zc_str_in(const zc_cord *x, uint64_t start, uint64_t end, const zc_cord *y, uint64_t *place);
+
+/* Writes the last place of x where the bytes of y stand and end at end or before to *place, or ZC_NOT_FOUND. No bytes
+   stand last at end, or at the end of x where that is less. It takes no memory. O(k + m log k), where m is the length of y, and
+   k how far the place lies before end. */
+int zc_rstr(const zc_cord *x, uint64_t end, const zc_cord *y, uint64_t *place);
+
+/* As zc_rstr, of these bytes, which are copied unless x is shorter. ZC_NO_MEMORY: *place stays. */
+int zc_rfind(const zc_cord *x, uint64_t end, const void *bytes, size_t count, uint64_t *place);
+
 /* As zc_str, of these bytes. Up to 16,384 of them take no memory; of more, ZC_NO_MEMORY: *place stays. */
 int zc_find(const zc_cord *x, uint64_t start, const void *bytes, size_t count, uint64_t *place);
 

@@ -232,6 +232,18 @@ public:
         zc_chr(raw(), start, static_cast<unsigned char>(byte), &place);
         return place;
     }
+    // The last place that some bytes have at or before a place.
+    size_type rfind(std::string_view bytes, size_type last = npos) const {
+        size_type place = npos;
+        detail::check(zc_rfind(raw(), end_of(last, bytes.size()), bytes.data(), bytes.size(), &place));
+        return place;
+    }
+    size_type rfind(const char *bytes, size_type last = npos) const { return rfind(std::string_view(bytes), last); }
+    size_type rfind(const cord &bytes, size_type last = npos) const {
+        size_type place = npos;
+        detail::check(zc_rstr(raw(), end_of(last, bytes.size()), bytes.raw(), &place));
+        return place;
+    }
     // The last place of a byte at or before a place.
     size_type rfind(char byte, size_type last = npos) const noexcept {
         size_type place = npos;
@@ -277,6 +289,10 @@ public:
     zc_cord *raw() noexcept { return &handle_; }
 
 private:
+    // Where bytes end that stand at a place: past all ends where the sum is too big.
+    static size_type end_of(size_type place, size_type count) noexcept {
+        return place > npos - count ? npos : place + count;
+    }
     std::int32_t order(size_type start, const cord &other, size_type count) const {
         std::int32_t found = 0;
         detail::check(zc_ncmp(raw(), start, other.raw(), 0, count, &found));

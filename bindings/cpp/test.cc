@@ -87,6 +87,8 @@ static void searches() {
     const std::string y = "abcabcabd";
     EXPECT(x.find("abd") == y.find("abd") && x.find("abc", 1) == y.find("abc", 1) && x.find("x") == cord::npos);
     EXPECT(x.find('c', 3) == y.find('c', 3) && x.rfind('c') == y.rfind('c') && x.rfind('c', 5) == y.rfind('c', 5));
+    EXPECT(x.rfind("c") == y.rfind("c") && x.rfind("bc", 4) == y.rfind("bc", 4) && x.rfind("") == y.rfind(""));
+    EXPECT(x.rfind(cord("bc")) == y.rfind("bc") && x.rfind("zz") == cord::npos && x.rfind("", 2) == y.rfind("", 2));
     EXPECT(x.rfind('c', 4) == y.rfind('c', 4) && x.rfind('c', 1) == cord::npos && x.find("") == 0);
     EXPECT(x.find(cord("bd")) == 7 && x.contains("cab") && !x.contains("cc") && x.count('a') == 3);
     EXPECT(x.starts_with("abc") && !x.starts_with("bc") && x.starts_with("") && x.starts_with(x) && !x.starts_with(x + "!"));

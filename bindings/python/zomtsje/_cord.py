@@ -249,11 +249,11 @@ class Cord:
         within = range_of(start, end, self._length)
         if within.start > within.stop:
             return -1
-        if within.stop < self._length:
-            found = self._part(within.start, within.stop).find(sub)
-            return found if found < 0 else found + within.start
         place = c_uint64()
-        if isinstance(sub, int):
+        if within.stop < self._length:
+            wanted = bytes([self._byte(sub)]) if isinstance(sub, int) else sub
+            zc.zc_str_in(self._handle, within.start, within.stop, as_cord(wanted)._handle, byref(place))
+        elif isinstance(sub, int):
             zc.zc_chr(self._handle, within.start, self._byte(sub), byref(place))
         elif isinstance(sub, Cord):
             zc.zc_str(self._handle, within.start, sub._handle, byref(place))
@@ -265,19 +265,15 @@ class Cord:
         """The last place where some bytes, or one, stand; -1 where they don't."""
         within = range_of(start, end, self._length)
         first, last = within.start, within.stop
+        place = c_uint64()
         if isinstance(sub, int):
-            place = c_uint64()
             zc.zc_rchr(self._handle, last, self._byte(sub), byref(place))
             return -1 if place.value == NOT_FOUND or place.value < first else place.value
-        wanted = bytes(sub)
-        high = last - len(wanted)  # the last place where it has room
-        while high >= first:
-            low = max(high - BLOCK, first)
-            at = self.read(low, high + len(wanted) - low).rfind(wanted)
-            if at >= 0:
-                return low + at
-            high = low - 1
-        return -1
+        if first > last:
+            return -1
+        part = self._part(first, last) if first else self
+        zc.zc_rstr(part._handle, last - first, as_cord(sub)._handle, byref(place))
+        return -1 if place.value == NOT_FOUND else first + place.value
 
     @staticmethod
     def _byte(value: int) -> int:

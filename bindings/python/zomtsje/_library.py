@@ -57,6 +57,8 @@ CODED: dict[str, list[type]] = {
     "zc_equal": [CORD, CORD, ORDER],
     "zc_str": [CORD, U64, CORD, PLACE],
     "zc_find": [CORD, U64, c_char_p, c_size_t, PLACE],
+    "zc_str_in": [CORD, U64, U64, CORD, PLACE],
+    "zc_rstr": [CORD, U64, CORD, PLACE],
     "zc_cmp": [CORD, CORD, ORDER],
     "zc_ncmp": [CORD, U64, CORD, U64, U64, ORDER],
     "zc_read": [CORD, U64, c_void_p, c_size_t, SIZE],

@@ -10,6 +10,7 @@ mod editing;
 mod editor;
 mod extend;
 mod extensible;
+mod find;
 mod handle;
 mod lazy;
 mod lazy_make;

@@ -189,6 +189,20 @@ impl Cord {
         found(place)
     }
 
+    /// The last place where some bytes stand.
+    pub fn rfind(&self, bytes: impl AsRef<[u8]>) -> Option<u64> {
+        self.rfind_before(self.len(), bytes)
+    }
+
+    /// The last place where some bytes stand and end at `end` or before. No bytes stand last at `end`, or at the end of
+    /// the cord.
+    pub fn rfind_before(&self, end: u64, bytes: impl AsRef<[u8]>) -> Option<u64> {
+        let (bytes, mut place) = (bytes.as_ref(), sys::ZC_NOT_FOUND);
+        let code = unsafe { sys::zc_rfind(self.raw(), end, bytes.as_ptr().cast(), bytes.len(), &mut place) };
+        infallible(checked(code));
+        found(place)
+    }
+
     /// Whether some bytes stand in it.
     pub fn contains(&self, bytes: impl AsRef<[u8]>) -> bool {
         self.find(bytes).is_some()
