@@ -8,11 +8,11 @@ use Rattle.cord_core.specs.Cord.{text_len, IsCord, bytes_of}
 use Rattle.cord_core.specs.Equations.{HasText}
 use Rattle.cord_ec.specs.Grown.{bytes_of_cells}
 
--- a table whose entries are all empty
+-- a table whose sources are all empty
 abbrev pub no_table : Table
 no_table id = []
 
--- the lengths of its entries
+-- the lengths of its sources
 abbrev pub no_lengths : Lengths
 no_lengths id = Some 0
 

@@ -7,8 +7,8 @@ use cord_io::{CordError, MAX_LEN};
 use std::alloc::Global;
 
 impl Text {
-    /// The bytes from `start` on, at most `count` of them: none where `start` is at or past the end. Refused for want
-    /// of memory alone.
+    /// The bytes from `start` on, at most `count` of them: none where `start` is at or past the end. Refused only
+    /// when out of memory.
     pub fn substr(&self, alloc: Global, start: u64, count: u64) -> Result<Text, CordError>
         ensures text { IfOk result (λ t. t ≡ take count (drop start self.now)) }
         ensures refused { IsOkUnless result CordError.NoMemory }
@@ -17,8 +17,8 @@ impl Text {
         Ok(Text { cord })
     }
 
-    /// The bytes before `at`, and those from `at` on: all and none where `at` is at or past the end. Refused for want
-    /// of memory alone.
+    /// The bytes before `at`, and those from `at` on: all and none where `at` is at or past the end. Refused only
+    /// when out of memory.
     pub fn split_at(&self, alloc: Global, at: u64) -> Result<(Text, Text), CordError>
         ensures prefix { IfOk result (λ parts. parts.0 ≡ take at self.now) }
         ensures back { IfOk result (λ parts. parts.1 ≡ drop at self.now) }

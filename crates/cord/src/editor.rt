@@ -79,8 +79,8 @@ impl TextEditor {
         Ok(())
     }
 
-    /// Takes out at most `count` bytes from `start` on: none where `start` is at or past the end. Refused when out of
-    /// memory alone.
+    /// Takes out at most `count` bytes from `start` on: none where `start` is at or past the end. Refused only when
+    /// out of memory.
     pub fn remove(&mut self, alloc: Global, start: u64, count: u64) -> Result<(), CordError>
         ensures text { OnOk result (self.new ≡ take start self.old ++ drop (start + count) self.old) }
         ensures unchanged { IsErr result → self.new ≡ self.old }

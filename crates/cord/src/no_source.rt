@@ -1,7 +1,7 @@
 // The source of texts over no files.
 use cord_io::{ReadFault, Source, SourceId};
 
-/// A source whose entries are all empty: the source for a cord over no files.
+/// A table whose sources are all empty: what is read for a cord over no files.
 #[derive(Clone, Copy)]
 pub struct NoSource;
 

@@ -144,8 +144,8 @@ impl Handle {
         *self = Handle::of(Raw::of(held));
     }
 
-    /// Holds this from now on, and frees what it held, whose place on the heap it takes. Refused when out of memory
-    /// alone, where the pointer is null: then it stays.
+    /// Holds this from now on, and frees what it held, whose place on the heap it takes. Refused only when out of
+    /// memory, where the pointer is null: then it stays.
     pub(crate) fn keep(&mut self, alloc: Global, referent: Referent) -> i32
         ensures held { result ≡ OK → self.new.referent ≡ referent }
         ensures same { (result ≡ OK) ⊎ (self.new.referent ≡ self.old.referent) }

@@ -176,7 +176,7 @@ pub extern "C" fn zc_ends_with(x: &mut Handle, bytes: &[u8]) -> i32
     truth(x.text(&Text::empty()).ends_with(bytes))
 }
 
-// An answer as C is told it.
+// An answer as C gets it.
 fn truth(answer: bool) -> i32
     ensures answer { (result ≡ pos 1) ↔ IsTrue answer }
     ensures number { (result ≡ pos 0) ⊎ (result ≡ pos 1) }
@@ -250,7 +250,7 @@ pub extern "C" fn zc_ncmp(
     OK
 }
 
-// An order as C is told it.
+// An order as C gets it.
 fn sign(ordering: Ordering) -> i32
     ensures { result ≡ sign_of ordering }
 {

@@ -104,13 +104,13 @@ all_over xs c s e =
       bytes = λ t f. bytes-text t c (fits (lengths_of t) f) ∙ (rw (e, bytes-all_text t xs f) refl);
     }
 
--- where no entry is shorter, what fitted fits
+-- where no source is shorter, what fitted fits
 pub CordFitsIn-longer : (ls ms : Lengths) (c : Option Node) → ((id : ℕ) → length_at ls id ≤ length_at ms id) → CordFitsIn ls c →
     CordFitsIn ms c
 CordFitsIn-longer ls ms None h f = tt
 CordFitsIn-longer ls ms (Some n) h f = FitsIn-longer ls ms n h f
 
--- what fits the lengths that are told of a table fits the table
+-- what fits the lengths that are reported of a table fits the table
 pub CordFits-reported : (ls : Lengths) (t : Table) (c : Option Node) → HasLengths ls t → CordFitsIn ls c → CordFits t c
 CordFits-reported ls t None h f = tt
 CordFits-reported ls t (Some n) h f = Fits-reported ls t n h f

@@ -34,7 +34,7 @@ leaf_over b (Some (Run byte len)) f = absurd f
 leaf_over b (Some (Func id len start)) f = absurd f
 leaf_over b (Some (Cat' mark depth len p left q right count)) f = absurd f
 
--- at least one byte of an entry
+-- at least one byte of a source
 pub range_over : (id s n : ℕ) (c : Option Node) → 0 < n → IsFuncOf id s n c → IsEntryRange id s n c
 range_over id s n None some f = absurd (omega (arith, some, f))
 range_over id s n (Some (Leaf len bytes start mark)) some f = absurd f

@@ -12,12 +12,12 @@ abbrev pub bytes_of : Table → Option Node → List ℕ
 bytes_of t None = []
 bytes_of t (Some n) = bytes_over t n
 
--- each function part of it lies inside an entry of this length
+-- each function part of it lies inside a source of this length
 abbrev pub CordFitsIn : Lengths → Option Node → Type 0
 CordFitsIn lengths None = ⊤
 CordFitsIn lengths (Some n) = FitsIn lengths n
 
--- each function part of it lies inside an entry of the table
+-- each function part of it lies inside a source of the table
 abbrev pub CordFits : Table → Option Node → Type 0
 CordFits t c = CordFitsIn (lengths_of t) c
 

@@ -20,7 +20,7 @@ IsRunOf b n (Some (Run byte len)) = (byte ≡ b) × (len ≡ n)
 IsRunOf b n (Some (Func id len start)) = ⊥
 IsRunOf b n (Some (Cat' mark depth len p left q right count)) = ⊥
 
--- one `Func` of n bytes of the entry from s on; empty where n is 0
+-- one `Func` of n bytes of the source from s on; empty where n is 0
 abbrev pub IsFuncOf : ℕ → ℕ → ℕ → Option Node → Type 0
 IsFuncOf i s n None = n ≡ 0
 IsFuncOf i s n (Some (Leaf len bytes start mark)) = ⊥

@@ -14,8 +14,8 @@ use std::alloc::Global;
 
 impl Cord {
     /// The bytes from `i` on, at most `n` of them: nothing where `i` is at or past the end. Whole subtrees and the
-    /// bytes of leaves are shared. No more parts than those that have a byte in the range. Refused when out of memory
-    /// alone.
+    /// bytes of leaves are shared. No more parts than those that have a byte in the range. Refused only when out of
+    /// memory.
     #[tactic(auto, using(crate::proofs::CordLemmas::ranges))]
     pub fn substr(&self, alloc: Global, i: u64, n: u64) -> Result<Cord, CordError>
         ensures text { IfOk result (λ c. text c ≡ take n (drop i (text self.now))) }
@@ -36,8 +36,8 @@ impl Cord {
         Ok(Cord { root: Some(part) })
     }
 
-    /// The same text in a tree no deeper than `slot_of` its number of parts, and so of its length. Refused when out of
-    /// memory alone.
+    /// The same text in a tree no deeper than `slot_of` its number of parts, and so of its length. Refused only when
+    /// out of memory.
     pub fn balance(&self, alloc: Global) -> Result<Cord, CordError>
         ensures text { IfOk result (λ c. text c ≡ text self.now) }
         ensures over { IfOk result (IsSameText self.now) }

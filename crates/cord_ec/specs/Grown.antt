@@ -10,7 +10,7 @@ use Rattle.cord_core.specs.Cord.{bytes_of, CordFitsIn, CordFits}
 abbrev pub bytes_of_cells : Table → List Cell → List ℕ
 bytes_of_cells t xs = map (byte_at t) xs
 
--- each place of the text that a source holds lies inside an entry of the table
+-- each place of the text that a source holds lies inside a source of the table
 abbrev pub TextFits : Table → List Cell → Type 0
 TextFits t xs = AreHeldIn (lengths_of t) xs
 

@@ -10,7 +10,7 @@ use Rattle.cord_node.specs.Tree.{Cell, known}
 use Rattle.cord_edit.specs.Edits.{edited}
 
 module _ {X : Type 0} where
-  -- the prefix of two lists, and what is behind it
+  -- the prefix of two lists, and what is after it
   take_both : (n : ℕ) (xs ys : List X) → take n (xs ++ ys) ≡ take n xs ++ take (n - length xs) ys
   take_both zero xs ys = let e : 0 - length xs ≡ 0 = omega arith in rw e refl
   take_both (suc n) [] ys = let e : suc n - 0 ≡ suc n = omega arith in rw e refl
@@ -31,7 +31,7 @@ module _ {X : Type 0} where
       let e : min (suc n) (suc m) ≡ suc (min n m) = omega arith in
       rw e (ap (λ (zs : List X). x ∷ zs) (take_twice m n xs))
 
-  -- bytes that were written behind a range, and in front of it
+  -- bytes that were written after a range, and in front of it
   pub range_longer : (xs b : List X) (start end n : ℕ) → start ≤ end → end ≤ length xs → n ≡ length b →
       slice_range (put_mid end n xs b) start (end + n) ≡ slice_range xs start end ++ b
   range_longer xs b start end n o i e =
@@ -56,7 +56,7 @@ module _ {X : Type 0} where
       ∙ ap (λ (ys : List X). ys ++ take (end - first - length b) (drop start xs)) all
       ∙ ap (λ (k : ℕ). b ++ take k (drop start xs)) left
 
-  -- an insert behind the gap's bytes g, and one in front of them
+  -- an insert after the gap's bytes g, and one in front of them
   pub inserted_after : (f g b d : List X) (at : ℕ) → at ≡ length f + length g → f ++ (g ++ b) ++ d ≡ edited at 0 b (f ++ g ++ d)
   inserted_after f g b d at e =
       let here : length (f ++ g) ≡ at = length-append f g ∙ sym e in

@@ -16,7 +16,7 @@ module _ (xs all : List Cell) (g : List ℕ) (front back len total : ℕ) (view 
   size : length (take front xs) ≡ front
   size = length-take-le front xs (omega (arith, counted, order, inside))
 
-  -- bytes behind those in the gap
+  -- bytes after those in the gap
   pub typed_after : (b h : List ℕ) (at start : ℕ) → h ≡ g ++ b → at ≡ min start total → at ≡ front + length g →
       gapped xs h front back ≡ edited start 0 (map known b) all
   typed_after b h at start added clamp here =

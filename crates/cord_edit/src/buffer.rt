@@ -140,7 +140,7 @@ impl EditBuffer {
     }
 
     /// Puts the text of `middle`, whose tree is shared, in the place of the `count` bytes from `start` on, of those that
-    /// there are: from past the end on there are none, and `middle` comes last. The gap is then behind it.
+    /// there are: from past the end on there are none, and `middle` comes last. The gap is then after it.
     /// `TooLong` where the text would be longer than `MAX_LEN`, `NoMemory` where memory was refused. After either the
     /// text is as before.
     pub fn splice(
@@ -170,8 +170,8 @@ impl EditBuffer {
         Ok(())
     }
 
-    /// The text as a cord, which shares its tree with this one. The text stays, and can be edited further. Refused for
-    /// out of memory alone.
+    /// The text as a cord, which shares its tree with this one. The text stays, and can be edited further. Refused only
+    /// when out of memory.
     pub fn to_cord(&mut self, alloc: Global) -> Result<Cord, CordError>
         ensures text { IfOk result (λ c. text c ≡ self.old.text) }
         ensures over { IfOk result (IsCordOf self.old.text) }
@@ -214,7 +214,7 @@ impl EditBuffer {
 }
 
 // Puts the gap's bytes into the cord, in the place of those from `front` up to `back`, and empties it. Answers the place
-// behind them.
+// after them.
 fn flush(
     alloc: Global,
     cord: &mut Cord,

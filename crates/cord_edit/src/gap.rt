@@ -52,7 +52,7 @@ impl Gap {
         &self.room[self.start..self.end]
     }
 
-    // Whether so many bytes may come behind those that are there.
+    // Whether so many bytes may come after those that are there.
     pub(crate) fn fits_after(&self, count: usize) -> bool
         ensures room { result ≡ true → (self.now.end + count ≤ ROOM) × (self.now.end + count ≤ self.now.start + MOST) }
         ensures most { result ≡ true → length (gap_bytes self.now) + count ≤ MOST }

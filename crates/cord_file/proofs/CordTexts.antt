@@ -1,4 +1,4 @@
--- Cords over the entries of a table of files.
+-- Cords over the sources of a table of files.
 use Rattle.std.proofs.Common.{◌≡◌, ℕ, ◌-◌, ◌≤◌, List, length, Some, ap, ◌∙◌, inl, arith}
 use Rattle.std.specs.Prelude.{unwrap_or, Option, slice_get}
 use Rattle.std.proofs.lemmas.List.{take_all}
@@ -15,7 +15,7 @@ use Rattle.cord_file.specs.inner.Blocks.{AreRead}
 use Rattle.cord_file.proofs.EntryBytes.{entry_read}
 use Rattle.cord_file.specs.declared.files.OpenFile.{OpenFile}
 
--- the text of one part over the whole of an entry
+-- the text of one part over the whole of a source
 pub text_over : (file_system : FileSystem) (files : List OpenFile) (id len : ℕ) (cord : Option Node) →
     HasLengths (lengths_in (opened_of files)) (table_in (opened_of files) file_system) → lengths_in (opened_of files) id ≡ Some len →
     IsEntryRange id 0 len cord → bytes_of (table_in (opened_of files) file_system) cord ≡ table_in (opened_of files) file_system id
@@ -24,14 +24,14 @@ text_over file_system files id len cord long reported range =
     let all : length (t id) ≡ len = long id ∙ ap (λ o. unwrap_or o 0) reported in
     range.bytes t (inl (omega (arith, all))) ∙ take_all len (t id) (omega (arith, all))
 
--- one function part over the whole of an entry
+-- one function part over the whole of a source
 pub func_over : (files : List OpenFile) (id len : ℕ) (cord : Option Node) → lengths_in (opened_of files) id ≡ Some len →
     IsFuncOf id 0 len cord → IsEntryRange id 0 len cord → IsFuncOver (opened_of files) id len cord
 func_over files id len cord reported form range =
     let all : length_at (lengths_in (opened_of files)) id ≡ len = ap (λ o. unwrap_or o 0) reported in
     record { form = form; fits = range.fits (lengths_in (opened_of files)) (inl (omega (arith, all))) }
 
--- the bytes that were read of a whole entry
+-- the bytes that were read of a whole source
 pub entry_bytes : (file_system : FileSystem) (files : List OpenFile) (id len : ℕ) (bytes : List ℕ) → 2 ≤ id →
     HasLengths (lengths_in (opened_of files)) (table_in (opened_of files) file_system) → lengths_in (opened_of files) id ≡ Some len →
     length bytes ≡ len → AreRead file_system (slice_get files (id - 2)) 0 bytes → bytes ≡ table_in (opened_of files) file_system id

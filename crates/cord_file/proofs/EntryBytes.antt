@@ -1,4 +1,4 @@
--- What is read of an entry.
+-- What is read of a source.
 use Rattle.std.proofs.Common.{◌≡◌, ℕ, zero, suc, ◌+◌, ◌-◌, ◌<◌, ◌≤◌, List, [], ◌∷◌, length, take, drop, Option, Some, None, Result, Ok, Err}
 use Rattle.std.proofs.Common.{refl, sym, ap, subst, ◌∙◌, arith}
 use Rattle.std.specs.Prelude.{slice_get, slice_index, IsSomeAnd, OnOk, unwrap_or}
@@ -14,7 +14,7 @@ use Rattle.cord_file.specs.FileTable.{Opened, lengths_in, table_in}
 use Rattle.cord_file.specs.Files.{AreShortEnough, reported_of, opened_of}
 use Rattle.cord_file.specs.declared.files.OpenFile.{OpenFile}
 
--- the length of an entry that is a file
+-- the length of a source that is a file
 pub length_past : (opened : Opened) (id : ℕ) → 2 ≤ id → lengths_in opened id ≡ option_map (λ file. file.1) (slice_get opened (id - 2))
 length_past opened zero h = absurd (omega arith)
 length_past opened (suc zero) h = absurd (omega arith)
@@ -33,7 +33,7 @@ length_of_file files id o h e =
       both None = refl
       both (Some file) = refl
 
--- what holds of the length told of an entry that is a file holds of the file there
+-- what holds of the length reported of a source that is a file holds of the file there
 pub in_slot : (P : ℕ → Type 0) (files : List OpenFile) (id : ℕ) → 2 ≤ id → IsSomeAnd (lengths_in (opened_of files) id) P →
     IsSomeAnd (slice_get files (id - 2)) (λ file. P file.len)
 in_slot P files id h p = at (slice_get files (id - 2)) refl where
@@ -46,7 +46,7 @@ pub of_reported : (P : ℕ → Type 0) (reported : Option (List ℕ × ℕ)) (fi
     IsSomeAnd reported (λ t. P t.1)
 of_reported P reported file e p = subst (λ o. IsSomeAnd o (λ t. P t.1)) (sym e) p
 
--- no entry is longer than a cord can be
+-- no source is longer than a cord can be
 pub entry_limit : (files : List OpenFile) → AreShortEnough files → (id len : ℕ) → lengths_in (opened_of files) id ≡ Some len → len ≤ MAX_LEN
 entry_limit files short zero len e = let same : MAX_LEN ≡ len = cc in omega (arith, same)
 entry_limit files short (suc zero) len e = let same : MAX_LEN ≡ len = cc in omega (arith, same)
@@ -65,7 +65,7 @@ function_bytes file_system opened zero start out below inside each = function_re
 function_bytes file_system opened (suc zero) start out below inside each = function_read (suc zero) start out inside each
 function_bytes file_system opened (suc (suc n)) start out below inside each = absurd (omega arith)
 
--- the text of an entry that is a file
+-- the text of a source that is a file
 pub text_of_file : (file_system : FileSystem) (files : List OpenFile) (id : ℕ) (file : OpenFile) → 2 ≤ id → slice_get files (id - 2) ≡ Some
     file →
     table_in (opened_of files) file_system id ≡ bytes_at file_system (string_bytes file.path)
@@ -77,7 +77,7 @@ text_of_file file_system files (suc (suc n)) file h e =
     ap (λ o. unwrap_or (option_map (λ f. bytes_at file_system f.0) o) [])
     (slice_get-map reported_of files n ∙ ap (option_map reported_of) here)
 
--- the bytes of a file are those of its entry
+-- the bytes of a file are those of its source
 pub entry_read : (file_system : FileSystem) (files : List OpenFile) (id start : ℕ) (out : List ℕ) → 2 ≤ id →
     AreRead file_system (slice_get files (id - 2)) start out → out ≡ take (length out)
     (drop start (table_in (opened_of files) file_system id))

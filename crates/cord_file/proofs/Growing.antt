@@ -36,7 +36,7 @@ one_more [] x y (suc n) h = cc
 one_more (z ∷ xs) x y zero h = inl h
 one_more (z ∷ xs) x y (suc n) h = one_more xs x y n h
 
--- where the entry of a path stands
+-- where the source of a path stands
 pub id_place : (m : ℕ) (opened : Opened) (path : List ℕ) (id : ℕ) → id_from m opened path ≡ Some id → (n : ℕ) × (len : ℕ) × (id ≡ m + n) ×
     (slice_get opened n ≡ Some (path, len))
 id_place m [] path id h = cc
@@ -54,7 +54,7 @@ id_place m (file ∷ files) path id h =
           (suc rest.0, rest.1, omega (arith, rest.2), rest.3)
     ] refl
 
--- an entry keeps its id after more entries
+-- a source keeps its id after more sources
 pub id_kept : (m : ℕ) (opened more : Opened) (path : List ℕ) (id : ℕ) → id_from m opened path ≡ Some id →
     id_from m (opened ++ more) path ≡ Some id
 id_kept m [] more path id h = cc
@@ -97,7 +97,7 @@ texts_kept old more file_system (suc zero) h = refl
 texts_kept old more file_system (suc (suc n)) h = ap (λ o. unwrap_or (option_map (λ file. bytes_at file_system file.0) o) [])
     (kept_place (λ file. file.1) old more n h)
 
--- and so does one with more entries after all
+-- and so does one with more sources after all
 pub grows_after : (old more : Opened) → Grows old (old ++ more)
 grows_after old more = record {
   lengths = lengths_kept old more;
@@ -124,7 +124,7 @@ opens_again opened path id len known reported limit = record {
   fresh = λ none. cc;
 }
 
--- a path that isn't is added after all entries
+-- a path that isn't is added after all sources
 pub opens_after : (old : Opened) (path : List ℕ) (len : ℕ) → id_in old path ≡ None → length old < MAX_FILES → len ≤ MAX_LEN →
     Opens old (old ++ (path, len) ∷ []) path (length old + 2) len
 opens_after old path len none room limit =
@@ -138,6 +138,6 @@ opens_after old path len none room limit =
       fresh = λ e. (room, refl);
     }
 
--- an entry that is a file stands after the functions
+-- a source that is a file stands after the functions
 pub is_file : (opened : Opened) (path : List ℕ) (id : ℕ) → id_in opened path ≡ Some id → 2 ≤ id
 is_file opened path id h = let place = id_place 2 opened path id h in omega (arith, place.2)

@@ -45,7 +45,7 @@ pub found_there : (file_system : FileSystem) (path : List ℕ) (len : ℕ) → I
     IsFound file_system path len
 found_there file_system path len h = there_at (file_at file_system path) len h
 
--- an entry holds the file that was found
+-- a source holds the file that was found
 pub holds_file : (file_system : FileSystem) (opened : Opened) (path : List ℕ) (id len n : ℕ) → id ≡ suc (suc n) →
     slice_get opened n ≡ Some (path, len) → IsFound file_system path len → HoldsFile file_system opened path id len
 holds_file file_system opened path id len n e slot found =

@@ -18,7 +18,7 @@ pub record IsLeafOver (len : ℕ) (cord : Option Node) : Type 0 where
   pub text : HasText bytes cord
   pub count : length bytes ≡ len
 
--- the cord is one function part over the whole of an entry
+-- the cord is one function part over the whole of a source
 pub record IsFuncOver (opened : Opened) (id len : ℕ) (cord : Option Node) : Type 0 where
   pub form : IsFuncOf id 0 len cord
   pub fits : CordFitsIn (lengths_in opened) cord
@@ -34,7 +34,7 @@ pub record IsWhole (old new : Opened) (path : List ℕ) (cord : Option Node) : T
   pub opens : Opens old new path id len
   pub leaf : IsLeafOver len cord
 
--- the path is open, and the cord is one function part over the whole of its entry
+-- the path is open, and the cord is one function part over the whole of its source
 pub record IsLazy (old new : Opened) (path : List ℕ) (cord : Option Node) : Type 0 where
   pub id : ℕ
   pub len : ℕ

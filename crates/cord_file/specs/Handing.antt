@@ -13,9 +13,9 @@ use Rattle.cord_file.specs.declared.faults.FileError.{FileError}
 use Rattle.cord_file.specs.declared.sources.Sources.{Sources}
 
 -- a call opened the file at a path, and handed it over as a cord or was refused: it makes no file system consistent that wasn't so before
--- it, the device counted its failure, each entry stays, and over each consistent file system the cord has the text of the file, or the
--- refusal its cause. A path that is open isn't opened again by the device, an entry that was added is the one file that it opened, and
--- where none was added a refusal tells that it opened none
+-- it, the device counted its failure, each source stays, and over each consistent file system the cord has the text of the file, or the
+-- refusal its cause. A path that is open isn't opened again by the device, a source that was added is the one file that it opened, and
+-- where none was added a refusal reports that it opened none
 abbrev pub HandsOver : {F : Type 0} {ghosts : Ghosts F} →
     Sources F ghosts → Sources F ghosts → List ℕ → Result (Option Node) FileError → Type 0
 HandsOver {F} {ghosts} old new path result = record {

@@ -8,13 +8,13 @@ use Rattle.cord_file.specs.declared.faults.FileError.{FileError}
 use Rattle.cord_file.specs.declared.faults.FileError.TheVariants.{NoFile, TooLong, ReadFailed, TooManyFiles, NoMemory}
 use Rattle.cord_file.specs.FileTable.{Opened, lengths_in, table_in, id_in}
 
--- each entry that was there stays: its length, its text and its id
+-- each source that was there stays: its length, its text and its id
 pub record Grows (old new : Opened) : Type 0 where
   pub lengths : (id : ℕ) → IsSome (lengths_in old id) → lengths_in new id ≡ lengths_in old id
   pub texts : (file_system : FileSystem) (id : ℕ) → IsSome (lengths_in old id) → table_in new file_system id ≡ table_in old file_system id
   pub ids : (path : List ℕ) (id : ℕ) → id_in old path ≡ Some id → id_in new path ≡ Some id
 
--- the path is open as this entry of this length: an opened one stays, another one is added after all entries
+-- the path is open as this source of this length: an opened one stays, another one is added after all sources
 pub record Opens (old new : Opened) (path : List ℕ) (id len : ℕ) : Type 0 where
   pub known : id_in new path ≡ Some id
   pub reported : lengths_in new id ≡ Some len
@@ -22,12 +22,12 @@ pub record Opens (old new : Opened) (path : List ℕ) (id len : ℕ) : Type 0 wh
   pub again : IsSome (id_in old path) → new ≡ old
   pub fresh : id_in old path ≡ None → (length old < MAX_FILES) × (new ≡ old ++ (path, len) ∷ [])
 
--- over a file system the entry has the bytes at the path, as many as was reported
+-- over a file system the source has the bytes at the path, as many as was reported
 abbrev pub HoldsFile : FileSystem → Opened → List ℕ → ℕ → ℕ → Type 0
 HoldsFile file_system opened path id len = (file_at file_system path ≡ Some (table_in opened file_system id)) ×
     (len ≡ length (table_in opened file_system id))
 
--- the path and the length told of each number of a device
+-- the path and the length reported of each number of a device
 abbrev pub Numbers : Type 0
 Numbers = ℕ → Option (List ℕ × ℕ)
 

@@ -47,7 +47,7 @@ impl<F: Files> Sources<F> {
         Ok(cord)
     }
 
-    /// The file at a path as a cord of which no byte is read now, one function part over its entry. The path is
+    /// The file at a path as a cord of which no byte is read now, one function part over its source. The path is
     /// opened as by `open`. Refused as `open` is, or after it with `NoMemory`: then the path stays open.
     pub fn lazy(&mut self, alloc: Global, path: &str) -> Result<Cord, FileError>
         ensures files { HandsOver self.old self.new path.now result }

@@ -1,10 +1,10 @@
-// The entries that are functions.
+// The sources that are functions.
 ghost use Rattle.std.specs.Prelude.{◌≡◌, ◌+◌, ◌<◌, ◌≤◌, ℕ, length, slice_index};
 ghost use Rattle.cord_io.specs.inner.Functions.{function_byte};
 
 use cord_io::{MAX_LEN, SourceId};
 
-// The byte at a place of an entry.
+// The byte at a place of a source.
 fn byte_of(id: SourceId, place: u64) -> u8
     ensures { result ≡ function_byte id.0 place }
 {
@@ -14,7 +14,7 @@ fn byte_of(id: SourceId, place: u64) -> u8
     }
 }
 
-// After how many places the bytes of an entry come again.
+// After how many places the bytes of a source come again.
 fn period_of(id: SourceId) -> usize
     ensures some { 0 < result }
     ensures again { (k : ℕ) → function_byte id.0 (k + result) ≡ function_byte id.0 k }
@@ -25,7 +25,7 @@ fn period_of(id: SourceId) -> usize
     }
 }
 
-// Fills a slice with an entry's bytes from a place on, each one by itself.
+// Fills a slice with a source's bytes from a place on, each one by itself.
 fn fill_each(id: SourceId, start: u64, out: &mut [u8])
     requires { start + length out.old ≤ MAX_LEN }
     ensures { (k : ℕ) → k < length out.new → slice_index out.new k ≡ function_byte id.0 (start + k) }
@@ -46,7 +46,7 @@ fn copy_after(out: &mut [u8], done: usize, count: usize)
     rest[..count].copy_from_slice(&prefix[..count]);
 }
 
-// Fills a slice with an entry's bytes from a place on: those up to where they come again, and then copies of what is
+// Fills a slice with a source's bytes from a place on: those up to where they come again, and then copies of what is
 // filled, each one as long as all before it.
 pub(crate) fn fill(id: SourceId, start: u64, out: &mut [u8])
     requires { start + length out.old ≤ MAX_LEN }

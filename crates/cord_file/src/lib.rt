@@ -1,4 +1,4 @@
-//! Named files and functions as sources: a table of entries that only grows, which cords can be made over.
+//! Named files and functions as sources: a table of sources that only grows, which cords can be made over.
 #![tactic(auto)]
 
 mod blocks;

@@ -14,12 +14,12 @@ use std::alloc::Global;
 impl<F: Files> Sources<F> {
     ghost use Rattle.cord_file.specs.Sources.{device_in, opened_in};
 
-    /// Opens the file at a path, and answers its entry and its length: a path that is open keeps its entry, and
-    /// another one becomes the entry after all others. Every other entry stays. Refused, by the first of these that
+    /// Opens the file at a path, and answers its source and its length: a path that is open keeps its source, and
+    /// another one becomes the source after all others. Every other source stays. Refused, by the first of these that
     /// applies, with `TooManyFiles` where `MAX_FILES` other paths are open, `NoFile` where no file is there,
     /// `ReadFailed` where the device failed, and `TooLong` where the file is longer than `MAX_LEN`; `NoMemory` may
-    /// come in the place of any answer. After a refusal the entries are as before, and the path may be tried again.
-    /// The device opens no path that is open, and the file of a new entry once. After a refusal it has opened a file
+    /// come in the place of any answer. After a refusal the sources are as before, and the path may be tried again.
+    /// The device opens no path that is open, and the file of a new source once. After a refusal it has opened a file
     /// only where that is too long or found no memory.
     pub fn open(&mut self, alloc: Global, path: &str) -> Result<(SourceId, u64), FileError>
         ensures earlier { (file_system : FileSystem) →

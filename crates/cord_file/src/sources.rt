@@ -1,4 +1,4 @@
-// A table of entries: two functions, and the files that were opened.
+// A table of sources: two functions, and the files that were opened.
 ghost use Rattle.std.specs.Prelude.{◌≡◌, ◌+◌, ◌<◌, ◌≤◌, ℕ, length, take, drop, [], MatchResult, vec_len, is_err, OnOk};
 ghost use Rattle.std.specs.Prelude.{IsSomeAnd, IsOk};
 ghost use Rattle.cord_io.specs.Device.{FileSystem, count_after};
@@ -15,7 +15,7 @@ use lru::LruCache;
 use std::alloc::Global;
 use std::num::NonZeroUsize;
 
-/// Entries of bytes by id: 0 is the function `digits` (byte `48 + i mod 10` at place i) and 1 the function `bytes`
+/// Sources of bytes by id: 0 is the function `digits` (byte `48 + i mod 10` at place i) and 1 the function `bytes`
 /// (`i mod 256`), both `MAX_LEN` long, and from 2 on stand the files that were opened, at most `MAX_FILES` of them.
 /// Files are read by blocks of 512 bytes, of which the 32 used last are kept, but `eager` reads past them, and so do
 /// the whole blocks of a read of more bytes than all of them hold. No read is refused when out of memory: a block for
@@ -131,10 +131,10 @@ impl<F: Files> Source for Sources<F> {
         ensures bytes { (file_system : FileSystem) → F.consistent (device_in self.new) file_system → OnOk result
             (out.new ≡ take (length out.new) (drop start (table_in (opened_in self.old) file_system id.0))) }
 
-        // The entries 0 and 1 never fail.
+        // The sources 0 and 1 never fail.
         ensures functions { id.0 < 2 → IsOk result }
 
-        // A path that is open keeps its entry, and the device opens no file.
+        // A path that is open keeps its source, and the device opens no file.
         ensures opened { opened_in self.new ≡ opened_in self.old }
         ensures none_opened { OpensNone (F.opened (device_in self.old)) (F.opened (device_in self.new)) }
     {

@@ -45,13 +45,13 @@ filled_from f n start out inside each =
     all ∙ shifted f start 0 (length out) ∙ ap (λ k. map f (range_with_len k (length out))) from
     ∙ sym (range-text_of f n start (length out) inside)
 
--- a range inside an entry that is a function lies below the greatest length
+-- a range inside a source that is a function lies below the greatest length
 pub function_inside : (id start count : ℕ) → IsSomeAnd (function_lengths id) (λ len. start + count ≤ len) → start + count ≤ MAX_LEN
 function_inside zero start count h = h
 function_inside (suc zero) start count h = h
 function_inside (suc (suc id)) start count h = absurd h
 
--- bytes that are each the function's are a range of the entry's text
+-- bytes that are each the function's are a range of the source's text
 pub function_read : (id start : ℕ) (out : List ℕ) → IsSomeAnd (function_lengths id) (λ len. start + length out ≤ len) →
     ((k : ℕ) → k < length out → get_or out k 0 ≡ function_byte id (start + k)) → out ≡ take (length out) (drop start (function_texts id))
 function_read zero start out inside each = filled_from digit_at MAX_LEN start out inside each

@@ -76,7 +76,7 @@ map_set (x ∷ xs) zero e f h s =
     rw (same, s) refl
 map_set (x ∷ xs) (suc n) e f h s = ap (λ r. pair_of x ∷ r) (map_set xs n e f h s)
 
--- an open entry tells what it reported before
+-- an open entry reports what it reported before
 same_reported : (b : Bool) (x : List ℕ × ℕ) → IsSome (if b then Some x else None) → Some x ≡ (if b then Some x else None)
 same_reported true x h = refl
 same_reported false x h = cc

@@ -17,7 +17,7 @@ use Rattle.cord_io.specs.declared.faults.OpenFault.TheVariants.{NotFound, Failed
 use Rattle.cord_io.specs.declared.opened.OpenedFile.{OpenedFile}
 use Rattle.cord_io.proofs.FileSystems.{get_set_same, get_set_other}
 
--- the file whose number it is, where something is told of the number
+-- the file whose number it is, where something is reported of the number
 pub has_number : {F : Type 0} (files : List (OpenedFile F)) (n : ℕ) (file : OpenedFile F) (P : List ℕ × ℕ → Type 0) →
     IsSomeAnd (opened_of files n) P → file ≡ get_or files n file → slice_get files n ≡ Some file
 has_number files n file P reported is = slice_get_read files (length files) n file refl (at (slice_get files n) refl reported) is where
@@ -25,7 +25,7 @@ has_number files n file P reported is = slice_get_read files (length files) n fi
   at None e h = absurd h
   at (Some other) e h = slice_get_within files n other e
 
--- what is told of the files stays
+-- what is reported of the files stays
 pub reported_after : {F : Type 0} (files : List (OpenedFile F)) (n : ℕ) (old new : OpenedFile F) → slice_get files n ≡ Some old →
     reported_of new ≡ reported_of old → (k : ℕ) → opened_of (slice_set files n new) k ≡ opened_of files k
 reported_after files n old new here same k = elim (cases_eq k n) [

@@ -21,7 +21,7 @@ after_opening path (Ok r) reported = has_len path r.1 ∷ reported
 after_opening path (Err NotFound) reported = is_missing path ∷ reported
 after_opening path (Err Failed) reported = reported
 
--- what was reported after a read from a place on, by what was told of its number: it filled the prefix of out
+-- what was reported after a read from a place on, by what was reported of its number: it filled the prefix of out
 abbrev pub after_reading : {E : Type 0} → Option (List ℕ × ℕ) → ℕ → List ℕ → Result ℕ E → List Reported → List Reported
 after_reading None start out r reported = reported
 after_reading (Some file) start out r reported = after_asking file.0 start out r reported

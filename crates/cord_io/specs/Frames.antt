@@ -3,7 +3,7 @@ use Rattle.std.specs.Prelude.{◌≡◌}
 use Rattle.cord_io.specs.Device.{FileSystem}
 use Rattle.cord_io.specs.declared.sources.Source.{Ghosts}
 
--- a source tells the same lengths, has the same table, and makes no file system consistent that wasn't so before
+-- a source reports the same lengths, has the same table, and makes no file system consistent that wasn't so before
 abbrev pub LeavesSource : {S : Type 0} → Ghosts S → S → S → Type 0
 LeavesSource source old new = record {
   lengths : source.lengths new ≡ source.lengths old;

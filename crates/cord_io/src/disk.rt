@@ -18,8 +18,8 @@ use std::rt;
 
 /// The machine's files. They are consistent with each file system with which all that they reported agrees: a trace,
 /// which only proofs read and which costs nothing, holds each answer once and nothing else. Every fault of the machine
-/// but a missing path is a failure, which tells nothing: a read of 0 bytes inside the length reported, a call that was
-/// interrupted, a directory, and out of memory in `open` too, where it was refused twice. A file that is read on is
+/// but a missing path is a failure, which reports nothing: a read of 0 bytes inside the length reported, a call that
+/// was interrupted, a directory, and out of memory in `open` too, where it was refused twice. A file that is read on is
 /// read ahead, by 4 KiB and then by twice as much each time up to 64 KiB, and one that is read elsewhere by as much as
 /// was read in order before, into memory that it does without where none is found: what fails there is met when its
 /// bytes are asked for. A read gives at most 64 KiB.
@@ -30,7 +30,7 @@ pub struct DiskFiles<R: rt::Files> {
     failures: Failures,
 }
 
-// The machine, its files that are open, and all that was told of them, which is what the machine gave.
+// The machine, its files that are open, and all that was reported of them, which is what the machine gave.
 #[derive(Drop)]
 struct Answers<R, F> {
     machine: Machine<R>,

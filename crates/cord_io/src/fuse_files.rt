@@ -35,7 +35,7 @@ impl<F: Files> FuseFiles<F> {
         }
     }
 
-    /// The files inside: it keeps what they keep.
+    /// The files inside: it is consistent with what they are.
     pub fn inner(&self) -> &F
         ensures value { result.now ≡ files_inside self.now }
         ensures consistent { (file_system : FileSystem) → (⟦<FuseFiles<F> as Files>⟧.consistent self.now file_system →

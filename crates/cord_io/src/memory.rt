@@ -18,7 +18,8 @@ struct Entry {
     is_open: bool,
 }
 
-/// Files in memory: they keep the map that was added, and no other. No call but `add` takes memory, and none fails.
+/// Files in memory: they are consistent with the map that was added, and no other. No call but `add` takes memory, and
+/// none fails.
 #[derive(Drop)]
 pub struct MemFiles {
     entries: Vec<Entry>,
@@ -39,7 +40,7 @@ fn place_of(entries: &[Entry], path: &str) -> Option<usize>
     None
 }
 
-// Marks an entry as open, and tells its length.
+// Marks an entry as open, and reports its length.
 fn mark(entries: &mut [Entry], place: usize) -> usize
     requires { place < length entries.old }
     ensures { Marks entries.old entries.new place result }

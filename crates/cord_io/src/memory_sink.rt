@@ -7,7 +7,8 @@ use crate::tally::{SinkAnswer, Tally};
 use crate::{Sink, WriteFault};
 use std::alloc::Global;
 
-/// A sink in memory, which tells its bytes: a `put` takes all that it is offered, or fails where its growth is refused.
+/// A sink in memory, which reports its bytes: a `put` takes all that it is offered, or fails where its growth is
+/// refused.
 #[derive(Drop)]
 pub struct MemSink {
     bytes: Vec<u8>,

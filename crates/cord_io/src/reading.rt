@@ -15,11 +15,11 @@ pub trait Files {
     /// All that the device has answered so far is what the file system holds.
     ghost consistent: { Self → FileSystem → Type 0 };
 
-    /// It has no answer but those of the file systems that are consistent with it, so it keeps them on. Files in memory
-    /// are so; of files that change, or of which nothing is known, it isn't claimed.
+    /// It has no answer but those of the file systems that are consistent with it, so these stay consistent. Files in
+    /// memory are so; of files that change, or of which nothing is known, it isn't claimed.
     ghost steady: { Type 0 } = { ⊥ };
 
-    /// The path and the length told of each number that was handed out.
+    /// The path and the length reported of each number that was handed out.
     ghost opened: { Self → ℕ → Option (List ℕ × ℕ) };
 
     /// How often a call has failed: at 2^64 - 1 the count stays.
@@ -30,7 +30,7 @@ pub trait Files {
         ensures { result ≡ failures self.now };
 
     /// Opens the file at a path, and answers its number and its length in bytes. A fault is `NotFound`, where there is
-    /// no such file, or `Failed`, which tells nothing and raises the count.
+    /// no such file, or `Failed`, which reports nothing and raises the count.
     fn open(&mut self, path: &str) -> Result<(FileNo, u64), OpenFault>
         ensures earlier { (file_system : FileSystem) → consistent self.new file_system → consistent self.old file_system }
         ensures later { steady → (file_system : FileSystem) → consistent self.old file_system → consistent self.new
@@ -45,7 +45,7 @@ pub trait Files {
             file_at file_system path.now ≡ None };
 
     /// Reads at least one byte of an opened file into the prefix of `out`, from place `start` on, and answers how many.
-    /// What else `out` holds is open, also after a fault, which tells nothing and raises the count.
+    /// What else `out` holds is open, also after a fault, which reports nothing and raises the count.
     fn read_at(&mut self, no: FileNo, start: u64, out: &mut [u8]) -> Result<usize, ReadFault>
         requires inside { IsSomeAnd (opened self.old no.0) (λ reported. start < reported.1) }
         requires room { 0 < length out.old }

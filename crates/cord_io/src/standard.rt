@@ -8,7 +8,7 @@ use crate::writer::Writer;
 use crate::{Sink, WriteFault};
 use std::io::Write;
 
-/// A sink over a writer: it took the bytes that the writer answered it took, and where the writer tells its contents
+/// A sink over a writer: it took the bytes that the writer answered it took, and where the writer reports its contents
 /// they grow by the same bytes. A write that takes 0 bytes and one that was interrupted are failures. `finish` flushes
 /// the writer.
 #[derive(Drop)]
@@ -39,7 +39,7 @@ impl<W: Write> StdSink<W> {
 impl<W: Write> Sink for StdSink<W> {
     ghost use Rattle.cord_io.specs.Standard.{writer_in, flushes_of};
 
-    // What the writer answered that it took, whether or not it tells its bytes.
+    // What the writer answered that it took, whether or not it reports its bytes.
     ghost taken = { λ s. s.writer.tally.bytes };
 
     // The flushes of the writer that worked, and the calls that failed.
@@ -68,7 +68,7 @@ impl<W: Write> Sink for StdSink<W> {
         ensures count { ⟦<StdSink<W> as Sink>⟧.failures self.new
             ≡ count_after (is_err result) (⟦<StdSink<W> as Sink>⟧.failures self.old) }
 
-        // Where the writer tells its bytes, they grow by those that are reported to be taken.
+        // Where the writer reports its bytes, they grow by those that are reported to be taken.
         ensures written { WriteAppends (W.contents (writer_in self.old)) (W.contents (writer_in self.new)) result
             bytes.now }
 

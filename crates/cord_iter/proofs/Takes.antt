@@ -54,7 +54,7 @@ prefix_take whole n = (drop n whole, sym (take-append-drop n whole))
 range_join : (xs : List ℕ) (s a b : ℕ) → take (a + b) (drop s xs) ≡ take a (drop s xs) ++ take b (drop (s + a) xs)
 range_join xs s a b = take-add a b (drop s xs) ∙ ap (λ (l : List ℕ). take a (drop s xs) ++ take b l) (drop-drop a s xs)
 
--- a range of an entry and the range after it
+-- a range of a source and the range after it
 func_range : (xs x y : List ℕ) (s a b : ℕ) → x ≡ take a (drop s xs) → y ≡ take b (drop (s + a) xs) → x ++ y ≡ take (a + b) (drop s xs)
 func_range xs x y s a b h k = rw (h, k) (sym (range_join xs s a b))
 
@@ -67,7 +67,7 @@ func_text table id s a b x y earlier h k = record {
       (k.text file_system kept);
 }
 
--- a range of an entry and a prefix of the range after it
+-- a range of a source and a prefix of the range after it
 range_prefix : (xs x y : List ℕ) (s a b n : ℕ) → a + b ≤ n → x ≡ take a (drop s xs) → IsPrefixOf (take b (drop (s + a) xs)) y →
     IsPrefixOf (take n (drop s xs)) (x ++ y)
 range_prefix xs x y s a b n e h k =

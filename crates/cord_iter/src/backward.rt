@@ -11,7 +11,7 @@ use cord_io::{CordError, Source};
 use cord_pos::Position;
 
 /// Hands a visitor the bytes of a cord from place `i` down to 0, one after another by `byte`, until it stops, after
-/// `CORD_riter4` of `cord.h`. The place is below the length, and each function part lies inside an entry of `src`. True
+/// `CORD_riter4` of `cord.h`. The place is below the length, and each function part lies inside a source of `src`. True
 /// exactly where the visitor stopped. Refused with `ReadFailed` where a read failed: then the visitor has walked over a
 /// prefix of those bytes without a stop.
 pub fn riter4<S: Source, V: Visitor>(

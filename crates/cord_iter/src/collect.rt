@@ -11,10 +11,10 @@ use cord_io::{CordError, Sink, Source, WriteFault};
 use std::alloc::Global;
 
 /// The text of a cord over a source, in a vector of that length. Refused with `ReadFailed` where a read failed, and
-/// with `NoMemory` where the vector was refused memory. The text is that over the table of each file system that `src`
-/// keeps after the call, and as many bytes are there whatever it keeps.
+/// with `NoMemory` where the vector was refused memory. The text is that over the table of each file system that is
+/// consistent with `src` after the call, and as many bytes are there whatever it answers.
 ///
-/// Each function part lies inside an entry of `src`: so it is with every cord over no files, with those that `src` made
+/// Each function part lies inside a source of `src`: so it is with every cord over no files, with those that `src` made
 /// where it is a `Sources`, and with what `cat`, `substr` and the others make of them.
 ///
 /// ```rust head

@@ -16,7 +16,7 @@ use cord_io::{CordError, MAX_LEN, ReadFault, Source, SourceId};
 
 /// Hands a visitor the bytes of a cord from place `i` on until it stops, after `CORD_iter5` of `cord.h`: whole slices
 /// of leaves, and runs and function parts in pieces of at most 512 bytes. The place is below the length, and each
-/// function part lies inside an entry of `src`. True exactly where the visitor stopped. Refused with `ReadFailed` where
+/// function part lies inside a source of `src`. True exactly where the visitor stopped. Refused with `ReadFailed` where
 /// a read failed: then the visitor has walked over a prefix of those bytes without a stop.
 pub fn iter5<S: Source, V: Visitor>(
     cord: &Cord,
@@ -131,7 +131,7 @@ fn walk_run<V: Visitor>(byte: u8, len: u64, visitor: &mut V) -> bool
     false
 }
 
-// Walks over a range of an entry, in pieces.
+// Walks over a range of a source, in pieces.
 fn walk_func<S: Source, V: Visitor>(
     id: SourceId,
     start: u64,
@@ -162,7 +162,7 @@ fn walk_func<S: Source, V: Visitor>(
     Ok(false)
 }
 
-// Walks over a range of an entry that is one piece: where it can't be read the visitor stays.
+// Walks over a range of a source that is one piece: where it can't be read the visitor stays.
 fn walk_piece<S: Source, V: Visitor>(
     id: SourceId,
     start: u64,

@@ -16,12 +16,12 @@ use cord_io::{CordError, MAX_LEN, Sink, Source, SourceId};
 
 /// Hands a sink the text of a cord over a source, after `CORD_put` of `cord.h`: each leaf's slice is offered whole,
 /// after a short `put` the rest, a run in pieces of at most 512 bytes, a function part of more than 512 bytes in pieces
-/// of at most 4,096, and either by 65,536 bytes where it is that long, a function part behind its first 512. Refused
+/// of at most 4,096, and either by 65,536 bytes where it is that long, a function part after its first 512. Refused
 /// with `ReadFailed` where a read failed and with `WriteFailed` where a `put` failed: then the sink has taken a prefix
-/// of the text. The text is that over the table of each file system that `src` keeps after the call, and as many bytes
-/// are taken whatever it keeps. It doesn't finish the sink.
+/// of the text. The text is that over the table of each file system that is consistent with `src` after the call, and
+/// as many bytes are taken whatever it answers. It doesn't finish the sink.
 ///
-/// Each function part lies inside an entry of `src`: so it is with every cord over no files, with those that `src` made
+/// Each function part lies inside a source of `src`: so it is with every cord over no files, with those that `src` made
 /// where it is a `Sources`, and with what `cat`, `substr` and the others make of them.
 ///
 /// ```rust put_line
@@ -101,7 +101,7 @@ fn put_node<S: Source, W: Sink>(node: &Node, src: &mut S, sink: &mut W) -> Resul
     Ok(())
 }
 
-// Hands a sink a range of an entry: a long one in blocks, so that a sink with a buffer need not keep them.
+// Hands a sink a range of a source: a long one in blocks, so that a sink with a buffer need not keep them.
 fn put_func<S: Source, W: Sink>(
     id: SourceId,
     start: u64,
@@ -130,7 +130,7 @@ fn put_func<S: Source, W: Sink>(
     }
 }
 
-// Hands a sink a range of an entry, at most `N` bytes at once. It stands apart, so that only who calls it has room for
+// Hands a sink a range of a source, at most `N` bytes at once. It stands apart, so that only who calls it has room for
 // them on the stack.
 #[inline(never)]
 fn put_range<const N: usize, S: Source, W: Sink>(
@@ -165,7 +165,7 @@ fn put_range<const N: usize, S: Source, W: Sink>(
 }
 
 // How many bytes the next of these pieces has at most. The first one of a long range is short: it goes out before more
-// are asked for, so that a device which fails behind it has given it.
+// are asked for, so that a device which fails after it has given it.
 fn most_of(done: u64, most: usize) -> usize
     requires { 0 < most }
     ensures some { 0 < result }
@@ -178,7 +178,7 @@ fn most_of(done: u64, most: usize) -> usize
     }
 }
 
-// Hands a sink a range of an entry that is one piece, which is read into a slice of its length.
+// Hands a sink a range of a source that is one piece, which is read into a slice of its length.
 fn put_piece<S: Source, W: Sink>(
     id: SourceId,
     start: u64,

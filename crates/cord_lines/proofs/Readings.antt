@@ -56,7 +56,7 @@ module _ (x : List ℕ) (p : Standing) (place : ℕ) (r : IsReader x p place) wh
     pub inside : place + n ≤ length x
     inside = omega (arith, i.inside, r.len, le)
 
-    -- what is given is the chunk of that front
+    -- what is given is the chunk of that prefix
     pub gives : (old : List ℕ) (most m : ℕ) (chunk : Chunk) → drop place x ≡ old → m ≡ span_len prefix → 0 < n → n ≤ most →
         chunk_bytes chunk ≡ span_bytes no_table prefix → IsPrefix old most chunk (drop (place + m) x)
     gives old most m chunk is len some few same =

@@ -31,8 +31,8 @@ struct Span {
     bytes: u64,
 }
 
-/// The blocks of the text after an edit: those that the edit meets are counted once more. Refused when out of memory
-/// alone, and then all is as it was.
+/// The blocks of the text after an edit: those that the edit meets are counted once more. Refused only when out of
+/// memory, and then all is as it was.
 pub(crate) fn renew(
     blocks: &mut Blocks,
     alloc: Global,

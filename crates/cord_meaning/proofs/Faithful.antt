@@ -1,4 +1,4 @@
--- A runner's end is faithful: what is to be shown of each way in which a run stops.
+-- A runner's end is faithful: what is to be proved of each way in which a run stops.
 use Rattle.std.proofs.Common.{◌≡◌, ℕ, suc, ◌<◌, List, [], ◌++◌, Some, refl, sym, ap, ◌∙◌, inl, inr, append_assoc, append-nil}
 use Rattle.std.specs.Prelude.{slice_get}
 use Rattle.cord_meaning.specs.declared.ends.End.{End}

@@ -132,7 +132,7 @@ module _ {L : Type 0} (shape : L → Shape) (statements : List L) where
     branch_end_leads : (bs : List (Option ℕ)) → open_at shapes p ≡ None ∷ bs → shape l ≡ Close → Leading p ((p + 1) ∷ [])
     branch_end_leads bs o is = close_by (None ∷ bs) o is ((p + 1) ∷ []) (λ q h. inl h) (λ q h. one_of (p + 1) q h)
 
-    -- the blocks that are open behind it
+    -- the blocks that are open after it
     opens : (x : Shape) → shape l ≡ x → (os : List (Option ℕ)) → open_at shapes p ≡ os →
         open_at shapes (p + 1) ≡ opened p os (Some x)
     opens x is os o = open_next shapes p (Some x) (shape_is x is) ∙ ap (λ (bs : List (Option ℕ)). opened p bs (Some x)) o
@@ -154,7 +154,7 @@ module _ {L : Type 0} (shape : L → Shape) (statements : List L) where
         ∙ ap (λ (w : Shape). jump_of w p (map shape ((inner ++ (e ∷ rest)) ++ more))) is
         ∙ ap (λ (xs : List L). jump_of x p (map shape xs)) (append_assoc inner (e ∷ rest) more)
 
-  -- the parts that stand at p lead so, and behind them the same blocks are open
+  -- the parts that stand at p lead so, and after them the same blocks are open
   abbrev Goes : Parts L → ℕ → List (Option ℕ) → Type 0
   Goes parts p os = AllLead p (leads p parts) × (open_at shapes (p + length (flat parts)) ≡ os)
 
@@ -232,7 +232,7 @@ module _ {L : Type 0} (shape : L → Shape) (statements : List L) where
         ap (λ (n : ℕ). open_at shapes n) whole ∙ r.1,
       )
 
-  -- behind the last statement nothing comes
+  -- after the last statement nothing comes
   none_leads : (p : ℕ) → slice_get shapes p ≡ None → Leading p []
   none_leads p e = leading_by p None e [] (λ q h. h) (λ q h. h)
 

@@ -156,7 +156,7 @@ module _ (l m : ℕ) (le : l ≤ m) (files : FileSystem) where
           absurd (none h.0 (ap (λ (o : Option Rattle.cord_meaning.specs.declared.ends.End.End). unwrap_or o Done) h.1)))
           (λ e. e) whole_agrees
 
-      -- with a greater limit the run has the same members
+      -- with a greater limit the run has the same events
       pub traces_agree : trace_within m most statements files ≡ trace_within l most statements files
       traces_agree = ap (λ (c : Config State). c.seen) (sym whole_same)
 

@@ -1,4 +1,4 @@
--- The prefix of an entry.
+-- The prefix of a source.
 use Rattle.std.proofs.Common.{◌≡◌, ◌≤◌, ℕ, take, sym, arith}
 use Rattle.cord_io.specs.FunctionTexts.{text_of}
 use Rattle.cord_io.proofs.Entries.{range-text_of}

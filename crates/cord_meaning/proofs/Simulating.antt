@@ -31,7 +31,7 @@ module _ {S T : Type 0} where
     reports : map reported c.seen ≡ map reported other
     state_is : c.state ≡ s
 
-  -- one member more on both sides
+  -- one event more on both sides
   reports_more : (xs : List (Event S)) (ys : List (Event T)) (m : Event S) (n : Event T) → map reported xs ≡ map reported ys → reported m ≡
       reported n →
       map reported (xs ++ m ∷ []) ≡ map reported (ys ++ n ∷ [])
@@ -290,7 +290,7 @@ module _ {L M S T : Type 0} (rules : Rules L S) (others : Rules M T) (most : ℕ
         ≡ Some (unwrap_or (after rules most statements (enough most statements) a).ended Done)
     ended_here = the_end (after rules most statements (enough most statements) a).ended (ends rules most statements a)
 
-    -- the whole runs tell the same
+    -- the whole runs report the same
     pub reported_same : map reported (run_trace others most operations b) ≡ map reported (run_trace rules most statements a)
     reported_same =
         let w = together (enough most statements) in

@@ -117,11 +117,11 @@ module _ {L S : Type 0} (rules : Rules L S) (most : ℕ) where
         ∙ ap (λ (xs : List Shape). jump_of (rules.shape l) p xs) beyond
 
   module _ (statements : List L) where
-    -- the run goes on from a place, with these blocks, turns, members and state
+    -- the run goes on from a place, with these blocks, turns, events and state
     abbrev at : ℕ → List Block → ℕ → List (Event S) → S → Config S
     at p bs t seen s = record { place = p; blocks = bs; turns = t; seen = seen; ended = None; state = s }
 
-    -- it has run these members more, and ended so, or come to this place
+    -- it has run these events more, and ended so, or come to this place
     abbrev ComesTo : Config S → List (Event S) → List (Event S) → Option End → ℕ → S → ℕ → List Block → Type 0
     ComesTo d seen ms None t s q bs = d ≡ at q bs t (seen ++ ms) s
     ComesTo d seen ms (Some e) t s q bs = (d.ended ≡ Some e) × (d.seen ≡ seen ++ ms)
@@ -172,7 +172,7 @@ module _ {L S : Type 0} (rules : Rules L S) (most : ℕ) where
         Does c seen u r bs
     at_place c seen u q r bs e h = subst (λ (n : ℕ). Does c seen u n bs) e h
 
-    -- a step that is no member
+    -- a step that is no event
     and_step : (c : Config S) (seen : List (Event S)) (u : Unrolled S) (q r : ℕ) (bs cs : List Block) → Does c seen u q bs →
         ((t : ℕ) (s : S) (xs : List (Event S)) → step rules most statements (at q bs t xs s) ≡ at r cs t xs s) → Does c seen u r cs
     and_step c seen u q r bs cs h steps = by_end u.members u.ended u.turns u.state h.0 h.1
@@ -441,7 +441,7 @@ module _ {L S : Type 0} (rules : Rules L S) (most : ℕ) (placeless : (p : ℕ) 
           (suc k, ap (λ (c : Config S). c.seen) one, ap (λ (c : Config S). c.ended) one)
       by_end ms (Some y) t x k e = (k, e.1, e.0)
 
-  -- the members of the run are those of the unrolled one
+  -- the events of the run are those of the unrolled one
   pub trace_unrolled : run_trace rules most (flat parts) s ≡ (unrolled rules most parts 0 s).members
   trace_unrolled = trace_when_ended rules most (flat parts) s whole_is.0 (unwrap_or (unrolled rules most parts 0 s).ended Done)
       whole_is.2 ∙ whole_is.1

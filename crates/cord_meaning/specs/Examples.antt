@@ -44,7 +44,7 @@ plain_number = Signed no_flags 0 None
 abbrev pub bar : Piece
 bar = Text (codes "|")
 
--- `sprintf t "%d" n ; put t` on these lines: what a row shows of the number n
+-- `sprintf t "%d" n ; put t` on these lines: what an example prints of the number n
 abbrev pub shows : ℕ → ℕ → List Statement
 shows first second = Sprintf first (codes "t") (codes "%d") (plain_number ∷ []) (arguments.Number (Named (codes "n")) ∷ [])
     ∷ Put second (codes "t") ∷ []

@@ -3,7 +3,7 @@ use Rattle.std.specs.Prelude.{◌≡◌, ◌⊎◌, ℕ, ◌+◌, List, [], ◌�
 use Rattle.cord_meaning.specs.Unrolled.{Parts, Nothing, Then, Repeats, Chooses, ChoosesElse, flat}
 
 -- of each statement, in order, the places that it may lead to, where the first one stands at p: a `repeat` and its `end` to the first
--- place behind the `repeat` and to the one behind the `end`; an `if` to the next place, and to the one behind its `else` or, where it has
+-- place after the `repeat` and to the one after the `end`; an `if` to the next place, and to the one after its `else` or, where it has
 -- none, to its `end`; an `else` to its `end`; all others to the next place
 abbrev pub leads : {L : Type 0} → ℕ → Parts L → List (List ℕ)
 leads p Nothing = []

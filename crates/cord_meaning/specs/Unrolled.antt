@@ -49,7 +49,7 @@ module _ {S : Type 0} where
   abbrev pub then_on : Unrolled S → (ℕ → S → Unrolled S) → Unrolled S
   then_on u next = joined u.members u.ended u.turns u.state next
 
-  -- one member that puts this, and how it ends
+  -- one event that puts this, and how it ends
   abbrev pub member : ℕ → ℕ → S → List ℕ → Option End → S → Unrolled S
   member line turns before puts ended state = record {
     members = record { line = line; turns = turns; state = before; puts = puts } ∷ [];
@@ -63,7 +63,7 @@ module _ {S : Type 0} where
   acted_once line turns state (Ok next) = member line turns state next.1 None next.0
   acted_once line turns state (Err kind) = member line turns state [] (Some (Fault line kind)) state
 
-  -- the beginning of a turn, which is one member, and then its body
+  -- the beginning of a turn, which is one event, and then its body
   abbrev pub turn : ℕ → ℕ → (ℕ → S → Unrolled S) → ℕ → S → Unrolled S
   turn most line body turns state =
       if nat_lt turns most then joined (record { line = line; turns = turns; state = state; puts = [] } ∷ []) None (turns + 1) state body

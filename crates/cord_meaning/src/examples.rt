@@ -1,4 +1,4 @@
-// Scripts whose runs are computed: each clause is a worked row, whose bytes and end the check computes.
+// Scripts whose runs are computed: each clause is a worked example, whose bytes and end the check computes.
 ghost use Rattle.std.specs.Prelude.{◌≡◌, ◌<◌, ◌+◌, ℕ, [], ◌∷◌, codes};
 ghost use Rattle.cord_io.specs.declared.TheConstants.{MAX_LEN};
 ghost use Rattle.cord_meaning.specs.Ends.{Counts, EndsFaithfully};

@@ -30,7 +30,7 @@ pub fn every_run_ends()
         IsMeant (end_within limit most statements files) }
 {}
 
-/// What was run stays: the members of a run after some steps are the first ones after more steps, and of the whole run.
+/// What was run stays: the events of a run after some steps are the first ones after more steps, and of the whole run.
 pub fn what_was_run_stays()
     ensures more { (limit most : ℕ) (statements : List Statement) (files : FileSystem) (k j : ℕ) →
         Begins (run_within limit most statements files k).seen (run_within limit most statements files (k + j)).seen }
@@ -93,8 +93,8 @@ pub fn read_scripts_are_closed()
         All (λ s. 0 < line_of s) statements }
 {}
 
-/// What `fn` takes is the prefix of an entry that is `MAX_LEN` long.
-pub fn functions_are_entries()
+/// What `fn` takes is the prefix of a source that is `MAX_LEN` long.
+pub fn functions_are_sources()
     ensures digits { (n : ℕ) → n ≤ MAX_LEN → function_text Digits n ≡ take n (digits MAX_LEN) }
     ensures bytes { (n : ℕ) → n ≤ MAX_LEN → function_text Bytes n ≡ take n (byte_values MAX_LEN) }
 {}

@@ -12,7 +12,7 @@ pub use examples::{
     right_ends_are_faithful, wrong_ends_are_not_faithful,
 };
 pub use laws::{
-    every_run_ends, functions_are_entries, limits_only_refuse, paths_follow_blocks,
+    every_run_ends, functions_are_sources, limits_only_refuse, paths_follow_blocks,
     read_scripts_are_closed, runs_are_unrolled, runs_follow_paths, what_was_run_stays,
 };
 pub use limits::limits_are;

@@ -36,7 +36,7 @@ three_right prefix middle back two all h k = rw (append_assoc prefix middle back
     (AreFrom-trans all (prefix ++ two) (prefix ++ (middle ++ back)) k
     (AreFrom-both prefix (middle ++ back) prefix two (AreFrom-self prefix) h))
 
--- what is left in front and behind, with the middle between them
+-- what is left in front and after, with the middle between them
 pub replaced_is : (from until end : ℕ) (middle : Option Node) (old : Node) (prefix back all : Option Node) (new : Node) →
     IsSound old → until ≤ len_of old → end ≡ len_of old → all ≡ Some new → IsCord all →
     text prefix ≡ take (from - 0) (drop 0 (cells old)) → text back ≡ take (end - until) (drop until (cells old)) →

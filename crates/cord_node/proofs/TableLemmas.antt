@@ -20,7 +20,7 @@ map-replicate : (t : Table) (n b : ℕ) → replicate n b ≡ map (byte_at t) (r
 map-replicate t zero b = refl
 map-replicate t (suc n) b = ap (λ (l : List ℕ). b ∷ l) (map-replicate t n b)
 
--- places of an entry over a table are its range
+-- places of a source over a table are its range
 map-held_by : (t : Table) (id a n : ℕ) → a + n ≤ length (t id) →
     take n (drop a (t id)) ≡ map (byte_at t) (map (held_by id) (range_with_len a n))
 map-held_by t id a zero h = refl
@@ -61,12 +61,12 @@ AreHeldIn-replicate : (ls : Lengths) (n b : ℕ) → AreHeldIn ls (replicate n (
 AreHeldIn-replicate ls zero b = tt
 AreHeldIn-replicate ls (suc n) b = (tt, AreHeldIn-replicate ls n b)
 
--- a range inside an entry is held
+-- a range inside a source is held
 AreHeldIn-held_by : (ls : Lengths) (id a n : ℕ) → a + n ≤ length_at ls id → AreHeldIn ls (map (held_by id) (range_with_len a n))
 AreHeldIn-held_by ls id a zero h = tt
 AreHeldIn-held_by ls id a (suc n) h = (omega arith, AreHeldIn-held_by ls id (a + 1) n (omega arith))
 
--- a range that is held ends inside its entry
+-- a range that is held ends inside its source
 held_to_end : (ls : Lengths) (id a n : ℕ) → AreHeldIn ls (map (held_by id) (range_with_len a (suc n))) → a + suc n ≤ length_at ls id
 held_to_end ls id a zero h = let k : a < length_at ls id = h.0 in omega arith
 held_to_end ls id a (suc n) h = let k : a + 1 + suc n ≤ length_at ls id = held_to_end ls id (a + 1) n h.1 in omega arith
@@ -79,7 +79,7 @@ AreHeldIn-cells ls (Func id len start) f = AreHeldIn-held_by ls id.0 start len f
 AreHeldIn-cells ls (Cat' mark depth len p left q right count) f = AreHeldIn-append ls (cells left) (cells right) (AreHeldIn-cells ls left f.0)
     (AreHeldIn-cells ls right f.1)
 
--- a range of at least one byte that is held lies inside its entry
+-- a range of at least one byte that is held lies inside its source
 fits_from_held : (ls : Lengths) (id a n : ℕ) → 0 < n → AreHeldIn ls (map (held_by id) (range_with_len a n)) → a + n ≤ length_at ls id
 fits_from_held ls id a zero h k = absurd (omega arith)
 fits_from_held ls id a (suc n) h k = held_to_end ls id a n k
@@ -116,7 +116,7 @@ join_over l r n s e =
       bytes = λ t f g. bytes-cells t n (fits (lengths_of t) f g) ∙ (rw (e, map-append, bytes-cells t l f, bytes-cells t r g) refl);
     }
 
--- where an entry is no shorter, what fitted fits
+-- where a source is no shorter, what fitted fits
 pub FitsIn-longer : (ls ms : Lengths) (n : Node) → ((id : ℕ) → length_at ls id ≤ length_at ms id) → FitsIn ls n → FitsIn ms n
 FitsIn-longer ls ms (Leaf len bytes start mark) h f = tt
 FitsIn-longer ls ms (Run byte len) h f = tt
@@ -127,7 +127,7 @@ FitsIn-longer ls ms (Cat' mark depth len p left q right count) h f = (FitsIn-lon
 pub Fits-reported : (ls : Lengths) (t : Table) (n : Node) → HasLengths ls t → FitsIn ls n → Fits t n
 Fits-reported ls t n h f = FitsIn-longer ls (lengths_of t) n (λ id. let e : length (t id) ≡ length_at ls id = h id in omega arith) f
 
--- over two tables that have the same text at each entry that isn't empty in the first one
+-- over two tables that have the same text at each source that isn't empty in the first one
 pub bytes_over-same : (t u : Table) (n : Node) → ((id : ℕ) → 0 < length (t id) → u id ≡ t id) → IsSound n → Fits t n →
     bytes_over u n ≡ bytes_over t n
 bytes_over-same t u (Leaf len bytes start mark) h s f = refl

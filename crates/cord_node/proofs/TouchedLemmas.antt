@@ -86,7 +86,7 @@ touched_by_all from count n s e h =
     let z : from ≡ 0 = omega arith in
     rw z (touched_by_whole (0 + count) n s (omega arith))
 
--- what is in front of a range and what is behind it share at most one part
+-- what is in front of a range and what is after it share at most one part
 pub touched_around : (from until end : ℕ) (ps : List Part) → from ≤ until →
     touched 0 from ps + touched until end ps ≤ length ps + 1
 touched_around from until end [] h = omega arith

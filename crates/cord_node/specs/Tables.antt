@@ -13,18 +13,18 @@ bytes_over t (Run byte len) = replicate len byte
 bytes_over t (Func id len start) = take len (drop start (t id.0))
 bytes_over t (Cat' mark depth len p left q right count) = bytes_over t left ++ bytes_over t right
 
--- each function part lies inside an entry of this length
+-- each function part lies inside a source of this length
 abbrev pub FitsIn : Lengths → Node → Type 0
 FitsIn lengths (Leaf len bytes start mark) = ⊤
 FitsIn lengths (Run byte len) = ⊤
 FitsIn lengths (Func id len start) = start + len ≤ length_at lengths id.0
 FitsIn lengths (Cat' mark depth len p left q right count) = FitsIn lengths left × FitsIn lengths right
 
--- the lengths of the entries of a table
+-- the lengths of the sources of a table
 abbrev pub lengths_of : Table → Lengths
 lengths_of t id = Some (length (t id))
 
--- each function part lies inside an entry of the table
+-- each function part lies inside a source of the table
 abbrev pub Fits : Table → Node → Type 0
 Fits t n = FitsIn (lengths_of t) n
 
@@ -33,12 +33,12 @@ abbrev pub byte_at : Table → Cell → ℕ
 byte_at t (known b) = b
 byte_at t (held_by id i) = slice_index (t id) i
 
--- the cell lies inside an entry of this length
+-- the cell lies inside a source of this length
 abbrev pub IsHeldIn : Lengths → Cell → Type 0
 IsHeldIn lengths (known b) = ⊤
 IsHeldIn lengths (held_by id i) = i < length_at lengths id
 
--- each cell lies inside an entry of this length
+-- each cell lies inside a source of this length
 abbrev pub AreHeldIn : Lengths → List Cell → Type 0
 AreHeldIn lengths [] = ⊤
 AreHeldIn lengths (x ∷ xs) = IsHeldIn lengths x × AreHeldIn lengths xs

@@ -173,7 +173,7 @@ fn short_replaced(
 }
 
 // The text of `node` with `middle` in the place of its bytes from `from` up to `until`. Where `middle` and what is
-// left behind it are one leaf together they are joined first, and else `middle` and what is left in front.
+// left after it are one leaf together they are joined first, and else `middle` and what is left in front.
 pub fn replaced(
     alloc: Global,
     node: &Rc<Node>,

@@ -122,7 +122,7 @@ pushed [] b f below here (suc k) lt = absurd (omega arith)
 pushed (x ∷ found) b f below here zero lt = below 0 (omega arith)
 pushed (x ∷ found) b f below here (suc k) lt = pushed found b (λ n. f (suc n)) (λ n h. below (suc n) (omega arith)) here k (omega arith)
 
--- and where that is told of every place of the script
+-- and where that is said of every place of the script
 all_places : (found : List Successors) (shapes : List control.Shape) → length found ≡ length shapes →
     ((k : ℕ) → k < length shapes → places_at found k ≡ successors shapes k) → (p : ℕ) → places_at found p ≡ successors shapes p
 all_places found shapes size below p =

@@ -41,7 +41,7 @@ module _ (all : plain.Exprs) (o : Option (Bor Members)) (rest : List Shared)
   pub halves_Some : (prefix : Bor Members) → o ≡ Some prefix → all ≡ append (members_view prefix.now) (members_of (map shared_view rest))
   halves_Some prefix is = halves ∙ ap (λ (p : Option (Bor Members)). append (prefix_view p) (members_of (map shared_view rest))) is
 
-  -- those after the front are no heavier than all of them, and the front is lighter
+  -- those after the prefix are no heavier than all of them, and the prefix is lighter
   pub rest_lighter : weights (members_of (map shared_view rest)) ≤ weights all
   rest_lighter =
       let sum : weights all ≡ weights (prefix_view o) + weights (members_of (map shared_view rest)) =

@@ -87,8 +87,8 @@ module _ (s : List Statement) (d : Decisions) (ok : MeetsConditions s d) (limit 
   shapes = map shape_of s
 
   -- no path that begins here reads x before it assigns it
-  abbrev UnreadFrom : List ℕ → ℕ → Type 0
-  UnreadFrom x p = (path : List ℕ) → ReadBy s x p path → ⊥
+  abbrev NotLiveFrom : List ℕ → ℕ → Type 0
+  NotLiveFrom x p = (path : List ℕ) → ReadBy s x p path → ⊥
 
   -- the run is between the two lines of an inlined pair, and the second is not yet run
   pub record InFlight (p a b : ℕ) (x : List ℕ) : Type 0 where
@@ -98,7 +98,7 @@ module _ (s : List Statement) (d : Decisions) (ok : MeetsConditions s d) (limit 
 
   -- why the plan may lack the text of x
   abbrev Spare : List ℕ → ℕ → Type 0
-  Spare x p = UnreadFrom x p ⊎ ((a : ℕ) × (b : ℕ) × InFlight p a b x)
+  Spare x p = NotLiveFrom x p ⊎ ((a : ℕ) × (b : ℕ) × InFlight p a b x)
 
   -- the plan has the texts of the names of an expression
   abbrev pub Ready : Expr → State → Holding → Type 0
@@ -182,7 +182,7 @@ module _ (s : List Statement) (d : Decisions) (ok : MeetsConditions s d) (limit 
           (subst (λ (o : Option Shape). NextOf shapes p o q) (shape_at p (Some l) f) n)
 
   -- ---- what stays spare
-  goes_on : (x : List ℕ) (p q : ℕ) → assigns_at (slice_get s p) x ≡ false → Next shapes p q → UnreadFrom x p → UnreadFrom x q
+  goes_on : (x : List ℕ) (p q : ℕ) → assigns_at (slice_get s p) x ≡ false → Next shapes p q → NotLiveFrom x p → NotLiveFrom x q
   goes_on x p q unset n u path r = u (q ∷ path) (unset, n, r)
 
   flight_on : (x : List ℕ) (p q a b : ℕ) → assigns_at (slice_get s p) x ≡ false → Next shapes p q → InFlight p a b x → Spare x q
@@ -313,12 +313,12 @@ module _ (s : List Statement) (d : Decisions) (ok : MeetsConditions s d) (limit 
       no_reader : (x : List ℕ) → assigns l x ≡ true → (q : ℕ) → reads_at (slice_get s q) x ≡ false
       no_reader x e q = ok.kinds p q x (ap (λ (o : Option Statement). assigns_other_at o x) here ∙ (λ i. not (no_cord i) && e i))
 
-      unread_all : (x : List ℕ) → ((q : ℕ) → reads_at (slice_get s q) x ≡ false) → (q : ℕ) → UnreadFrom x q
-      unread_all x g q [] r = not_both (reads_at (slice_get s q) x) r (g q)
-      unread_all x g q (m ∷ path) r = unread_all x g m path r.2
+      not_live_all : (x : List ℕ) → ((q : ℕ) → reads_at (slice_get s q) x ≡ false) → (q : ℕ) → NotLiveFrom x q
+      not_live_all x g q [] r = not_both (reads_at (slice_get s q) x) r (g q)
+      not_live_all x g q (m ∷ path) r = not_live_all x g m path r.2
 
       spare_after : (x : List ℕ) (w : Bool) → assigns l x ≡ w → Spare x p → Spare x (p + 1)
-      spare_after x true e sp = inl (unread_all x (no_reader x e) (p + 1))
+      spare_after x true e sp = inl (not_live_all x (no_reader x e) (p + 1))
       spare_after x false e sp = spare_on x p (p + 1) (unset_line x e) next_here sp
 
       on_pair : (a b : ℕ) (x : List ℕ) → InFlight (p + 1) a b x → (a ≡ p) ⊎ (a < p) → Ready (d.exprs a) u h_on ×

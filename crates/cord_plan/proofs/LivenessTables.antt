@@ -87,14 +87,14 @@ module _ (s : List Statement) (t : Numbering) (table : List Successors) (groups 
     some_none [] = refl
     some_none (q ∷ qs) = some_none qs
 
-    reported_unread : (p : ℕ) (v : Bool) → has (names_of t) x ≡ v → reports_of table groups (number_of t x) p ≡ false → (q : ℕ) →
+    reported_not_live : (p : ℕ) (v : Bool) → has (names_of t) x ≡ v → reports_of table groups (number_of t x) p ≡ false → (q : ℕ) →
         Next (map shape_of s) p q →
         (path : List ℕ) → ReadBy s x q path → ⊥
-    reported_unread p false known e q next path r =
+    reported_not_live p false known e q next path r =
         let known_too : has (names_of t) x ≡ true = path_known q path r in
         let bad : ⊥ = cc in
         bad
-    reported_unread p true known e q next path r =
+    reported_not_live p true known e q next path r =
         let there : at (live_of t groups x) q ≡ true = path_in_table s x (live_of t groups x) (live known) q path r in
         let held : some_of (λ m. at (live_of t groups x) m) (successors (map shape_of s) p) ≡ true =
         shape_held (λ m. at (live_of t groups x) m) (map shape_of s) p (slice_get (map shape_of s) p) q next there in
@@ -122,7 +122,7 @@ module _ (s : List Statement) (t : Numbering) (table : List Successors) (groups 
     -- a table that has the names that lines read tells exactly what is read later
     pub reports_at_all : (p : ℕ) → (reports_of table groups (number_of t x) p ≡ false → NotLive s x p) ×
         (reports_of table groups (number_of t x) p ≡ true → ReadLater s x p)
-    reports_at_all p = (λ e. reported_unread p (has (names_of t) x) refl e, λ e. reported_read p (has (names_of t) x) refl e)
+    reports_at_all p = (λ e. reported_not_live p (has (names_of t) x) refl e, λ e. reported_read p (has (names_of t) x) refl e)
 
   pub reports_exactly : IsLater s (λ x p. reports_of table groups (number_of t x) p)
   reports_exactly = record {

@@ -21,7 +21,7 @@ use Rattle.cord_plan.specs.declared.flow.numbering.Numbering.{Numbering}
 use Rattle.cord_plan.specs.Operands.{has, cord_arguments, read_by, reads_at, target_of}
 use Rattle.cord_plan.specs.inner.Choices.{simple_operands}
 use Rattle.cord_plan.specs.inner.Numbering.{Covers, IsLineAt, IsNumbered, IsNumbering, names_of, number_in, number_of}
-use Rattle.cord_plan.specs.inner.Places.{Adds, AddsLine, AreNumbers, Grows, IsLine, IsNumber, Takes, place_of}
+use Rattle.cord_plan.specs.inner.Places.{Adds, AddsLine, AreNumbers, Grows, IsLine, IsNumber, TakesNumber, place_of}
 use Rattle.cord_plan.proofs.Choices.{simple_reads}
 use Rattle.cord_plan.proofs.Named.{same_bytes, own_bytes}
 
@@ -148,7 +148,7 @@ then_grows a b c one two = record {
 }
 
 pub name_added : (y : List ℕ) (names : List (List ℕ)) → All (λ z. bytes_eq y z ≡ false) names →
-    Takes y (length names) names (names ++ y ∷ [])
+    TakesNumber y (length names) names (names ++ y ∷ [])
 name_added y names new = record {
   grows = record {
     remains = λ n x e. get_before names (y ∷ []) n x e;
@@ -158,7 +158,7 @@ name_added y names new = record {
 }
 
 -- a name that stands in the list already
-pub name_known : (y : List ℕ) (names : List (List ℕ)) (n : ℕ) → slice_get names n ≡ Some y → Takes y n names names
+pub name_known : (y : List ℕ) (names : List (List ℕ)) (n : ℕ) → slice_get names n ≡ Some y → TakesNumber y n names names
 name_known y names n there = record { grows = same_names names; is = there }
 
 -- ---- the numbers of names stay when other names come
@@ -199,7 +199,8 @@ module _ (old new : List (List ℕ)) (grows : Grows old new) where
 pub none_added : (names : List (List ℕ)) (numbers : List ℕ) → Adds [] names names numbers numbers
 none_added names numbers = record { grows = same_names names; numbers = []; noted = sym (append-nil numbers); are = refl }
 
-pub one_added : (x : List ℕ) (n : ℕ) (old new : List (List ℕ)) (before after : List ℕ) → Takes x n old new → after ≡ before ++ n ∷ [] →
+pub one_added : (x : List ℕ) (n : ℕ) (old new : List (List ℕ)) (before after : List ℕ) → TakesNumber x n old new → after ≡ before ++ n ∷ []
+    →
     Adds (x ∷ []) old new before after
 one_added x n old new before after takes noted = record {
   grows = takes.grows;

@@ -40,7 +40,7 @@ module _ (t : Numbering) (w : Option ℕ) (places : List (Option ℕ)) where
       by_number (Some m) e other = ap (λ (o : Option (Option ℕ)). unwrap_or o None) (set_apart places n m w (λ same.
           (let mine : slice_get (names_of t) m ≡ Some x = number_there t x m e in
           let one : x ≡ y = cc in
-          let own : bytes_eq x y ≡ true = ap (λ (z : List ℕ). bytes_eq x z) (sym one) ∙ own_bytes x in
+          let defining : bytes_eq x y ≡ true = ap (λ (z : List ℕ). bytes_eq x z) (sym one) ∙ own_bytes x in
           let bad : ⊥ = cc in bad)))
 
       by_name : (v : Bool) → bytes_eq x y ≡ v → entry_of t (set places n w) x ≡ (if v then w else entry_of t places x)

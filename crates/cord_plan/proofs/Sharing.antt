@@ -30,7 +30,7 @@ full_made prefix =
     ∙ (ap (λ (es : List Expr). append (members_view prefix.value) (members_of es)) view-Nothing ∙ append_nothing
     (members_view prefix.value))
 
--- members whose front stays
+-- members whose prefix stays
 rest_more : (ms : Members) (rest : Rest) (more : Exprs) →
     members_of (rest_view rest) ≡ append (members_of (rest_view (out-Members ms).rest)) more →
     members_view (roll-Members (record { prefix = (out-Members ms).prefix; rest = rest })) ≡ append (members_view ms) more

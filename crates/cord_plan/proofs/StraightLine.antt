@@ -23,7 +23,7 @@ use Rattle.cord_plan.proofs.Choices.{simple_reads}
 use Rattle.cord_plan.proofs.Recents.{none_noted, set_apart, set_there}
 use Rattle.cord_plan.proofs.Words.{bit_or_is, bit_zero_is}
 
--- behind the last line
+-- after the last line
 pub none_ahead : (t : Numbering) → AreAhead [] t (replicate (length (names_of t)) None)
 none_ahead t = record {
   places_for = length-replicate (length (names_of t)) None;
@@ -57,7 +57,7 @@ one_bit k i within = elim (eqb_tells i k) [
       rw (w.0, there) refl
 ]
 
--- the bits of the names before a place, where those behind it are unset
+-- the bits of the names before a place, where those after it are unset
 pub record BitsTo (holds : List ℕ → Bool) (xs : List (List ℕ)) (k w : ℕ) : Type 0 where
   pub before : (i : ℕ) (x : List ℕ) → i < k → i < 16 → slice_get xs i ≡ Some x → bit w i ≡ holds x
   pub suffix : (i : ℕ) → k ≤ i → bit w i ≡ false
@@ -85,7 +85,7 @@ bits_more holds xs k w v x a there is one bits = record {
   ];
 }
 
--- what is asked of a line, by what is noted behind it
+-- what is asked of a line, by what is noted after it
 pub line_is : (t : Numbering) (places : List (Option ℕ)) (ls : List Statement) (l : Statement) (line : LineLater) (target : Option ℕ) →
     AreAhead ls t places → line.target ≡ is_some (entry_at places target) → target ≡ number_in t (target_of l) →
     AreBits (λ x. is_some (entry_of t places x)) (read_by l) line.operands →

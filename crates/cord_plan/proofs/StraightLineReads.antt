@@ -122,7 +122,7 @@ module _ (s : List Statement) (none : NoBlocks s) where
         let within : p + 1 < length s = (head_of s (p + 1) l ls from).within in
         record { first = p + 1; path = rest.0; next = next_there p (omega (arith, within)); reads = rest.1 }
 
-  -- the lines behind each line tell what is read later
+  -- the lines after each line tell what is read later
   pub lines_report : IsLater s (λ x p. later_in (drop (p + 1) s) x)
   lines_report = record {
     not_live = λ x p e q next path r.

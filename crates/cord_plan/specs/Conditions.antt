@@ -1,4 +1,4 @@
--- The conditions on what a plan decides under which it keeps the meaning of its script: on dead targets, on measured ones, and on forced
+-- The conditions on what a plan decides under which it keeps the meaning of its script: on dead targets, on measured ones, and on inlined
 -- pairs.
 use Rattle.std.specs.Prelude.{◌≡◌, ◌<◌, ◌≤◌, ◌⊎◌, ℕ, ◌+◌, Bool, true, false, not, ◌&&◌, List, [], ◌∷◌, map, Option, Some, None, slice_get}
 use Rattle.cord_syntax.specs.declared.statements.Statement.{Statement}

@@ -1,4 +1,4 @@
-// Scripts whose plans are computed: each clause is a worked row.
+// Scripts whose plans are computed: each clause is a worked example.
 ghost use Rattle.std.specs.Prelude.{◌≡◌, ◌++◌, [], Some, None, IsSome, codes};
 ghost use Rattle.cord_meaning.specs.Machine.{output};
 ghost use Rattle.cord_meaning.specs.declared.ends.End.TheVariants.{Done, Fault};

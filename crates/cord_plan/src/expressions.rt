@@ -132,7 +132,7 @@ impl Members {
         }
     }
 
-    /// The members in front, where other expressions may share them, and those after them. Some stand after a front.
+    /// The members in front, where other expressions may share them, and those after them. Some stand after a prefix.
     #[inline(always)]
     #[cycle(halves)]
     pub fn halves(&self) -> (Option<&Members>, &[Rc<Expr>])
@@ -161,7 +161,7 @@ impl Members {
         self.halves()
     }
 
-    /// The same members, in front of those that follow where no more fit after the front: so others share them.
+    /// The same members, in front of those that follow where no more fit after the prefix: so others share them.
     /// Refused only with `NoMemory`.
     pub(crate) fn to_share(self, alloc: Global) -> Result<Self, CordError>
         ensures made { IfOk result (λ ms. members_view ms ≡ members_view self) }

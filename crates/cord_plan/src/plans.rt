@@ -65,7 +65,7 @@ fn trivial_operations(alloc: Global, statements: &[Statement]) -> Result<Vec<Ope
     Ok(operations)
 }
 
-// Whether it is told of a place; of a place past the end it isn't.
+// Whether it is said of a place; of a place past the end it isn't.
 #[inline(always)]
 fn is_reported(reported: &[bool], place: usize) -> bool
     ensures { result ≡ get_or reported.now place false }
@@ -120,7 +120,7 @@ impl Plan {
     }
 
     /// Whether the operation at a place joins what the one before it joins, and one member more; the one before it
-    /// doesn't name what it makes. Not told of each that does. O(1).
+    /// doesn't name what it makes. Not said of each that does. O(1).
     #[inline(always)]
     pub fn extends(&self, place: usize) -> bool
         ensures { result ≡ true → Extends (map operation_view self.now) place }

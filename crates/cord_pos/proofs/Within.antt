@@ -161,7 +161,7 @@ run_span m s byte len at k e h some count bytes fits =
           (sym e) ∙ ap (λ (j : ℕ). take j (drop at (bytes_over t m))) (sym count);
     }
 
--- a range of an entry
+-- a range of a source
 pub func_span : (m : Node) (s : Span) (id : SourceId) (start len from at k : ℕ) → m ≡ Func id len start → IsSound m →
     from ≡ start + at → at + k ≤ len → 0 < k → span_len s ≡ k → ((t : Table) → span_bytes t s ≡ take k (drop from (t id.0))) →
     ((lengths : Lengths) → (from + k ≤ length_at lengths id.0) × (from + k ≤ MAX_LEN) → SpanFitsIn lengths s) → IsSpanAt m at s

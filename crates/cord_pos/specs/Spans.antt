@@ -23,7 +23,7 @@ span_bytes t (Bytes bytes) = bytes.now
 span_bytes t (Run byte len) = replicate len byte
 span_bytes t (Func id start len) = take len (drop start (t id.0))
 
--- a range of an entry lies inside an entry of this length
+-- a range of a source lies inside a source of this length
 abbrev pub SpanFitsIn : Lengths → Span → Type 0
 SpanFitsIn lengths (Bytes bytes) = ⊤
 SpanFitsIn lengths (Run byte len) = ⊤

@@ -10,7 +10,7 @@ use cord_io::{CordError, Source};
 
 impl<'a> Position<'a> {
     /// The byte at the index, from the cord or, in a function part, by one read of one byte of `src`, of which nothing
-    /// is kept. The position is valid, and each function part of its cord lies inside an entry of `src`. Refused with
+    /// is kept. The position is valid, and each function part of its cord lies inside a source of `src`. Refused with
     /// `ReadFailed` where that read failed; the position is as before in either case.
     pub fn fetch<S: Source>(&mut self, src: &mut S) -> Result<u8, CordError>
         requires valid { IsSome self.old.index }

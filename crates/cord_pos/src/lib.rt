@@ -31,8 +31,8 @@ struct Spot<'a> {
 
 /// A cord with an index below its length, or with none, as past the end or before the beginning.
 ///
-/// `fetch` asks for a valid position, which `is_valid` tells, and for function parts that lie inside entries of the
-/// source: so it is with every cord over no files, with those that the source made where it is a `Sources`, and with
+/// `fetch` asks for a valid position, which `is_valid` tells, and for function parts that lie inside sources of the
+/// table: so it is with every cord over no files, with those that it made where it is a `Sources`, and with
 /// what `cat`, `substr` and the others make of them.
 ///
 /// ```rust end_of_word

@@ -7,7 +7,7 @@ ghost use Rattle.cord_pos.specs.Spans.{span_len, IsSpanAt, IsSpanPrefix};
 use cord_io::SourceId;
 use cord_node::Node;
 
-/// A text that lies in one part: bytes of a leaf, a byte `len` times, or `len` bytes of an entry of a source from place
+/// A text that lies in one part: bytes of a leaf, a byte `len` times, or `len` bytes of a source of a table from place
 /// `start` on.
 #[derive(Clone, Copy)]
 pub enum Span<'a> {

@@ -33,7 +33,7 @@ decimal_figures : (ds : List ℕ) → AllBelowBase 10 ds → map (figure Decimal
 decimal_figures [] h = refl
 decimal_figures (d ∷ ds) h = let one = decimal_figure d h.0 in let rest = decimal_figures ds h.1 in cc (one, rest)
 
--- a number above 0 is shown by std's decimal digits
+-- a number above 0 is printed by std's decimal digits
 pub decimal-figures : (n : ℕ) → 0 < n → n < 2 ^ 64 → map (figure Decimal) (digits_of 10 n) ≡ decimal n
 decimal-figures n some fits = decimal_figures (digits_of 10 n) (all_below_base_digits_of 10 n (omega arith))
     ∙ sym (decimal-digits_of n some fits)

@@ -162,7 +162,7 @@ each_byte n b old new e h = h n (omega (arith, e))
 shown_split : (x y z : List Cell) → x ++ y ++ z ≡ x ++ (y ++ z)
 shown_split x y z = simp append_assoc
 
--- what is shown beside a cord's text
+-- what is printed beside a cord's text
 pub own_shown : (s : Shown) (p : Piece) (a : Option (PieceArgument Cell)) → shown_text s ≡ piece_text known p a →
     body_taken s.body ≡ taken_text p a → shown_own s ≡ own_bytes p a
 own_shown s p a text taken = own_length s ∙ ap (λ x. length x - length (body_taken s.body)) text
@@ -251,7 +251,7 @@ own_next pieces i p args others a n within is taken left own =
     ∙ ap (λ (m : ℕ). m + all_own after (others_if (wants p) args)) (sym first)
     ∙ ap (λ (os : List (PieceArgument Cell)). n + all_own after os) (sym left)
 
--- the steps of a front, and of what is shown
+-- the steps of a prefix, and of what is printed
 pub prefix_from : (l : Layout) (a b c d : List Part) → IsPrintedFrom l.before a b → IsPrintedFrom (length (option_to_list l.sign)) b c →
     IsPrintedFrom l.zeros c d → IsPrintedFrom (length (prefix_of l)) a d
 prefix_from l a b c d one two three = subst (λ (n : ℕ). IsPrintedFrom n a d) (sym (prefix_length l))

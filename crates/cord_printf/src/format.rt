@@ -48,8 +48,8 @@ impl Format {
     }
 
     /// The offset of the first `%` that stands after whole pieces and begins no conversion, or `None` where the bytes
-    /// are a format. So all bytes are a format or have a first bad offset, and `parse` refuses a format when out of
-    /// memory alone. It takes no memory, and time in proportion to the bytes.
+    /// are a format. So all bytes are a format or have a first bad offset, and `parse` refuses a format only when
+    /// out of memory. It takes no memory, and time in proportion to the bytes.
     pub fn bad_offset(bytes: &[u8]) -> Option<usize>
         ensures bad { IfSome result (IsBadAt bytes.now) }
         ensures format { IfNone result ((pieces : List Piece) × IsFormat bytes.now pieces) }

@@ -108,7 +108,7 @@ fn sign_len(sign: Option<u8>) -> u32
     }
 }
 
-// The sign that is shown.
+// The sign that is printed.
 fn sign(plus: bool, number: i64) -> Option<u8>
     ensures { option_to_list result ≡ sign_of plus number }
 {
@@ -283,7 +283,7 @@ pub fn show<'a>(
 }
 
 impl Shown<'_> {
-    /// How many bytes are shown, or `u64::MAX` where they are more.
+    /// How many bytes are printed, or `u64::MAX` where they are more.
     #[inline(always)]
     pub fn len(&self) -> u64
         ensures { result ≡ min (length (shown_text self.now)) (2 ^ 64 - 1) }

@@ -1,4 +1,4 @@
--- Runs whose members tell the same have the same faithful ends.
+-- Runs whose events report the same have the same faithful ends.
 use Rattle.std.proofs.Common.{◌≡◌, ◌<◌, inl, inr, ⊎_elim, ℕ, List, [], ◌∷◌, ◌++◌, map, refl, sym, ap, ◌∙◌}
 use Rattle.std.specs.Prelude.{All, flat_map}
 use Rattle.std.proofs.lemmas.List.{map-append}
@@ -9,7 +9,7 @@ use Rattle.cord_meaning.specs.Ends.{FaithfulEnd, FaithfulOutput, IsComplete, Sto
 use Rattle.cord_meaning.specs.Machine.{Event, output}
 use Rattle.cord_meaning.specs.Machine.{reported}
 
--- what a member tells
+-- what an event reports
 abbrev Reported : Type 0
 Reported = ℕ × ℕ × List ℕ
 
@@ -24,7 +24,7 @@ reported_lines [] all = All-nil (λ m. 0 < m.line)
 reported_lines (m ∷ ms) all = All-cons (λ m. 0 < m.line) m ms (All-head (λ (t : Reported). 0 < t.0) (reported m) (map reported ms) all)
     (reported_lines ms (All-tail (λ (t : Reported). 0 < t.0) (reported m) (map reported ms) all))
 
--- members that tell a list, split where the list is
+-- events that report a list, split where the list is
 record Split {T : Type 0} (ns : List (Event T)) (earlier : List Reported) (one : Reported) : Type 0 where
   prefix : List (Event T)
   here : Event T
@@ -63,7 +63,7 @@ module _ {S T : Type 0} (ms : List (Event S)) (ns : List (Event T)) (same : map 
   lines_same all = reported_lines ms (All-same (λ (t : Reported). 0 < t.0) (map reported ms) (map reported ns) same
       (All-map (λ (t : Reported). 0 < t.0) reported ns all))
 
-  -- a stop inside the same member
+  -- a stop inside the same event
   stop_same : (line : ℕ) (out : List ℕ) → StopsAt ms line out → StopsAt ns line out
   stop_same line out s =
       let p = split ns (map reported s.earlier) (reported s.event) (map reported s.later)

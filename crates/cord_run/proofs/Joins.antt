@@ -138,7 +138,7 @@ module _ (cords : List (Option Node)) (place n : ℕ) (z : Option Node)
   at_place : IsJoinOfFirst (drop place cords) n z
   at_place = subst (λ (cs : List (Option Node)). IsJoinOfFirst cs n z) (to_end cords place) prefix
 
-  -- one more front was joined
+  -- one more prefix was joined
   pub prefix_joined : (all next : Option Node) → IsCatting cords (drop place cords) all → IsCord next → text next ≡ text all ++ text z →
       text_len next ≡ text_len all + text_len z → PartsFrom (parts_of all ++ parts_of z) (parts_of next) →
       IsCatting cords (drop (place + n) cords) next

@@ -1,4 +1,4 @@
--- The lengths told of expressions are those of their texts, over every table that the names fit.
+-- The lengths known of expressions are those of their texts, over every table that the names fit.
 use Rattle.std.proofs.Common.{◌≡◌, ◌≤◌, ◌-◌, ℕ, Bool, true, false, ◌&&◌, List, [], ◌∷◌, ◌++◌, length, replicate, Result, Ok, Err, refl, sym}
 use Rattle.std.proofs.Common.{ap, subst, ◌∙◌, inl, inr, arith}
 use Rattle.std.specs.Prelude.{nat_le, min, if◌then◌else◌, Some, None}
@@ -37,7 +37,7 @@ pub content_text : (t : Table) (c : Content) → held_text (held_over t c) ≡ b
 content_text t (Whole cord) = refl
 content_text t (Long len) = refl
 
--- the length told of a content is that of what it holds
+-- the length known of a content is that of what it holds
 pub reported_length : (t : Table) (c : Content) → ContentFits (lengths_of t) c → content_length c ≡ held_length (held_over t c)
 reported_length t (Whole cord) h = length-bytes t cord h.0 h.1
 reported_length t (Long len) h = refl
@@ -48,7 +48,7 @@ operand_value t entries (Numeral z) = refl
 operand_value t entries (Named x) = refl
 
 module _ (t : Table) (entries : List Entry) (over : IsOver (lengths_of t) entries) where
-  -- the length told of an expression is the one that the meaning of plans has
+  -- the length known of an expression is the one that the meaning of plans has
   pub reported_extent : (e : Expr) → extent_in entries e ≡ extent MAX_LEN e (holding_of t entries)
   reported_extent e = λ i. measured MAX_LEN (λ x. reported_length t (content_in entries x) (over.contents x) i)
       (λ n. operand_value t entries n i) e
@@ -91,7 +91,7 @@ texts_split h (x ∷ xs) ys e =
 
 module _ (t : Table) (entries : List Entry) (over : IsOver (lengths_of t) entries) (e : Expr)
     (there : all_texts (holding_of t entries) (cords e) ≡ true) where
-  -- the length told of an expression whose names all hold texts is that of its text
+  -- the length known of an expression whose names all hold texts is that of its text
   pub text_reported : extent_in entries e ≡ length_of (text_in MAX_LEN (plain_of t entries) e)
   text_reported =
       let h : Holding = holding_of t entries in

@@ -35,7 +35,7 @@ gathered_text text before after cord none short grown of sound = record {
     held : (lengths : Lengths) → AreHeldIn lengths after
     held lengths = grown.fits lengths (nothing lengths)
 
--- the first bytes of a function's entry are those of the function
+-- the first bytes of a function's source are those of the function
 start_text : (f : ℕ → ℕ) (n count : ℕ) → count ≤ n → take count (drop 0 (text_of f n)) ≡ text_of f count
 unfolding text_of
 start_text f n count h = range-text_of f n 0 count (omega arith)

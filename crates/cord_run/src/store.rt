@@ -45,7 +45,7 @@ impl Content {
         }
     }
 
-    /// The length that is told of it.
+    /// The length known of it.
     #[inline(always)]
     fn len(&self) -> u64
         ensures { result ≡ content_length self.now }
@@ -133,7 +133,7 @@ impl Store {
         }
     }
 
-    /// The length that is told of the name of a cord.
+    /// The length known of the name of a cord.
     #[inline(always)]
     pub(crate) fn length_of(&self, name: &Name) -> u64
         ensures { result ≡ length_in self.now.entries.items name.now }

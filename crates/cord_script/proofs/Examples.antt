@@ -481,7 +481,7 @@ else_twice = inr (inl (record {
       (lit≤ tt) (record { shows = refl; no_note = refl; words = refl }) (None, refl, refl);
 }))
 
--- all rows
+-- all examples
 pub examples : Examples
 examples = record {
   hello = hello;

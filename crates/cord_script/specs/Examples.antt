@@ -11,7 +11,7 @@ use Rattle.cord_script.specs.FirstErrors.{FirstErrorBy}
 abbrev pub quote : List ℕ → List ℕ
 quote t = 34 ∷ t ++ 34 ∷ []
 
--- The rows under their names.
+-- The examples under their names.
 pub record Examples : Type 0 where
   pub hello : ReadsBy whole (codes "let x " ++ quote (codes "hello") ++ 10 ∷ codes "put x")
       (Let 1 (codes "x") (codes "hello") ∷ Put 2 (codes "x") ∷ [])

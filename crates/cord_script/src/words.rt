@@ -163,7 +163,7 @@ fn escape(bytes: &[u8]) -> Option<(u8, &[u8])>
     }
 }
 
-// The byte that the prefix of a quoted word stands for, and what follows that front.
+// The byte that the prefix of a quoted word stands for, and what follows it.
 fn unit(bytes: &[u8]) -> Option<(u8, &[u8])>
     ensures { option_map (λ r. (r.0, r.1.now)) result ≡ unit_of bytes.now }
 {

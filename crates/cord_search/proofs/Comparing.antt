@@ -37,7 +37,7 @@ cmp_prefix : (f u v : List ℕ) → slice_cmp nat_cmp (f ++ u) (f ++ v) ≡ slic
 cmp_prefix [] u v = refl
 cmp_prefix (b ∷ f) u v = ap (λ (r : Ordering). ordering_then r (slice_cmp nat_cmp (f ++ u) (f ++ v))) (same_byte b) ∙ cmp_prefix f u v
 
--- the order of two texts is that of what comes after a front that both have
+-- the order of two texts is that of what comes after a prefix that both have
 pub cmp_behind : (xs ys : List ℕ) (n : ℕ) → take n xs ≡ take n ys →
     slice_cmp nat_cmp (take (length xs - n) (drop n xs)) (take (length ys - n) (drop n ys)) ≡ slice_cmp nat_cmp xs ys
 cmp_behind xs ys n prefix =

@@ -21,12 +21,12 @@ differ e = cc
 begun : (y s : List ℕ) → begins_with y s ≡ true → StandsAt y s 0
 begun y s e =
     let first_is : first y 0 s ≡ Some 0 =
-    ap (λ (v : Bool). if v then first_from 0 y s else None) (leb-zero (length y)) ∙ front y e in
+    ap (λ (v : Bool). if v then first_from 0 y s else None) (leb-zero (length y)) ∙ prefix y e in
     let least : IsFirst y 0 s (Some 0) = subst (λ (r : Option ℕ). IsFirst y 0 s r) first_is (first_is_least y s 0) in least.1
   where
-    front : (y : List ℕ) → begins_with y s ≡ true → first_from 0 y s ≡ Some 0
-    front [] e = ap (λ (v : Bool). if v then Some 0 else None) e
-    front (b ∷ y) e = ap (λ (v : Bool). if v then Some 0 else first_from 1 y s) e
+    prefix : (y : List ℕ) → begins_with y s ≡ true → first_from 0 y s ≡ Some 0
+    prefix [] e = ap (λ (v : Bool). if v then Some 0 else None) e
+    prefix (b ∷ y) e = ap (λ (v : Bool). if v then Some 0 else first_from 1 y s) e
 
 begins : (s rest : List ℕ) → begins_with (s ++ rest) s ≡ true
 begins [] [] = refl
@@ -63,7 +63,7 @@ module _ (t : Table) (x : Option Node) (s : List ℕ) where
   pub best_found : (middle e q : ℕ) → Some q ≡ first (take e (bytes_of t x)) middle s → IsLastSoFar t x s (Some q) (q + 1)
   best_found middle e q is = (refl, (first_stands (bytes_of t x) s e middle q is).2)
 
-  -- or none, so there is none behind
+  -- or none, so there is none after
   pub none_behind : (middle high limit e : ℕ) → high + length s ≤ e + 1 → None ≡ first (take e (bytes_of t x)) middle s →
       StandsNot t x s high limit → StandsNot t x s middle limit
   none_behind middle high limit e fits is none = λ q low to at. ⊎_elim

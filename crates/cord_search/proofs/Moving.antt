@@ -30,7 +30,7 @@ pub ahead_there : (c : Option Node) (i : Option ℕ) (j : ℕ) (s : Span) → Is
 ahead_there c None j s valid h a = let bad : false ≡ true = valid in cc
 ahead_there c (Some i) j s valid h a = rw (index_inside c j h) at a
 
--- the same of what lies behind it
+-- the same of what lies after it
 pub behind_some : (c : Option Node) (i : Option ℕ) (j : ℕ) (r : Option Span) → IsSome i → j < text_len c →
     ((s : Span) → r ≡ Some s → ⊥) → IsBehindOf c (moved_index c i j) r → ⊥
 behind_some c i j (Some s) valid h never a = never s refl

@@ -25,7 +25,7 @@ run_part t s xs byte len i k e h is =
     own_range xs (drop i (span_bytes t s)) k (is ∙ sym (take-replicate k (len - i) byte inside)
     ∙ ap (λ (ys : List ℕ). take k ys) (sym (drop-replicate i len byte)) ∙ ap (λ (ys : List ℕ). take k (drop i ys)) (sym (e t)))
 
--- bytes that were read of an entry
+-- bytes that were read of a source
 pub func_part : (t : Table) (s : Span) (xs : List ℕ) (id start len from i : ℕ) →
     ((t : Table) → span_bytes t s ≡ take len (drop start (t id))) → from ≡ start + i → i + length xs ≤ len →
     xs ≡ take (length xs) (drop from (t id)) → IsPartOf t s i xs

@@ -11,7 +11,7 @@ use Rattle.cord_node.proofs.TableLemmas.{bytes-cells}
 use Rattle.cord_core.specs.Cord.{bytes_of, CordFitsIn, CordFits}
 use Rattle.cord_pos.specs.Spans.{span_len, span_bytes, IsSpanOf, IsSpanPrefix}
 use Rattle.cord_pos.specs.inner.Spans.{IsWithin}
-use Rattle.cord_search.specs.inner.Ahead.{AreAlike}
+use Rattle.cord_search.specs.inner.SharedParts.{AreAlike}
 use Rattle.cord_search.specs.inner.Pieces.{AreSame, IsPieceOf}
 use Rattle.cord_search.specs.inner.Spans.{BeginAlike, IsPartOf}
 use Rattle.cord_pos.specs.declared.span.Span.{Span}

@@ -148,7 +148,7 @@ prefix_stands x s head q f at = record {
       (sym f);
 }
 
--- a text stands at no place at which its front doesn't
+-- a text stands at no place at which its prefix doesn't
 pub prefix_on : (t : Table) (x s : Option Node) (start place q : ℕ) (head : List ℕ) → Some q ≡ first (bytes_of t x) place head →
     IsPieceOf t s 0 head → StandsNot t x (bytes_of t s) start place → StandsNot t x (bytes_of t s) start q
 prefix_on t x s start place q head is f none =

@@ -8,9 +8,9 @@ use Rattle.cord_pos.specs.Spans.{span_len, IsSpanOf, IsSpanAt, EndsAt}
 use Rattle.cord_pos.specs.inner.Spans.{IsWithin}
 use Rattle.cord_pos.specs.declared.span.Span.{Span}
 use Rattle.cord_pos.proofs.Within.{within_on, within_end, span_on, span_back}
-use Rattle.cord_search.specs.inner.Ahead.{IsSpot, AreOneSpot, IsSpotOf, IsStop, AreAlike}
-use Rattle.cord_search.specs.declared.ahead.Spot.{Spot}
-use Rattle.cord_search.specs.declared.ahead.Stop.{Stop}
+use Rattle.cord_search.specs.inner.SharedParts.{IsSpot, AreOneSpot, IsSpotOf, IsStop, AreAlike}
+use Rattle.cord_search.specs.declared.shared_parts.Spot.{Spot}
+use Rattle.cord_search.specs.declared.shared_parts.Stop.{Stop}
 use Rattle.cord_search.proofs.Sharing.{spots_alike}
 
 -- where the same text stands, from another place of it

@@ -1,5 +1,5 @@
 pub mod Spans
-pub mod Ahead
+pub mod SharedParts
 pub mod Pieces
 pub mod Periods
 pub mod Searches

@@ -16,7 +16,7 @@ use cord_pos::Position;
 use memchr::{memchr, memrchr};
 
 /// The byte of a cord at place `i`, after `CORD_fetch` of `cord.h`. The place is below the length, and each function
-/// part lies inside an entry of `src`. Refused with `ReadFailed` where a read failed.
+/// part lies inside a source of `src`. Refused with `ReadFailed` where a read failed.
 pub fn fetch<S: Source>(x: &Cord, i: u64, src: &mut S) -> Result<u8, CordError>
     requires inside { i < text_len x.now }
     requires fits { CordFitsIn (S.lengths src.old) x.now }
@@ -33,7 +33,7 @@ pub fn fetch<S: Source>(x: &Cord, i: u64, src: &mut S) -> Result<u8, CordError>
 }
 
 /// The first place of the byte `c` at `i` or later, after `CORD_chr` of `cord.h`. The place `i` is below the length,
-/// and each function part lies inside an entry of `src`. A place that is found lies inside `x`, whatever `src` keeps.
+/// and each function part lies inside a source of `src`. A place that is found lies inside `x`, whatever `src` answers.
 /// Refused with `ReadFailed` where a read failed.
 pub fn chr<S: Source>(x: &Cord, i: u64, c: u8, src: &mut S) -> Result<Option<u64>, CordError>
     requires inside { i < text_len x.now }
@@ -52,8 +52,8 @@ pub fn chr<S: Source>(x: &Cord, i: u64, c: u8, src: &mut S) -> Result<Option<u64
 }
 
 /// The last place of the byte `c` at `i` or earlier, after `CORD_rchr` of `cord.h`. The place `i` is below the
-/// length, and each function part lies inside an entry of `src`. A place that is found lies inside `x`, whatever `src`
-/// keeps. Refused with `ReadFailed` where a read failed.
+/// length, and each function part lies inside a source of `src`. A place that is found lies inside `x`, whatever `src`
+/// answers. Refused with `ReadFailed` where a read failed.
 pub fn rchr<S: Source>(x: &Cord, i: u64, c: u8, src: &mut S) -> Result<Option<u64>, CordError>
     requires inside { i < text_len x.now }
     requires fits { CordFitsIn (S.lengths src.old) x.now }

@@ -14,7 +14,7 @@ use cord_io::{CordError, ReadFault, Source};
 const FIRST_WIDTH: u64 = 4_096;
 
 /// The last place of `x` where `s` stands and ends at `end` or before, as `rchr` finds a byte. An empty `s` stands last
-/// at `end`, or at the end of `x` where that is less. Each function part lies inside an entry of `src`. Refused with
+/// at `end`, or at the end of `x` where that is less. Each function part lies inside a source of `src`. Refused with
 /// `ReadFailed` where a read failed.
 ///
 /// It takes a time linear in the length of `s` and in how far the place lies before `end`, as far as `str` does.
@@ -44,7 +44,7 @@ pub fn rstr<S: Source>(x: &Cord, end: u64, s: &Cord, src: &mut S) -> Result<Opti
 }
 
 // The last place below `limit` where a text stands that isn't empty. First the places before `limit` are searched, some
-// of them and then twice as many each time, up to a place where it stands; and then, of those behind it, the later half
+// of them and then twice as many each time, up to a place where it stands; and then, of those after it, the later half
 // that is left each time. So each search is half as long as the one before, once the text was found.
 fn last_place<S: Source>(
     x: &Cord,

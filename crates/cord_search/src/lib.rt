@@ -2,13 +2,13 @@
 //! `CORD_cmp`, `CORD_ncmp` and `CORD_str` of `cord.h` of the Boehm collector's distribution.
 #![tactic(auto)]
 
-mod ahead;
 mod bytes;
 mod last;
 mod limits;
 mod order;
 mod periods;
 mod pieces;
+mod shared_parts;
 mod slices;
 mod spans;
 mod substring;

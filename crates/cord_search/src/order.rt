@@ -8,15 +8,15 @@ ghost use Rattle.cord_search.specs.inner.Pieces.{IsOrderOf, sign_of};
 ghost use Rattle.cord_search.specs.inner.Searches.{HasRead};
 
 use crate::PIECE_LEN;
-use crate::ahead::{Ahead, Way, look_ahead};
 use crate::pieces::first_piece;
+use crate::shared_parts::{Ahead, Way, look_ahead};
 use crate::slices::order_of;
 use cord_core::Cord;
 use cord_io::{CordError, ReadFault, Source};
 use std::cmp::Ordering;
 
 /// The order of two texts, after `CORD_cmp` of `cord.h`: -1, 0 or 1 by the bytes, as unsigned numbers, at the first
-/// place of difference; a proper prefix is less. Each function part lies inside an entry of `src`. Refused with
+/// place of difference; a proper prefix is less. Each function part lies inside a source of `src`. Refused with
 /// `ReadFailed` where a read failed.
 pub fn cmp<S: Source>(x: &Cord, y: &Cord, src: &mut S) -> Result<i8, CordError>
     requires left_fits { CordFitsIn (S.lengths src.old) x.now }

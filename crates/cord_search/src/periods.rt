@@ -7,8 +7,8 @@ ghost use Rattle.cord_search.specs.inner.Periods.{IsCommon, HasPeriods};
 ghost use Rattle.cord_search.specs.inner.Searches.{HasRead};
 
 use crate::PIECE_LEN;
-use crate::ahead::{Ahead, Way, look_ahead};
 use crate::pieces::first_piece;
+use crate::shared_parts::{Ahead, Way, look_ahead};
 use cord_core::Cord;
 use cord_io::{ReadFault, Source};
 use memchr::memmem;

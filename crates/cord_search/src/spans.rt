@@ -5,7 +5,7 @@ ghost use Rattle.cord_pos.specs.Spans.{span_len, IsSpanPrefix, IsSpanOf, EndsAt}
 ghost use Rattle.cord_search.specs.inner.Spans.{is_other_run, IsWithout, IsMisfit, BeginAlike};
 
 use crate::PIECE_LEN;
-use crate::ahead::Spot;
+use crate::shared_parts::Spot;
 use cord_core::Cord;
 use cord_pos::{Position, Span};
 
@@ -36,7 +36,7 @@ pub(crate) fn misfits(span: Span, prefix: &[u8]) -> u64
     }
 }
 
-/// Whether two spans are runs of one byte, or ranges of one entry from one place on: then all of the shorter one
+/// Whether two spans are runs of one byte, or ranges of one source from one place on: then all of the shorter one
 /// is the same.
 pub(crate) fn begin_alike(span: Span, other: Span) -> bool
     ensures { result ≡ true → BeginAlike span.entry other.entry }
@@ -120,7 +120,7 @@ pub(crate) fn span_up_to<'a>(position: &mut Position<'a>, end: u64) -> Span<'a>
     span
 }
 
-/// What the block of `PIECE_LEN` bytes has of a span that begins in it, where it is a range of an entry; else all
+/// What the block of `PIECE_LEN` bytes has of a span that begins in it, where it is a range of a source; else all
 /// of it.
 pub(crate) fn in_block(span: Span) -> Span
     requires some { 0 < span_len span }
@@ -131,7 +131,7 @@ pub(crate) fn in_block(span: Span) -> Span
     span.up_to(block_len(span))
 }
 
-// How many bytes of a span the block of `PIECE_LEN` bytes has in which it begins, where it is a range of an entry;
+// How many bytes of a span the block of `PIECE_LEN` bytes has in which it begins, where it is a range of a source;
 // else all.
 fn block_len(span: Span) -> u64
     requires some { 0 < span_len span }

@@ -30,10 +30,11 @@ const WINDOW_LEN: usize = 4 * PREFIX_LEN;
 /// The first place of `x` at `start` or later where `s` stands, after `CORD_str` of `cord.h`. An empty `s` stands at
 /// each place up to the length of `x`. Refused with `ReadFailed` where a read failed.
 ///
-/// Each function part lies inside an entry of `src`: so it is with every cord over no files, with those that `src` made
+/// Each function part lies inside a source of `src`: so it is with every cord over no files, with those that `src` made
 /// where it is a `Sources`, and with what `cat`, `substr` and the others make of them.
 ///
-/// Where `s` is found, all of it lies inside `x`, whatever `src` keeps. So a sum as here is at most the length of `x`:
+/// Where `s` is found, all of it lies inside `x`, whatever `src` answers. So a sum as here is at most the length of
+/// `x`:
 ///
 /// ```rust second_place
 /// use cord_core::Cord;
@@ -69,7 +70,7 @@ pub fn str<S: Source>(x: &Cord, start: u64, s: &Cord, src: &mut S) -> Result<Opt
 }
 
 /// As `str`, in the first `end` bytes of `x`: the first place at `start` or later where `s` stands and ends at `end` or
-/// before. What lies behind `end` is not looked at, but to tell how far a text of more than `MOST_BYTES` repeats
+/// before. What lies after `end` is not looked at, but to tell how far a text of more than `MOST_BYTES` repeats
 /// itself.
 pub fn str_in<S: Source>(
     x: &Cord,
@@ -307,7 +308,7 @@ fn place_of_long<S: Source>(
     Ok(place)
 }
 
-// The same, by the places of the text's front. Behind one at which the text doesn't stand, the search goes on by how
+// The same, by the places of the text's prefix. After one at which the text doesn't stand, the search goes on by how
 // far the text repeats itself.
 fn first_confirmed<S: Source>(
     x: &Cord,
@@ -386,11 +387,11 @@ fn first_of<S: Source>(
         return first_behind(x, start, end, start, finder, room, src);
     }
     let most = leaf.len().min((end - start) as usize);
-    let front = &leaf[..most];
-    match finder.find(front) {
+    let prefix = &leaf[..most];
+    match finder.find(prefix) {
         Some(found) => Ok(Some(start + found as u64)),
         None => {
-            let after = start + (front.len() - head.len() + 1) as u64;
+            let after = start + (prefix.len() - head.len() + 1) as u64;
             first_behind(x, start, end, after, finder, room, src)
         }
     }
@@ -434,7 +435,16 @@ fn first_behind<S: Source>(
             place += skipped;
             continue;
         }
-        let window = window_at(&mut position, place, end, span, head.len(), least, room, src)?;
+        let window = window_at(
+            &mut position,
+            place,
+            end,
+            span,
+            head.len(),
+            least,
+            room,
+            src,
+        )?;
         match finder.find(window) {
             Some(found) => return Ok(Some(place + found as u64)),
             None => place += (window.len() - head.len() + 1) as u64,

@@ -1,4 +1,4 @@
--- What clap tells of the program's words.
+-- What clap reports of the program's words.
 use Rattle.std.proofs.Common.{◌≡◌, ◌∙◌, ℕ, List, [], ◌∷◌, zero, suc, Option, Some, None, codes, ap, sym, subst, refl, inl, inr, arith}
 use Rattle.std.proofs.Common.{is_some, true, false, true≢false}
 use Rattle.std.specs.Prelude.{IfSome, IfOk}

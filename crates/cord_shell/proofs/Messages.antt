@@ -7,7 +7,7 @@ use Rattle.cord_shell.specs.Outcomes.{line_text}
 use Rattle.cord_io.specs.SinkCounts.{SinkCounts}
 use Rattle.cord_shell.specs.Reports.{IsCut, IsWritten, Says, Reports}
 
--- what was told of a message
+-- what was reported of a message
 pub said : (a c message : List ℕ) (n : SinkCounts) (r : Result (Unit {0}) WriteFault) → OnOk r (IsWritten message a c n) →
     OnErr r (IsCut message a c n) → Says a c n message
 said a c message n (Ok x) ok err = inl ok

@@ -56,7 +56,7 @@ IsHelp before after n outcomes.HelpPrinted = (text : List ℕ) × IsWritten text
 IsHelp before after n outcomes.HelpUnwritten = (text : List ℕ) × IsCut text before after n
 IsHelp before after n _ = ⊥
 
--- the script of these bytes is run, or its plan is shown and nothing is run
+-- the script of these bytes is run, or its plan is printed and nothing is run
 abbrev pub Does : (FileSystem → Type 0) → Bool → Bool → List ℕ → List ℕ → List ℕ → Counts → Outcome → Type 0
 Does consistent unplanned true b before after n outcome = IsPrinted unplanned b before after (sink_of n) outcome × FilesKept n
 Does consistent unplanned false b before after n outcome = IsRun consistent b before after n outcome

@@ -85,8 +85,8 @@ IsReadingAt b line = IsNoLine line ⊎ ReadsUpTo b line
 abbrev pub IsStopped : Answer → Type 0
 IsStopped a = (reported : End) × AnswersEnd a reported × StopsBefore IsNoLine a reported
 
--- the script of these bytes was run, and its end, which status and line tell, is faithful: all that it puts over the file system is out and
--- the end is the script's own, or a prefix of it is out and the end is the cause that came; or it was stopped before
+-- the script of these bytes was run, and its end, which status and line report, is faithful: all that it puts over the file system is out
+-- and the end is the script's own, or a prefix of it is out and the end is the cause that came; or it was stopped before
 pub record RunsOver (b : List ℕ) (statements : List Statement) (file_system : FileSystem) (a : Answer) : Type 0 where
   pub reported : End
   pub answers : AnswersEnd a reported
@@ -105,7 +105,7 @@ pub record ShowsOver (unplanned : Bool) (b : List ℕ) (statements : List Statem
   pub shows : ((operations : List Operation) × IsPlan unplanned statements operations × IsOut (text_of_plan operations) a reported) ⊎
       StopsBefore (IsReadingAt b) a reported
 
--- nothing is out, and status and line tell what is wrong with the bytes first, or out of memory at the line that was being read; or
+-- nothing is out, and status and line report what is wrong with the bytes first, or out of memory at the line that was being read; or
 -- it was stopped before
 abbrev pub RefusesOver : List ℕ → Answer → Type 0
 RefusesOver b a =
@@ -113,7 +113,7 @@ RefusesOver b a =
     × Reports [] a.err.taken (err_counts_of a) (line_text refusal.line (text_of refusal.kind)) × IsQuiet [] a.out.taken (counts_of a))
     ⊎ IsStopped a
 
--- nothing is out, and status and line tell that there is no such file; or it was stopped before
+-- nothing is out, and status and line report that there is no such file; or it was stopped before
 abbrev pub MissesOver : Answer → Type 0
 MissesOver a =
     ((a.status ≡ 2) × Reports [] a.err.taken (err_counts_of a) (line_text 0 (fault_text NoFile)) × IsQuiet [] a.out.taken (counts_of a))

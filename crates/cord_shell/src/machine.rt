@@ -37,7 +37,7 @@ pub struct Ran<R: rt::Files, O, E> {
 ///
 /// `drove`: whatever the words are, and though no file system agrees, the status, the output and the line on standard
 /// error are those of one of the things that the words can come to: help, a refused command line, a script that is run,
-/// shown, refused, missing or can't be read, or out of memory. It is what `drive` says.
+/// printed, refused, missing or can't be read, or out of memory. It is what `drive` says.
 /// `run`: where the bytes at SCRIPT are read as a script, the script is run. Standard output took exactly the bytes
 /// that the script puts over the file system, and the status and the line on standard error are those of the script's
 /// end. Or it took a prefix of those bytes, and they are those of the cause that came: a failed read, a failed write,

@@ -1,4 +1,4 @@
-//! What a script came to, and what the program tells of it.
+//! What a script came to, and what the program reports of it.
 ghost use Rattle.std.specs.Prelude.{◌≡◌, ◌≤◌, ◌∷◌, ◌++◌, [], codes, decimal, length, OnOk, OnErr};
 ghost use Rattle.cord_io.specs.SinkCounts.{sink_counts};
 ghost use Rattle.cord_shell.specs.Outcomes.{line_text, message_of, message_of_end, status_of_end};
@@ -26,11 +26,11 @@ pub enum Outcome {
     Unreadable,
     /// Memory was refused before the run.
     NoMemory,
-    /// The script was read, and its plan shown.
+    /// The script was read, and its plan printed.
     PlanPrinted,
     /// The plan could not be written.
     PlanUnwritten,
-    /// The help was shown.
+    /// The help was printed.
     HelpPrinted,
     /// The help could not be written.
     HelpUnwritten,

@@ -152,7 +152,7 @@ fn answer<F: Files, S: Sink>(alloc: Global, words: &[String], files: F, out: &mu
 
 /// Does what the words after the program's name ask for: `[--unplanned] [--show-plan] SCRIPT`, as clap reads them.
 /// It runs the script, or shows its plan, or the help, on `out`.
-/// It answers the exit status, tells on `err` what went wrong, and hands back the files.
+/// It answers the exit status, reports on `err` what went wrong, and hands back the files.
 pub fn drive<F: Files, S: Sink, T: Sink>(
     alloc: Global,
     words: &[String],

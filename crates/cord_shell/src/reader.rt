@@ -18,7 +18,8 @@ pub enum Unread {
 // How many bytes are asked for at once.
 const BLOCK: usize = 512;
 
-/// All bytes of a file that is not longer than `most`, as each file system holds them that the files keep then.
+/// All bytes of a file that is not longer than `most`, as each file system holds them that is consistent with the files
+/// then.
 pub fn read_whole<F: Files>(
     alloc: Global,
     files: &mut F,

@@ -20,7 +20,7 @@ pub struct Request<'a> {
     pub script: &'a str,
     /// The plan is the trivial one.
     pub unplanned: bool,
-    /// The plan is shown, and nothing is run.
+    /// The plan is printed, and nothing is run.
     pub show_plan: bool,
 }
 

@@ -96,7 +96,7 @@ fn expect_come(
 ) {
     assert!(rt; come.status == status, "{name}: the status");
     assert!(rt; come.out.bytes() == written, "{name}: what is written");
-    assert!(rt; come.err.bytes() == reported, "{name}: what is told");
+    assert!(rt; come.err.bytes() == reported, "{name}: what is reported");
 }
 
 // Drives a script at "s" both ways, and compares what comes of it.
@@ -131,7 +131,7 @@ fn numbered(rt: &(impl AllocGlobal + Abort), count: usize) -> Vec<u8> {
     bytes
 }
 
-// The bytes of a script that is shown with ` ; ` between its lines.
+// The bytes of a script that is written with ` ; ` between its lines.
 fn lines(rt: &(impl AllocGlobal + Abort), printed: &str) -> Vec<u8> {
     let mut script = again!(rt, printed.replace(rt.alloc(), " ; ", "\n")).into_bytes();
     add(rt, &mut script, b"\n");

@@ -1,4 +1,4 @@
--- What a template means, over a table of entries.
+-- What a template means, over a table of sources.
 use Rattle.std.specs.Prelude.{ℕ, List}
 use Rattle.std.specs.List.{flat_map, repeat}
 use Rattle.cord_io.specs.Table.{Table}

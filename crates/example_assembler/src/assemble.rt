@@ -41,7 +41,7 @@ fn cord_of<S: Source>(alloc: Global, src: &S, segment: &Segment<'_>) -> Result<C
     }
 }
 
-/// The whole of an entry, so many times.
+/// The whole of a source, so many times.
 fn copies<S: Source>(alloc: Global, src: &S, id: SourceId, times: u64) -> Result<Cord, CordError>
     ensures { IfOk result (Means (S.lengths src.now) (λ t. repeat times (t id.0))) }
 {
@@ -50,7 +50,7 @@ fn copies<S: Source>(alloc: Global, src: &S, id: SourceId, times: u64) -> Result
     Ok(text)
 }
 
-/// The whole of an entry.
+/// The whole of a source.
 fn entry<S: Source>(alloc: Global, src: &S, id: SourceId) -> Result<Cord, CordError>
     ensures { IfOk result (Means (S.lengths src.now) (λ t. t id.0)) }
 {

@@ -19,7 +19,7 @@
 //!
 //! What it shows of the library, and how it scales:
 //!
-//! - `Sources` gives files as entries by number, of which nothing is read before it is wanted. A cord over an entry is
+//! - `Sources` gives files as sources by number, of which nothing is read before it is wanted. A cord over a source is
 //!   one node, whatever the length of the file.
 //! - A text that stands n times is made by doubling and shares itself: at most two nodes for each bit of n. So the text
 //!   of 560 gigabytes is about fifty nodes.

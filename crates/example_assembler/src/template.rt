@@ -8,7 +8,7 @@ use std::alloc::{AllocError, Global};
 pub enum Segment<'a> {
     /// A text of the template, or a value.
     Text(&'a str),
-    /// A file, by its entry, so many times.
+    /// A file, by its source, so many times.
     File(SourceId, u64),
 }
 

@@ -25,7 +25,7 @@ pub record Marks (old new : List Entry) (n len : ℕ) : Type 0 where
   pub others : (k : ℕ) → k ≢ n → opened_of new k ≡ opened_of old k
   pub kept : (k : ℕ) → IsSome (opened_of old k) → opened_of new k ≡ opened_of old k
 
--- the entry with a number has new bytes, and nothing is told of it that wasn't reported before
+-- the entry with a number has new bytes, and nothing is reported of it that wasn't reported before
 pub record Rewrites (old new : List Entry) (n : ℕ) (bytes : List ℕ) : Type 0 where
   pub file_system : file_system_of new ≡ with_bytes (file_system_of old) n bytes
   pub count : length new ≡ length old

@@ -1,4 +1,4 @@
--- What the machine told of a path at which no file is.
+-- What the machine reported of a path at which no file is.
 use Rattle.std.specs.Prelude.{ℕ, List, ◌∷◌, Ok, Err}
 use Rattle.std.specs.declared.result.Result.{Result}
 use Rattle.cord_io.specs.Reported.{Reported, is_missing}

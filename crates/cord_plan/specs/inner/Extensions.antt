@@ -6,7 +6,7 @@ use Rattle.cord_plan.specs.Extending.{Extends}
 use Rattle.cord_plan.specs.Verbatim.{KeepsNoOther}
 use Rattle.cord_plan.specs.Planned.{Operation}
 
--- where it is told of a place, the operation there extends the one before it
+-- where it is said of a place, the operation there extends the one before it
 abbrev pub AreExtending : List Bool → List Operation → Type 0
 AreExtending reported operations = (place : ℕ) → slice_get reported place ≡ Some true → Extends operations place
 

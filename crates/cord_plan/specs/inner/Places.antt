@@ -30,7 +30,7 @@ pub record Grows (old new : List (List ℕ)) : Type 0 where
   pub distinct : IsDistinct bytes_eq old → IsDistinct bytes_eq new
 
 -- it has a name at a place then
-pub record Takes (x : List ℕ) (n : ℕ) (old new : List (List ℕ)) : Type 0 where
+pub record TakesNumber (x : List ℕ) (n : ℕ) (old new : List (List ℕ)) : Type 0 where
   pub grows : Grows old new
   pub is : slice_get new n ≡ Some x
 

@@ -92,7 +92,7 @@ module _ (s : List Statement) (later : List ℕ → ℕ → Bool) where
     pub next : IsNext b l old sources e
     pub marked : new ≡ measured_from 0 sources old
 
-  -- where it is told of the line l at b that it extends the line before it, its choices say so
+  -- where it is said of the line l at b that it extends the line before it, its choices say so
   abbrev pub IsReportedLonger : ℕ → Statement → List Operation → Bool → Type 0
   IsReportedLonger b l old reported = (t : plain.Table) → Has (map operation_expression old) t → reported ≡ true →
       is_longer b l (plain.operands_chosen s later t b l (plain.defining l)).1 ≡ true

@@ -6,7 +6,7 @@ ghost use Rattle.std.proofs.Props.{props};
 ghost use Rattle.cord_syntax.specs.Readings.{read_names};
 ghost use Rattle.cord_syntax.specs.declared.statements.Statement.{Statement};
 ghost use Rattle.cord_plan.specs.Operands.{cord_arguments};
-ghost use Rattle.cord_plan.specs.inner.Places.{Adds, AddsLine, AreLines, HasNumbers, IsLineIn, Takes, place_of};
+ghost use Rattle.cord_plan.specs.inner.Places.{Adds, AddsLine, AreLines, HasNumbers, IsLineIn, TakesNumber, place_of};
 
 use cord_script::{Argument, Name, Statement};
 use cord_syntax::{Operands, Reading};
@@ -50,7 +50,7 @@ pub(crate) fn number_at(numbers: &[usize], index: usize) -> Option<usize>
 // The number of a name, which is taken in where it isn't there.
 #[inline(always)]
 fn number(names: &mut Vec<Name>, name: &Name) -> Result<usize, AllocError>
-    ensures { IfOk result (λ n. Takes name.now n names.old.items names.new.items) }
+    ensures { IfOk result (λ n. TakesNumber name.now n names.old.items names.new.items) }
 {
     match name.place_in(names) {
         Some(place) => Ok(place),
@@ -63,7 +63,7 @@ fn number(names: &mut Vec<Name>, name: &Name) -> Result<usize, AllocError>
 #[inline(never)]
 fn number_new(names: &mut Vec<Name>, name: &Name) -> Result<usize, AllocError>
     requires { All (λ other. bytes_eq name.now other ≡ false) names.old.items }
-    ensures { IfOk result (λ n. Takes name.now n names.old.items names.new.items) }
+    ensures { IfOk result (λ n. TakesNumber name.now n names.old.items names.new.items) }
 {
     let number = names.len();
     names.push(name.clone()?)?;

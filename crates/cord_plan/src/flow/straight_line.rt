@@ -68,7 +68,7 @@ fn operand_bit(index: usize, is_set: bool) -> u16
 }
 
 impl Ahead {
-    // Behind the last line.
+    // After the last line.
     fn of(alloc: Global, numbering: &Numbering) -> Result<Self, AllocError>
         ensures { IfOk result (λ a. AreAhead [] numbering.now a.read.items) }
     {

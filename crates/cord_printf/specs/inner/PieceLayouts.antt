@@ -22,7 +22,7 @@ body_text (Byte b) = known b ∷ []
 body_text (Digits d) = map known d
 body_text (Start c len) = take len (text c.now)
 
--- the cells that are shown
+-- the cells that are printed
 abbrev pub shown_text : Shown → List Cell
 shown_text s = map known (prefix_of s.layout) ++ body_text s.body ++ map known (replicate s.layout.after 32)
 
@@ -46,7 +46,7 @@ body_taken (Byte b) = []
 body_taken (Digits d) = []
 body_taken (Start c len) = take len (text c.now)
 
--- how many bytes are shown beside a cord's
+-- how many bytes are printed beside a cord's
 abbrev pub shown_own : Shown → ℕ
 shown_own s = length (prefix_of s.layout) + body_own s.body + s.layout.after
 

@@ -1,4 +1,4 @@
--- Lengths of expressions by what is told of names, and of members together.
+-- Lengths of expressions by what is known of names, and of members together.
 use Rattle.std.specs.Prelude.{ℕ, ◌+◌, ◌-◌, ◌^◌, min, List, map, Result, Ok, Err}
 use Rattle.cord_io.specs.declared.TheConstants.{MAX_LEN}
 use Rattle.cord_meaning.specs.declared.ends.FaultKind.{FaultKind}

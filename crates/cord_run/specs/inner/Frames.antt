@@ -10,7 +10,7 @@ use Rattle.cord_iter.specs.Output.{Counts}
 abbrev pub NoMoreConsistent : {F : Type 0} → files.Ghosts F → F → F → Type 0
 NoMoreConsistent f old new = (file_system : FileSystem) → f.consistent new file_system → f.consistent old file_system
 
--- a source tells the same lengths and has the same table, and makes no file system consistent that wasn't so before
+-- a source reports the same lengths and has the same table, and makes no file system consistent that wasn't so before
 abbrev pub IsSameSource : {R : Type 0} → sources.Ghosts R → R → R → Type 0
 IsSameSource r old new = (r.lengths new ≡ r.lengths old) × (r.table new ≡ r.table old) ×
     ((file_system : FileSystem) → r.consistent new file_system → r.consistent old file_system)

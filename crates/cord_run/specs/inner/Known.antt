@@ -27,7 +27,7 @@ IsKnownOf entries _ len = ⊥
 abbrev pub IsKnownAt : List Entry → List Operation → ℕ → ℕ → Type 0
 IsKnownAt entries operations place len = (o : Operation) → slice_get operations place ≡ Some o → IsKnownOf entries o len
 
--- members that an operation measured together are still as long as what is told of its target, where they don't name that
+-- members that an operation measured together are still as long as what is known of its target, where they don't name that
 abbrev pub StaysKnown : List Entry → Operation → Type 0
 StaysKnown entries (Measure line x (Joined (cat es))) = lacks (names_of es) x ≡ true → extent_in entries (cat es) ≡ Ok (length_in entries x)
 StaysKnown entries _ = ⊤

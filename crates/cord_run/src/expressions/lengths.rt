@@ -92,7 +92,7 @@ fn length_after(before: u64, members: &[Rc<Expr>], store: &Store) -> Result<u64,
     Ok(total)
 }
 
-// A name, and the length that is told of it.
+// A name, and the length known of it.
 #[derive(Clone, Copy)]
 struct Named<'a> {
     name: &'a Name,

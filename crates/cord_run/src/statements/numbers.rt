@@ -121,7 +121,7 @@ fn give_computed(
     }
 }
 
-// The length that is told of a name.
+// The length known of a name.
 #[inline(always)]
 fn reported_length(store: &Store, name: &Name) -> i64
     requires { length_in store.now.entries.items name.now ≤ MAX_LEN }

@@ -45,7 +45,7 @@ pub(crate) struct Edit<'a> {
     middle: Option<&'a Expr>,
 }
 
-/// The edit by which a name gets what it is made of, where all that lies before and behind the bytes that are replaced
+/// The edit by which a name gets what it is made of, where all that lies before and after the bytes that are replaced
 /// stays.
 pub(crate) fn edit_of<'a>(target: &Name, made: &'a Made, store: &Store) -> Option<Edit<'a>>
     ensures { IfSome result (IsEdit store.now.entries.items target.now (made_view made.now)) }

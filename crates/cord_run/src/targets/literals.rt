@@ -67,7 +67,7 @@ fn start_of(alloc: Global, function: Function, count: u64) -> Result<Cord, CordE
     Ok(cord)
 }
 
-// The entry of a function.
+// The source of a function.
 fn source_of(function: Function) -> SourceId
     ensures { result.0 ≡ entry_of function }
 {

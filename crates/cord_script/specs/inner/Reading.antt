@@ -28,7 +28,7 @@ escape_of (c ∷ rest) =
     else (if c == 116 then Some (9, rest)
     else (if c == 120 then hex_of rest else None))))
 
--- the byte that the front stands for, and what follows that front
+-- the byte that the prefix stands for, and what follows it
 abbrev pub unit_of : List ℕ → Option (ℕ × List ℕ)
 unit_of [] = None
 unit_of (c ∷ rest) = if c == 92 then escape_of rest else (if c == 34 then None else Some (c, rest))

@@ -4,8 +4,8 @@ use super::{Driven, WAYS, add, drive_over, expect_come, files_and, filled, lines
 use cord_io::{CutFiles, FuseFiles, MemFiles};
 use std::process::Abort;
 
-// A name, a script that is shown, the bytes of the file "f", how many calls the files pass, what is reported, and how
-// many bytes of the file are written at most.
+// A name, a script that is written so, the bytes of the file "f", how many calls the files pass, what is reported, and
+// how many bytes of the file are written at most.
 type Failing = (&'static str, &'static str, usize, u64, &'static [u8], usize);
 
 const LAZY: &str = r#"lazy x "f" ; put x"#;
@@ -80,7 +80,7 @@ fn expect_failed(
     assert!(rt; file.starts_with(come.out.bytes()), "{name}");
 }
 
-// Drives a script that is shown, over the file "f" of these bytes, and files that pass so many calls.
+// Drives a script that is written so, over the file "f" of these bytes, and files that pass so many calls.
 fn drive_fused(
     rt: &(impl AllocGlobal + Abort),
     words: &[&str],
@@ -121,7 +121,7 @@ fn lazy_twice(rt: HostRuntime) {
     }
 }
 
-// Drives a script that is shown, over a file "p" of 1,000 bytes that is cut after 600.
+// Drives a script that is written so, over a file "p" of 1,000 bytes that is cut after 600.
 fn drive_cut(rt: &(impl AllocGlobal + Abort), words: &[&str], printed: &str) -> Driven {
     let files = files_and(rt, &lines(rt, printed), "p", &numbered(rt, 1_000));
     drive_over(rt, words, CutFiles::new(files, 600))
@@ -183,7 +183,7 @@ fn blocks_by_entry(rt: HostRuntime) {
 // Of a file that no one reads the plan reads no byte, and the run without a plan does. The calls that pass are the
 // opening and the reading of the script, and the opening of the file.
 #[test]
-fn unplanned_reads_what_is_unread(rt: HostRuntime) {
+fn unplanned_reads_what_is_not_live(rt: HostRuntime) {
     for (words, status) in [(["--", "s"], 0), (["--unplanned", "s"], 4)] {
         let come = drive_fused(&rt, &words, r#"eager x "s" ; let y "a" ; put y"#, b"", 3);
         assert!(rt; come.status == status);

@@ -34,7 +34,7 @@ fn is_served(
     come.status == status && written && (all_reported || cut)
 }
 
-// Drives a script both ways. A run that was refused memory, in its work or on `out`, tells it whole, since only one
+// Drives a script both ways. A run that was refused memory, in its work or on `out`, reports it whole, since only one
 // allocation is refused; the next run is served. Its status is printed, for whoever refuses each allocation in turn and
 // looks for both.
 fn expect_refusable(

@@ -1,9 +1,9 @@
-// A source of one entry, which reads so often and so far.
+// A table of one source, which reads so often and so far.
 ghost use Rattle.std.specs.Prelude.{◌≡◌, ◌≤◌, length};
 
 use cord_io::{ReadFault, Source, SourceId};
 
-// A source whose entry 2 is these bytes: it reads so often, and then every read fails, as does one that goes past
+// A table whose source 2 is these bytes: it reads so often, and then every read fails, as does one that goes past
 // `cut`.
 #[derive(Drop)]
 pub(super) struct Entry<'a> {
@@ -53,7 +53,7 @@ impl<'a> Source for Entry<'a> {
 }
 
 impl<'a> Entry<'a> {
-    // An entry of these bytes, which can be read so often.
+    // A source of these bytes, which can be read so often.
     pub(super) fn new(bytes: &'a [u8], reads: u64) -> Entry<'a>
         ensures { result.bytes.now ≡ bytes.now }
     {

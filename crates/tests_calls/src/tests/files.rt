@@ -48,7 +48,7 @@ fn expect_open<F: Files>(
     expect_case(rt, opened == answer, path, 0);
 }
 
-// That an entry is so long, or that there is none.
+// That a source is so long, or that there is none.
 fn expect_len<F: Files>(rt: &impl Abort, sources: &Sources<F>, id: u32, len: Option<u64>) {
     expect_case(
         rt,

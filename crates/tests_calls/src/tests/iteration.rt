@@ -1,4 +1,4 @@
-// Cases of worked examples, over a source of one entry.
+// Cases of worked examples, over a table of one source.
 ghost use Rattle.std.specs.Prelude.{◌≡◌, ◌≤◌, IfOk};
 ghost use Rattle.cord_io.specs.Table.{Lengths, length_at};
 ghost use Rattle.cord_core.specs.Cord.{CordFitsIn};

@@ -15,7 +15,7 @@ pub(super) enum Part {
     Leaf(&'static [u8]),
     // So many times a byte.
     Run(u8, u64),
-    // So many bytes of entry 2 from a place on, of its first 600.
+    // So many bytes of source 2 from a place on, of its first 600.
     Func(u64, u64),
     // All that stands before it, once more, so often.
     Twice(u32),
@@ -23,7 +23,7 @@ pub(super) enum Part {
 
 pub(super) type Parts = &'static [Part];
 
-// Each of these cords fits a source whose entry 2 has 600 bytes.
+// Each of these cords fits a table whose source 2 has 600 bytes.
 
 fn leaf(rt: &impl Abort, alloc: Global, bytes: &[u8]) -> Cord
     ensures { (lengths : Lengths) → 600 ≤ length_at lengths 2 → CordFitsIn lengths result }

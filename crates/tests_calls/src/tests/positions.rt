@@ -1,4 +1,4 @@
-// Cases of worked examples, over a source of one entry.
+// Cases of worked examples, over a table of one source.
 ghost use Rattle.std.specs.Prelude.{◌≡◌, ◌≤◌};
 ghost use Rattle.cord_io.specs.Table.{Lengths, length_at};
 ghost use Rattle.cord_core.specs.Cord.{CordFitsIn};
@@ -26,7 +26,7 @@ enum Step {
     At(Option<u64>, u64),
     // It is outside.
     Gone,
-    // Its byte is this over a source of so many reads, whose entry 2 has 600 times a byte.
+    // Its byte is this over a table of so many reads, whose source 2 has 600 times a byte.
     Fetched(u8, u64, Result<u8, CordError>),
     // It is in a cord of this length.
     Len(u64),
@@ -39,7 +39,7 @@ const TWO_LEAVES: Parts = &[Leaf(&[120; 100]), Leaf(&[121; 100])];
 // Two leaves of 100 bytes, twice.
 const FOUR_LEAVES: Parts = &[Leaf(&[120; 100]), Leaf(&[121; 100]), Twice(1)];
 
-// The first byte of entry 2.
+// The first byte of source 2.
 const ENTRY: Parts = &[Func(0, 1)];
 
 // From a place on.

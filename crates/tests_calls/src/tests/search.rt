@@ -16,12 +16,12 @@ type Reads = (u64, u64);
 // No read, for cords that need none.
 const NONE: Reads = (0, u64::MAX);
 
-// What a call over a source of one entry answers.
+// What a call over a table of one source answers.
 type Answer<T> = Result<T, CordError>;
 
 const FAILED: CordError = CordError::ReadFailed;
 
-// The first 600 bytes of entry 2.
+// The first 600 bytes of source 2.
 const ENTRY: Parts = &[Func(0, 600)];
 
 // Where a pattern begins in a cord, from a place on.

@@ -120,7 +120,7 @@ fn outgrow(rt: &impl Abort, alloc: Global, full: &[u8], whole: &[u8], is_read: b
 }
 
 #[test]
-fn refused_append_behind_a_full_buffer(rt: HostRuntime) {
+fn refused_append_after_a_full_buffer(rt: HostRuntime) {
     let text = pattern(&rt, rt.alloc(), 4_097);
     let (full, _) = text.split_at(4_096);
     outgrow(&rt, rt.alloc(), full, &text, false);

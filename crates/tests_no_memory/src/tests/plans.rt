@@ -1,4 +1,4 @@
-//! Plans: made, shown, and their jumps.
+//! Plans: made, printed, and their jumps.
 use super::scripts::read;
 use super::texts::{expect_bytes, expect_no_memory};
 use cord_io::{CordError, MemSink, Sink};

@@ -77,7 +77,7 @@ fn refused_raw_buf_calls(rt: HostRuntime) {
 }
 
 #[test]
-fn refused_push_behind_a_full_block(rt: HostRuntime) {
+fn refused_push_after_a_full_block(rt: HostRuntime) {
     let alloc = rt.alloc();
     let text = pattern(&rt, alloc, 129);
     let (block, _) = text.split_at(128);

@@ -27,7 +27,7 @@ pub fn table(rt: &impl Abort, alloc: Global, files: MemFiles) -> Sources<MemFile
     }
 }
 
-// A table over the two files in which "q" is open, as entry 2.
+// A table over the two files in which "q" is open, as source 2.
 fn table_of_two(rt: &impl Abort, alloc: Global) -> Sources<MemFiles> {
     let mut sources = table(rt, alloc, two_files(rt, alloc));
     let opened = again!(rt, sources.open(alloc, "q"));
@@ -35,7 +35,7 @@ fn table_of_two(rt: &impl Abort, alloc: Global) -> Sources<MemFiles> {
     sources
 }
 
-// Whether an entry is a file of these five bytes.
+// Whether a source is a file of these five bytes.
 fn reads(sources: &mut Sources<MemFiles>, id: u32, bytes: &[u8]) -> bool {
     let Some(5) = sources.entry_len(SourceId(id)) else {
         return false;
@@ -44,14 +44,14 @@ fn reads(sources: &mut Sources<MemFiles>, id: u32, bytes: &[u8]) -> bool {
     sources.read(SourceId(id), 0, &mut out).is_ok() && out.as_slice() == bytes
 }
 
-// Whether "q" is entry 2, and none follows.
+// Whether "q" is source 2, and none follows.
 fn is_one(sources: &mut Sources<MemFiles>) -> bool {
     reads(sources, 2, b"other")
         && sources.entry_len(SourceId(3)).is_none()
         && sources.failures() == 0
 }
 
-// Whether "q" is entry 2 and "p" entry 3, and none follows.
+// Whether "q" is source 2 and "p" source 3, and none follows.
 fn is_two(sources: &mut Sources<MemFiles>) -> bool {
     reads(sources, 2, b"other")
         && reads(sources, 3, b"hello")
@@ -67,7 +67,7 @@ fn func_fields(cord: &Cord) -> Option<(SourceId, u64, u64)> {
     }
 }
 
-// That "p" was opened, as entry 3.
+// That "p" was opened, as source 3.
 fn expect_two(rt: &impl Abort, sources: &mut Sources<MemFiles>) {
     assert!(rt; is_two(sources));
 }

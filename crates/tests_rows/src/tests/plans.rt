@@ -1,4 +1,4 @@
-// Plans of worked scripts, as they are shown, against texts that were written by hand.
+// Plans of worked scripts, as they are printed, against texts that were written by hand.
 use cord_io::{CordError, FuseSink, MemSink};
 use cord_plan::{Plan, plan};
 use cord_script::{Script, parse};

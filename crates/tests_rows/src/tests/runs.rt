@@ -15,7 +15,7 @@ use std::process::Abort;
 
 const HELLO: &[u8] = b"let x \"hello\"\nput x\n";
 
-// The bytes of a script that is shown with ` ; ` between its lines.
+// The bytes of a script that is written with ` ; ` between its lines.
 fn lines(rt: &(impl AllocGlobal + Abort), shown: &str) -> Vec<u8> {
     let text = shown.replace(rt.alloc(), " ; ", "\n");
     let mut script = text.expect(rt, "no memory").into_bytes();

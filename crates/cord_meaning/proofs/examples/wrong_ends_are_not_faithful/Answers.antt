@@ -25,7 +25,7 @@ returns-clause-too_little_put c = λ n h.
     let bad : ⊥ = cc in
     bad
 
--- nothing is put before the second member, whose line is 2
+-- nothing is put before the second event, whose line is 2
 nothing_at_first : (ms earlier later : List (Event State)) (m one two : Event State) (prefix rest : List ℕ) → ms ≡ one ∷ two ∷ [] →
     one.puts ≡ [] → two.line ≡ 2 → ms ≡ earlier ++ m ∷ later → m.line ≡ 1 → m.puts ≡ prefix ++ rest → codes "h" ≡ output earlier ++ prefix → ⊥
 nothing_at_first ms [] later m one two [] rest is puts line run at_line put took = let bad : ⊥ = cc in bad

@@ -1,6 +1,6 @@
 use Rattle.std.proofs.Common.{◌≡◌, ◌-◌, ◌≤◌}
 use Rattle.cord_io.specs.Device.{FileSystem}
-use Rattle.cord_search.specs.inner.Ahead.{IsWay}
+use Rattle.cord_search.specs.inner.SharedParts.{IsWay}
 use Rattle.cord_search.specs.inner.Pieces.{AreSame}
 use Rattle.cord_search.proofs.periods.common_len.Given as goal
 

@@ -431,7 +431,7 @@ where
     );
 }
 
-// What was told of a real file agrees with what was written there.
+// What was reported of a real file agrees with what was written there.
 fn read_written<R: rt::Files + AllocGlobal + Abort + Clone>(rt: &R, path: &str)
 where
     R::File: FileExt,
@@ -448,5 +448,5 @@ where
 
 #[test]
 fn reported_bytes_of_a_real_file(rt: HostRuntime) {
-    read_written(&rt, "cord_calls_told");
+    read_written(&rt, "tests_calls_reported");
 }

@@ -4,14 +4,14 @@ ghost use Rattle.cord_io.specs.inner.Functions.{function_byte};
 
 use cord_io::{MAX_LEN, ReadFault, Source, SourceId};
 
-// The entries that are functions: where they are broken every read fails.
+// The sources that are functions: where they are broken every read fails.
 #[derive(Drop)]
 struct Functions {
     broken: bool,
     failures: u64,
 }
 
-// The byte at a place of an entry.
+// The byte at a place of a source.
 fn byte_of(id: SourceId, place: u64) -> u8
     ensures { result ≡ function_byte id.0 place }
 {
@@ -21,7 +21,7 @@ fn byte_of(id: SourceId, place: u64) -> u8
     }
 }
 
-// Fills a slice with an entry's bytes from a place on.
+// Fills a slice with a source's bytes from a place on.
 fn fill(id: SourceId, start: u64, out: &mut [u8])
     requires { start + length out.old ≤ MAX_LEN }
     ensures { (k : ℕ) → k < length out.new → slice_index out.new k ≡ function_byte id.0 (start + k) }

@@ -193,7 +193,7 @@ fn from_fn_of_digits(rt: HostRuntime) {
     assert!(rt; sink.bytes() == b"890".as_slice());
 }
 
-// The first byte of entry 2.
+// The first byte of source 2.
 fn first_cord(rt: &impl Abort, alloc: Global) -> Cord
     ensures { (lengths : Lengths) → 1 ≤ length_at lengths 2 → CordFitsIn lengths result }
 {
@@ -203,14 +203,14 @@ fn first_cord(rt: &impl Abort, alloc: Global) -> Cord
     cord
 }
 
-// A table whose entry 2 is a file of one byte.
+// A table whose source 2 is a file of one byte.
 fn byte_table(rt: &impl Abort, alloc: Global, byte: u8) -> Sources<MemFiles> {
     let mut sources = table(rt, alloc, one_file(rt, alloc, "f", &[byte]));
     expect_open(rt, alloc, &mut sources, "f", Ok((SourceId(2), 1)));
     sources
 }
 
-// The byte at a position over a table whose entry 2 has one byte.
+// The byte at a position over a table whose source 2 has one byte.
 fn fetched(
     rt: &impl Abort,
     position: &mut Position,

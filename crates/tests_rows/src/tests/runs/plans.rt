@@ -1,4 +1,4 @@
-//! The case of a script that is parsed, planned, shown and run, call by call.
+//! The case of a script that is parsed, planned, printed and run, call by call.
 use super::HELLO;
 use cord_io::{MemFiles, MemSink};
 use cord_plan::{Plan, plan};

@@ -52,7 +52,7 @@ returns-clause-machine_earlier g c = λ file_system agrees.
       subst (AgreesWithReaders file_system) opened agrees.1,
     )
 
--- what is told of it is what the machine gave
+-- what is reported of it is what the machine gave
 pub invariant_of-self-in-Ok-try_from : goal.invariant_of-self-in-Ok-try_from
 invariant_of-self-in-Ok-try_from g c =
     let answers = c.opened_file.new.self.answers in

@@ -9,7 +9,7 @@ use Rattle.cord_io.specs.declared.faults.ReadFault.{ReadFault}
 use Rattle.cord_io.proofs.OpenedFiles.{has_number, reported_after, reported_read, readers_before, readers_read, given_read, given_bytes}
 use Rattle.cord_io.proofs.disk.DiskFilesFiles.read_at.Goals as goal
 
--- the answer that is told of this read
+-- the answer that is reported of this read
 pub returns-in-Ok-clause-reported : goal.returns-in-Ok-clause-reported
 returns-in-Ok-clause-reported g c =
     let files = c.args.self.now.answers.opened.items in
@@ -68,7 +68,7 @@ returns-in-Err-clause-machine_earlier g c = λ file_system agrees.
     has_number files c.args.no.0 old _ c.requires.inside c.index_mut-opened.ensures.value in
     (agrees.0, readers_before file_system files c.args.no.0 old c.read.new.self here (c.read.ensures.earlier file_system) agrees.1)
 
--- what is told of it is what the machine gave
+-- what is reported of it is what the machine gave
 pub invariant_of-self : goal.invariant_of-self
 invariant_of-self g c =
     let answers = c.args.self.now.answers in

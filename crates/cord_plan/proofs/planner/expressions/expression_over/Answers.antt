@@ -18,7 +18,7 @@ use Rattle.cord_plan.proofs.planner.expressions.expression_over.Goals as goal
 table_size : (os : List Operation) (n : ℕ) → length os ≡ n → length (map operation_expression (map operation_view os)) ≡ n
 table_size os n size = length-map (map operation_view os) operation_expression ∙ (length-map os operation_view ∙ size)
 
--- what the expression of a line is, is told of what is made with it
+-- what the expression of a line is, is said of what is made with it
 made_with : (r : Result LineExpression CordError) (o : Option Expr) (P : Option Expr → Type 0) → P o →
     IfOk r (λ t. option_map expr_view t.expression ≡ o) → IfOk r (λ t. P (option_map expr_view t.expression))
 made_with r o P reported made = IfOk-weaker r (λ t. option_map expr_view t.expression ≡ o) (λ t. P (option_map expr_view t.expression))

@@ -7,11 +7,11 @@ use Rattle.cord_node.specs.Tree.{cells, len_of, depth_of, IsSound}
 use Rattle.cord_core.specs.Cord.{bytes_of, CordFits}
 use Rattle.cord_pos.specs.Spans.{span_len, IsSpanOf}
 use Rattle.cord_pos.specs.inner.Spans.{IsWithin}
-use Rattle.cord_search.specs.declared.ahead.Spot.{Spot}
-use Rattle.cord_search.specs.declared.ahead.Stop.{Stop}
-use Rattle.cord_search.specs.declared.ahead.Way.{Way}
-use Rattle.cord_search.specs.declared.ahead.Ahead.{Ahead}
-use Rattle.cord_search.specs.declared.ahead.Ahead.TheVariants.{Same, Apart}
+use Rattle.cord_search.specs.declared.shared_parts.Spot.{Spot}
+use Rattle.cord_search.specs.declared.shared_parts.Stop.{Stop}
+use Rattle.cord_search.specs.declared.shared_parts.Way.{Way}
+use Rattle.cord_search.specs.declared.shared_parts.Ahead.{Ahead}
+use Rattle.cord_search.specs.declared.shared_parts.Ahead.TheVariants.{Same, Apart}
 
 -- the place is one of the node's, which is sound
 abbrev pub IsSpot : Spot → Type 0

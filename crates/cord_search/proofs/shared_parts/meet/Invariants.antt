@@ -1,9 +1,9 @@
 use Rattle.std.proofs.Common.{◌+◌, ◌≤◌}
 use Rattle.arrayvec.specs.ArrayVec.{array_vec_len}
 use Rattle.cord_node.specs.Tree.{len_of, depth_of}
-use Rattle.cord_search.specs.inner.Ahead.{IsSpotOf, IsWay}
-use Rattle.cord_search.specs.declared.ahead.TheConstants.{WAY_LEN}
-use Rattle.cord_search.proofs.ahead.meet.Given as goal
+use Rattle.cord_search.specs.inner.SharedParts.{IsSpotOf, IsWay}
+use Rattle.cord_search.specs.declared.shared_parts.TheConstants.{WAY_LEN}
+use Rattle.cord_search.proofs.shared_parts.meet.Given as goal
 
 -- each spot is the place of its cord, and its way leads to it
 abbrev pub invariant-loop-way : goal.invariant-loop-way

@@ -4,9 +4,9 @@ use Rattle.arrayvec.specs.ArrayVec.{array_vec_len}
 use Rattle.cord_node.specs.declared.Node.{Node}
 use Rattle.cord_node.specs.Tree.{len_of, depth_of}
 use Rattle.cord_pos.specs.inner.Spans.{IsWithin}
-use Rattle.cord_search.specs.inner.Ahead.{IsSpot, IsSpotOf, IsWay}
-use Rattle.cord_search.specs.declared.ahead.TheConstants.{WAY_LEN}
-use Rattle.cord_search.proofs.ahead.Way.span.Given as goal
+use Rattle.cord_search.specs.inner.SharedParts.{IsSpot, IsSpotOf, IsWay}
+use Rattle.cord_search.specs.declared.shared_parts.TheConstants.{WAY_LEN}
+use Rattle.cord_search.proofs.shared_parts.Way.span.Given as goal
 
 -- the spot is the first one, in the same node or one below it
 abbrev pub invariant-loop-side : goal.invariant-loop-side

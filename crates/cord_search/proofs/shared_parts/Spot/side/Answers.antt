@@ -2,7 +2,7 @@ use Rattle.std.proofs.Common.{◌≡◌, ◌+◌, ◌-◌, ◌∙◌, ap, arith}
 use Rattle.cord_node.specs.Tree.{len_of}
 use Rattle.cord_pos.specs.inner.Spans.{IsWithin}
 use Rattle.cord_pos.proofs.Within.{within_self, within_left, within_right, left_shorter, right_shorter}
-use Rattle.cord_search.proofs.ahead.Spot.side.Goals as goal
+use Rattle.cord_search.proofs.shared_parts.Spot.side.Goals as goal
 
 pub returns-then-self-seam-clause-within : goal.returns-then-self-seam-clause-within
 returns-then-self-seam-clause-within c =

@@ -1,7 +1,7 @@
 use Rattle.cord_io.specs.declared.TheConstants.{MAX_LEN}
 use Rattle.cord_io.specs.FunctionTexts.{digit_at, byte_value_at}
 use Rattle.cord_meaning.proofs.Prefixes.{prefix_of_text}
-use Rattle.cord_meaning.proofs.laws.functions_are_entries.Goals as goal
+use Rattle.cord_meaning.proofs.laws.functions_are_sources.Goals as goal
 
 pub returns-clause-digits : goal.returns-clause-digits
 returns-clause-digits c = λ n le. prefix_of_text digit_at MAX_LEN n le

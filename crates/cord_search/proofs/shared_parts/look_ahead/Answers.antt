@@ -2,7 +2,7 @@ use Rattle.std.proofs.Common.{◌<◌, ◌≤◌, arith}
 use Rattle.cord_pos.specs.Spans.{span_len, IsSpanOf}
 use Rattle.cord_search.proofs.Sharing.{spans_alike, prefix_span}
 use Rattle.cord_search.proofs.Ways.{span_of, stops_alike}
-use Rattle.cord_search.proofs.ahead.look_ahead.Goals as goal
+use Rattle.cord_search.proofs.shared_parts.look_ahead.Goals as goal
 
 pub returns-then-is_same-clause-ahead : goal.returns-then-is_same-clause-ahead
 returns-then-is_same-clause-ahead c =

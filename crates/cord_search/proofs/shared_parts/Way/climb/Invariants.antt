@@ -1,6 +1,6 @@
 use Rattle.arrayvec.specs.ArrayVec.{array_vec_len}
-use Rattle.cord_search.specs.inner.Ahead.{IsWay}
-use Rattle.cord_search.proofs.ahead.Way.climb.Given as goal
+use Rattle.cord_search.specs.inner.SharedParts.{IsWay}
+use Rattle.cord_search.proofs.shared_parts.Way.climb.Given as goal
 
 -- it is left a way of the cord
 abbrev pub invariant-loop-last : goal.invariant-loop-last

@@ -6,7 +6,7 @@ ghost use Rattle.cord_node.specs.declared.Node.{Node as Tree};
 ghost use Rattle.cord_node.specs.Tree.{len_of, depth_of, IsSound};
 ghost use Rattle.cord_pos.specs.Spans.{is_part, span_len, IsSpanAt};
 ghost use Rattle.cord_pos.specs.inner.Spans.{IsWithin};
-ghost use Rattle.cord_search.specs.inner.Ahead.{IsSpot, AreOneSpot, IsSpotOf, IsWay, IsAhead};
+ghost use Rattle.cord_search.specs.inner.SharedParts.{IsSpot, AreOneSpot, IsSpotOf, IsWay, IsAhead};
 
 use crate::spans::begin_alike;
 use arrayvec::ArrayVec;
@@ -241,7 +241,7 @@ fn meet<'a>(
 }
 
 /// What two cords' texts have at two places, at most `most` bytes: bytes that are known to be the same, since they
-/// are of one node, runs of one byte or one range of an entry, or else a span of each. Each way leads to the place
+/// are of one node, runs of one byte or one range of a source, or else a span of each. Each way leads to the place
 /// before, and then to this one: from part to part, in order, that takes constant time, taken over all of them. No
 /// node that both share is missed by that. It begins at the two places, or the ways had met in it before them.
 pub(crate) fn look_ahead<'a>(

@@ -3,10 +3,10 @@ use Rattle.std.specs.Prelude.{IfSome}
 use Rattle.cord_io.specs.declared.TheConstants.{MAX_DEPTH}
 use Rattle.cord_node.specs.Tree.{depth_of}
 use Rattle.cord_pos.proofs.Counts.{depth_limit}
-use Rattle.cord_search.specs.inner.Ahead.{IsStop}
-use Rattle.cord_search.specs.declared.ahead.Stop.{Stop}
+use Rattle.cord_search.specs.inner.SharedParts.{IsStop}
+use Rattle.cord_search.specs.declared.shared_parts.Stop.{Stop}
 use Rattle.cord_search.proofs.Ways.{stop_kept, all_push}
-use Rattle.cord_search.proofs.ahead.Way.climb.Goals as goal
+use Rattle.cord_search.proofs.shared_parts.Way.climb.Goals as goal
 
 pub returns-clause-way : goal.returns-clause-way
 returns-clause-way c =

@@ -2,9 +2,9 @@ use Rattle.std.proofs.Common.{◌+◌, ◌-◌, ◌≤◌, Some, refl, length, a
 use Rattle.std.specs.Prelude.{IfSome}
 use Rattle.cord_io.specs.declared.TheConstants.{MAX_DEPTH}
 use Rattle.cord_node.specs.Tree.{depth_of}
-use Rattle.cord_search.specs.inner.Ahead.{IsSpotOf, IsStop}
+use Rattle.cord_search.specs.inner.SharedParts.{IsSpotOf, IsStop}
 use Rattle.cord_search.proofs.Ways.{side_at, stop_kept, all_push}
-use Rattle.cord_search.proofs.ahead.Way.step.Goals as goal
+use Rattle.cord_search.proofs.shared_parts.Way.step.Goals as goal
 
 pub returns-clause-way : goal.returns-clause-way
 returns-clause-way c = λ d spot way.

@@ -1,6 +1,6 @@
 use Rattle.cord_pos.proofs.Within.{within_on, span_on}
 use Rattle.cord_search.proofs.Ways.{side_at}
-use Rattle.cord_search.proofs.ahead.Way.span.Goals as goal
+use Rattle.cord_search.proofs.shared_parts.Way.span.Goals as goal
 
 pub loop-side-preserved : goal.loop-side-preserved
 loop-side-preserved c =

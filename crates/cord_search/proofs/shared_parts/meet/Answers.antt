@@ -1,5 +1,5 @@
 use Rattle.cord_search.proofs.Ways.{side_at}
-use Rattle.cord_search.proofs.ahead.meet.Goals as goal
+use Rattle.cord_search.proofs.shared_parts.meet.Goals as goal
 
 pub loop-way-preserved-then-len : goal.loop-way-preserved-then-len
 loop-way-preserved-then-len c =

@@ -1,6 +1,6 @@
 use Rattle.cord_node.specs.Tree.{len_of}
-use Rattle.cord_search.specs.inner.Ahead.{IsSpotOf}
-use Rattle.cord_search.proofs.ahead.Spot.of_part.Given as goal
+use Rattle.cord_search.specs.inner.SharedParts.{IsSpotOf}
+use Rattle.cord_search.proofs.shared_parts.Spot.of_part.Given as goal
 
 -- the place is one of the node's
 abbrev pub invariant-loop-side : goal.invariant-loop-side
