@@ -7,7 +7,7 @@ ghost use Rattle.core.specs.Ptr.{as_mut_ptr};
 
 use crate::Handle;
 use crate::code::{NO_MEMORY, NULL_POINTER, OK, PAST_END, TOO_LONG};
-use crate::pointer::missing;
+use crate::pointer::{any_missing, either_missing};
 use cord::{MAX_LEN, Text};
 use std::alloc::Global;
 
@@ -26,7 +26,7 @@ pub extern "C" fn zc_substr(
     ensures code { MayLackMemory result }
     ensures x { x.new.text ≡ x.old.text }
 {
-    if missing(x) || missing(out) {
+    if either_missing(x, out) {
         return NULL_POINTER;
     }
     let made = x.text(&Text::empty()).substr(alloc, start, count);
@@ -42,7 +42,7 @@ pub extern "C" fn zc_balance(alloc: Global, x: &mut Handle, out: &mut Handle) ->
     ensures code { MayLackMemory result }
     ensures x { x.new.text ≡ x.old.text }
 {
-    if missing(x) || missing(out) {
+    if either_missing(x, out) {
         return NULL_POINTER;
     }
     let made = x.text(&Text::empty()).balance(alloc);
@@ -67,7 +67,7 @@ pub extern "C" fn zc_insert(
     ensures x { x.new.text ≡ x.old.text }
     ensures y { y.new.text ≡ y.old.text }
 {
-    if missing(x) || missing(y) || missing(out) {
+    if any_missing(x, y, out) {
         return NULL_POINTER;
     }
     let made = x
@@ -91,7 +91,7 @@ pub extern "C" fn zc_remove(
     ensures code { MayLackMemory result }
     ensures x { x.new.text ≡ x.old.text }
 {
-    if missing(x) || missing(out) {
+    if either_missing(x, out) {
         return NULL_POINTER;
     }
     let made = x.text(&Text::empty()).remove(alloc, start, count);
@@ -120,7 +120,7 @@ pub extern "C" fn zc_replace(
     ensures x { x.new.text ≡ x.old.text }
     ensures y { y.new.text ≡ y.old.text }
 {
-    if missing(x) || missing(y) || missing(out) {
+    if any_missing(x, y, out) {
         return NULL_POINTER;
     }
     let replaced = x
@@ -149,7 +149,7 @@ pub extern "C" fn zc_splice(
     ensures code { MayBeTooLong result }
     ensures y { y.new.text ≡ y.old.text }
 {
-    if missing(x) || missing(y) {
+    if either_missing(x, y) {
         return NULL_POINTER;
     }
     let edited = x
@@ -169,7 +169,7 @@ pub extern "C" fn zc_nth_line(alloc: Global, x: &mut Handle, number: u64, out: &
     ensures code { (result ≡ OK) ⊎ (result ≡ NO_MEMORY) ⊎ (result ≡ PAST_END) }
     ensures x { x.new.text ≡ x.old.text }
 {
-    if missing(x) || missing(out) {
+    if either_missing(x, out) {
         return NULL_POINTER;
     }
     match x.text(&Text::empty()).nth_line(alloc, number) {

@@ -6,7 +6,7 @@ ghost use denote.RawPtr.{Testable};
 ghost use Rattle.core.specs.Ptr.{as_mut_ptr};
 
 use crate::code::{NO_MEMORY, NULL_POINTER, OK, TOO_LONG, code_of};
-use crate::pointer::missing;
+use crate::pointer::{either_missing, missing};
 use crate::{Editor, Handle};
 use cord::{MAX_LEN, Text, TextEditor};
 use std::alloc::Global;
@@ -20,7 +20,7 @@ pub extern "C" fn zc_edit_set(alloc: Global, x: &mut Handle, edit: &mut Editor) 
     ensures code { MayLackMemory result }
     ensures x { x.new.text ≡ x.old.text }
 {
-    if missing(x) || missing(edit) {
+    if either_missing(x, edit) {
         return NULL_POINTER;
     }
     match TextEditor::of(alloc, x.text(&Text::empty())) {
@@ -113,7 +113,7 @@ pub extern "C" fn zc_edit_cord(
     ensures code { MayBeTooLong result }
     ensures y { y.new.text ≡ y.old.text }
 {
-    if missing(edit) || missing(y) {
+    if either_missing(edit, y) {
         return NULL_POINTER;
     }
     let Ok(mut taken) = edit.take(alloc) else {
@@ -138,7 +138,7 @@ pub extern "C" fn zc_edit_to_cord(alloc: Global, edit: &mut Editor, out: &mut Ha
     ensures code { MayLackMemory result }
     ensures edit { edited_of edit.new ≡ edited_of edit.old }
 {
-    if missing(edit) || missing(out) {
+    if either_missing(edit, out) {
         return NULL_POINTER;
     }
     let Ok(mut taken) = edit.take(alloc) else {

@@ -9,7 +9,7 @@ ghost use Rattle.core.specs.Ptr.{as_mut_ptr};
 
 use crate::code::{NULL_POINTER, OK, TOO_LONG, code_of};
 use crate::extensible::ROOM;
-use crate::pointer::missing;
+use crate::pointer::{either_missing, missing};
 use crate::referent::Referent;
 use crate::{Extensible, Handle};
 use cord::{CordError, MAX_LEN, Text};
@@ -77,7 +77,7 @@ pub extern "C" fn zc_ext_cord(alloc: Global, x: &mut Extensible, y: &mut Handle)
     ensures code { MayBeTooLong result }
     ensures y { y.new.text ≡ y.old.text }
 {
-    if missing(x) || missing(y) {
+    if either_missing(x, y) {
         return NULL_POINTER;
     }
     match x.append_text(alloc, y.text(&Text::empty())) {
@@ -95,7 +95,7 @@ pub extern "C" fn zc_ext_to_cord(alloc: Global, x: &mut Extensible, out: &mut Ha
     ensures code { MayLackMemory result }
     ensures x { grown x.new ≡ grown x.old }
 {
-    if missing(x) || missing(out) {
+    if either_missing(x, out) {
         return NULL_POINTER;
     }
     let made = x.to_text(alloc);

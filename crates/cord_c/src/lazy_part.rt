@@ -10,7 +10,7 @@ ghost use Rattle.core.specs.Ptr.{as_mut_ptr};
 
 use crate::LazyHandle;
 use crate::code::{IN_FILE, NULL_POINTER, OK, TOO_LONG};
-use crate::pointer::missing;
+use crate::pointer::{either_missing, missing};
 use cord::MAX_LEN;
 use cord_core::Cord;
 use cord_io::SourceId;
@@ -62,7 +62,7 @@ pub extern "C" fn zc_lazy_part(
     ensures code { (result ≡ OK) ⊎ (result ≡ IN_FILE) }
     ensures x { cord_of x.new ≡ cord_of x.old }
 {
-    if missing(x) || missing(got) || missing(file) || missing(place) {
+    if either_missing(x, got) || either_missing(file, place) {
         return NULL_POINTER;
     }
     let none = Cord::empty();

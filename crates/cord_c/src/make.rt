@@ -7,7 +7,7 @@ ghost use Rattle.core.specs.Ptr.{as_mut_ptr};
 
 use crate::Handle;
 use crate::code::{NULL_POINTER, OK, TOO_LONG};
-use crate::pointer::missing;
+use crate::pointer::{any_missing, either_missing, missing};
 use cord::{MAX_LEN, Text};
 use std::alloc::Global;
 
@@ -55,7 +55,7 @@ pub extern "C" fn zc_cat(alloc: Global, x: &mut Handle, y: &mut Handle, out: &mu
     ensures x { x.new.text ≡ x.old.text }
     ensures y { y.new.text ≡ y.old.text }
 {
-    if missing(x) || missing(y) || missing(out) {
+    if any_missing(x, y, out) {
         return NULL_POINTER;
     }
     let made = Text::cat(alloc, x.text(&Text::empty()), y.text(&Text::empty()));
@@ -73,7 +73,7 @@ pub extern "C" fn zc_cat_bytes(alloc: Global, x: &mut Handle, bytes: &[u8], out:
     ensures code { MayBeTooLong result }
     ensures x { x.new.text ≡ x.old.text }
 {
-    if missing(x) || missing(out) {
+    if either_missing(x, out) {
         return NULL_POINTER;
     }
     let made = x.text(&Text::empty()).append_bytes(alloc, bytes);
@@ -91,7 +91,7 @@ pub extern "C" fn zc_cat_char(alloc: Global, x: &mut Handle, byte: u8, out: &mut
     ensures code { MayBeTooLong result }
     ensures x { x.new.text ≡ x.old.text }
 {
-    if missing(x) || missing(out) {
+    if either_missing(x, out) {
         return NULL_POINTER;
     }
     let made = x.text(&Text::empty()).append_bytes(alloc, &[byte]);
@@ -109,7 +109,7 @@ pub extern "C" fn zc_append(alloc: Global, x: &mut Handle, y: &mut Handle) -> i3
     ensures code { MayBeTooLong result }
     ensures y { y.new.text ≡ y.old.text }
 {
-    if missing(x) || missing(y) {
+    if either_missing(x, y) {
         return NULL_POINTER;
     }
     let longer = Text::cat(alloc, x.text(&Text::empty()), y.text(&Text::empty()));
@@ -127,7 +127,7 @@ pub extern "C" fn zc_repeat(alloc: Global, x: &mut Handle, times: u64, out: &mut
     ensures code { MayBeTooLong result }
     ensures x { x.new.text ≡ x.old.text }
 {
-    if missing(x) || missing(out) {
+    if either_missing(x, out) {
         return NULL_POINTER;
     }
     let made = x.text(&Text::empty()).repeated(alloc, times);
@@ -143,7 +143,7 @@ pub extern "C" fn zc_share(alloc: Global, x: &mut Handle, out: &mut Handle) -> i
     ensures code { MayLackMemory result }
     ensures x { x.new.text ≡ x.old.text }
 {
-    if missing(x) || missing(out) {
+    if either_missing(x, out) {
         return NULL_POINTER;
     }
     let made = x.text(&Text::empty()).share(alloc);

@@ -10,7 +10,7 @@ ghost use Rattle.core.specs.Ptr.{as_mut_ptr};
 use crate::Handle;
 use crate::argument::Argument;
 use crate::code::{BAD_FORMAT, BAD_VALUE, NO_MEMORY, NULL_POINTER, OK, TOO_LONG, WRONG_ARGUMENTS};
-use crate::pointer::missing;
+use crate::pointer::either_missing;
 use cord::{CordError, Format, FormatError, PrintError, Text, TextArg};
 use std::alloc::Global;
 
@@ -37,7 +37,7 @@ pub extern "C" fn zc_sprintf(
         ⊎ (result ≡ WRONG_ARGUMENTS) ⊎ (result ≡ BAD_VALUE) }
     ensures args { piece_arguments args.new ≡ piece_arguments args.old }
 {
-    if missing(out) || missing(at) {
+    if either_missing(out, at) {
         return NULL_POINTER;
     }
     let Ok(texts) = texts_of(alloc, args) else {

@@ -14,7 +14,7 @@ ghost use Rattle.core.specs.Ptr.{as_mut_ptr};
 use crate::Handle;
 use crate::code::{NO_MEMORY, NOT_FOUND, NULL_POINTER, OK, PAST_END};
 use crate::copy::copy_from;
-use crate::pointer::missing;
+use crate::pointer::{any_missing, either_missing, missing};
 use cord::{MAX_DEPTH, MOST_BYTES, Text};
 use std::alloc::Global;
 use std::cmp::Ordering;
@@ -55,7 +55,7 @@ pub extern "C" fn zc_fetch(x: &mut Handle, place: u64, byte: &mut u8) -> i32
     ensures code { (result ≡ OK) ⊎ (result ≡ PAST_END) }
     ensures x { x.new.text ≡ x.old.text }
 {
-    if missing(x) || missing(byte) {
+    if either_missing(x, byte) {
         return NULL_POINTER;
     }
     let Some(found) = x.text(&Text::empty()).get(place) else {
@@ -73,7 +73,7 @@ pub extern "C" fn zc_chr(x: &mut Handle, start: u64, byte: u8, place: &mut u64) 
     ensures code { result ≡ OK }
     ensures x { x.new.text ≡ x.old.text }
 {
-    if missing(x) || missing(place) {
+    if either_missing(x, place) {
         return NULL_POINTER;
     }
     *place = x
@@ -91,7 +91,7 @@ pub extern "C" fn zc_rchr(x: &mut Handle, end: u64, byte: u8, place: &mut u64) -
     ensures code { result ≡ OK }
     ensures x { x.new.text ≡ x.old.text }
 {
-    if missing(x) || missing(place) {
+    if either_missing(x, place) {
         return NULL_POINTER;
     }
     *place = x
@@ -111,7 +111,7 @@ pub extern "C" fn zc_str(x: &mut Handle, start: u64, y: &mut Handle, place: &mut
     ensures x { x.new.text ≡ x.old.text }
     ensures y { y.new.text ≡ y.old.text }
 {
-    if missing(x) || missing(y) || missing(place) {
+    if any_missing(x, y, place) {
         return NULL_POINTER;
     }
     let found = x
@@ -138,7 +138,7 @@ pub extern "C" fn zc_find(
     ensures short { length bytes.now ≤ MOST_BYTES → result ≢ NO_MEMORY }
     ensures x { x.new.text ≡ x.old.text }
 {
-    if missing(x) || missing(place) {
+    if either_missing(x, place) {
         return NULL_POINTER;
     }
     let Ok(found) = x.text(&Text::empty()).find(alloc, bytes, start) else {
@@ -194,7 +194,7 @@ pub extern "C" fn zc_equal(x: &mut Handle, y: &mut Handle, equal: &mut i32) -> i
     ensures x { x.new.text ≡ x.old.text }
     ensures y { y.new.text ≡ y.old.text }
 {
-    if missing(x) || missing(y) || missing(equal) {
+    if any_missing(x, y, equal) {
         return NULL_POINTER;
     }
     *equal = truth(x.text(&Text::empty()) == y.text(&Text::empty()));
@@ -211,7 +211,7 @@ pub extern "C" fn zc_cmp(x: &mut Handle, y: &mut Handle, order: &mut i32) -> i32
     ensures x { x.new.text ≡ x.old.text }
     ensures y { y.new.text ≡ y.old.text }
 {
-    if missing(x) || missing(y) || missing(order) {
+    if any_missing(x, y, order) {
         return NULL_POINTER;
     }
     *order = sign(x.text(&Text::empty()).compare(y.text(&Text::empty())));
@@ -237,7 +237,7 @@ pub extern "C" fn zc_ncmp(
     ensures x { x.new.text ≡ x.old.text }
     ensures y { y.new.text ≡ y.old.text }
 {
-    if missing(x) || missing(y) || missing(order) {
+    if any_missing(x, y, order) {
         return NULL_POINTER;
     }
     let Ok(left) = x.text(&Text::empty()).substr(alloc, i, count) else {
@@ -308,7 +308,7 @@ pub extern "C" fn zc_read(x: &mut Handle, start: u64, bytes: &mut [u8], got: &mu
     ensures code { result ≡ OK }
     ensures x { x.new.text ≡ x.old.text }
 {
-    if missing(x) || missing(got) {
+    if either_missing(x, got) {
         return NULL_POINTER;
     }
     *got = copy_from(x.text(&Text::empty()), start, bytes);

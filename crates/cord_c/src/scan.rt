@@ -6,7 +6,7 @@ ghost use denote.RawPtr.{Testable};
 ghost use Rattle.core.specs.Ptr.{as_mut_ptr};
 
 use crate::code::{NO_MEMORY, NULL_POINTER, OK};
-use crate::pointer::missing;
+use crate::pointer::{either_missing, missing};
 use crate::referent::Referent;
 use crate::{Chunks, Handle};
 use std::alloc::Global;
@@ -27,7 +27,7 @@ pub extern "C" fn zc_chunks_set(
     ensures code { MayLackMemory result }
     ensures x { x.new.text ≡ x.old.text }
 {
-    if missing(x) || missing(chunks) {
+    if either_missing(x, chunks) {
         return NULL_POINTER;
     }
     let Ok(text) = x.read(alloc) else {
