@@ -501,11 +501,11 @@ static void step(size_t x) {
         position_text.count = 0;
         break;
     case 2: case 3: case 4:
-        zc_pos_prev(&position);
+        below(2) == 0 ? zc_pos_prev(&position) : (zc_pos_prev)(&position);
         if (position_index < position_text.count) position_index--;
         break;
     default:
-        zc_pos_next(&position);
+        below(2) == 0 ? zc_pos_next(&position) : (zc_pos_next)(&position);
         if (position_index < position_text.count) position_index++;
     }
     stands = position_index < position_text.count;

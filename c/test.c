@@ -829,7 +829,53 @@ static void walks(void) {
     zc_free(&a); /* the position has a share of its own */
     EXPECT(byte_at(&position) == 'c');
     zc_pos_free(&position);
-    EXPECT(zc_pos_index(&position) == ZC_NOT_FOUND);
+    EXPECT(zc_pos_index(&position) == ZC_NOT_FOUND && byte_at(&position) == -1);
+    zc_pos_free(&position);
+}
+
+/* The byte at a place of 150 bytes '0' to '9', 600 times 'r', and 150 bytes 'a' to 'z'. */
+static int wide_at(uint64_t place) {
+    if (place >= 900) return -1;
+    if (place >= 750) return 'a' + (int)(place % 26);
+    return place >= 150 ? 'r' : '0' + (int)(place % 10);
+}
+
+static void make_wide(zc_cord *x) {
+    zc_cord part = ZC_EMPTY;
+    char front[150], back[150];
+    for (int i = 0; i < 150; i++) front[i] = (char)wide_at((uint64_t)i), back[i] = (char)wide_at(750 + (uint64_t)i);
+    DO(zc_from_bytes(front, 150, x));
+    DO(zc_chars('r', 600, &part));
+    DO(zc_append(x, &part));
+    DO(zc_from_bytes(back, 150, &part));
+    DO(zc_append(x, &part));
+    zc_free(&part);
+}
+
+static void expect_wide(zc_pos *position, uint64_t place) {
+    EXPECT(byte_at(position) == wide_at(place));
+    EXPECT(zc_pos_index(position) == (place < 900 ? place : ZC_NOT_FOUND));
+}
+
+/* Walks over three parts, more bytes than a position copies, from both ends and there and back. */
+static void walks_far(void) {
+    zc_cord x = ZC_EMPTY;
+    zc_pos position = ZC_POS_NOWHERE;
+    uint64_t place = 0;
+    make_wide(&x);
+    DO(zc_pos_set(&x, 0, &position));
+    for (; place < 900; place++, zc_pos_next(&position)) expect_wide(&position, place);
+    expect_wide(&position, 900);
+    DO(zc_pos_set(&x, 899, &position));
+    for (; place > 0; place--, zc_pos_prev(&position)) expect_wide(&position, place - 1);
+    EXPECT(byte_at(&position) == -1 && zc_pos_index(&position) == ZC_NOT_FOUND);
+    DO(zc_pos_set(&x, 500, &position));
+    DO(zc_remove(&x, 0, 700, &x)); /* an edit of the text leaves the position's share */
+    zc_free(&x);
+    for (place = 500; place < 800; place++, zc_pos_next(&position)) expect_wide(&position, place);
+    for (; place > 300; place--, zc_pos_prev(&position)) expect_wide(&position, place);
+    for (; place < 900; place++, (zc_pos_next)(&position)) expect_wide(&position, place);
+    expect_wide(&position, 900);
     zc_pos_free(&position);
 }
 
@@ -1632,6 +1678,7 @@ int main(int count, char **words) {
     edits_by_leaves();
     edits_no_longer();
     walks();
+    walks_far();
     chunks_in_order();
     long_chunks();
     files();

@@ -46,9 +46,9 @@ extern "C" {
 /* The version of this header. While the first number is 0, the second one changes where programs have to be compiled
    anew. */
 #define ZC_VERSION_MAJOR 0
-#define ZC_VERSION_MINOR 5
+#define ZC_VERSION_MINOR 6
 #define ZC_VERSION_PATCH 0
-#define ZC_VERSION "0.5.0"
+#define ZC_VERSION "0.6.0"
 
 /* The version of the library that was linked or loaded, as ZC_VERSION. */
 const char *zc_version(void);
@@ -284,33 +284,66 @@ void zc_edit_free(zc_edit *edit);
 
 /* ---- positions ---- */
 
-/* A cord and an index in it, or nowhere, as past the end and before the beginning. It owns a share of the cord, so it
-   is never copied, and the cord may be freed before it. Begin with ZC_POS_NOWHERE or zeros, end with zc_pos_free. */
+/* A cord and an index in it, or nowhere, as past the end and before the beginning, with a copy of the bytes around it:
+   a walk goes down the tree once for each 256 bytes. It owns a share of the cord, so it is never copied, and the cord
+   may be freed before it. Begin with ZC_POS_NOWHERE or zeros, end with zc_pos_free. */
 typedef struct zc_pos {
     zc_cord text; /* for the library alone, as are all fields */
     uint64_t length;
-    uint64_t index;
+    uint64_t start;
+    size_t at;
+    size_t count;
+    unsigned char bytes[256];
 } zc_pos;
 
-#define ZC_POS_NOWHERE {ZC_EMPTY, 0, 0}
+#define ZC_POS_NOWHERE {ZC_EMPTY, 0, 0, 0, 0, {0}}
 
-/* Sets a position to the byte index of x, or nowhere where x has no such byte. ZC_NO_MEMORY: it stays. O(1). */
+/* Sets a position to the byte index of x, or nowhere where x has no such byte. ZC_NO_MEMORY: it stays. O(d), and O(1)
+   for each part of the next 256 bytes. */
 int zc_pos_set(const zc_cord *x, uint64_t index, zc_pos *position);
 
 /* The index where it stands; ZC_NOT_FOUND where it stands nowhere, and of null. O(1). */
 uint64_t zc_pos_index(const zc_pos *position);
 
-/* Writes the byte where it stands to *byte. ZC_PAST_END where it stands nowhere: *byte stays. O(d). */
+/* Writes the byte where it stands to *byte. ZC_PAST_END where it stands nowhere: *byte stays. O(1). */
 int zc_pos_fetch(const zc_pos *position, unsigned char *byte);
 
-/* Goes to the next byte, from the last one nowhere. Nowhere it stays. O(1). */
+/* Goes to the next byte, from the last one nowhere. Nowhere it stays. It takes no memory. O(1); each 256th time as
+   zc_pos_set. */
 void zc_pos_next(zc_pos *position);
 
-/* Goes to the previous byte, from the first one nowhere. Nowhere it stays. O(1). */
+/* Goes to the previous byte, from the first one nowhere. Nowhere it stays. It takes no memory. O(1); each 256th time as
+   zc_pos_set. */
 void zc_pos_prev(zc_pos *position);
 
 /* Frees what it owns; it then stands nowhere in the cord of no bytes, and may be set or freed again. Null is fine. */
 void zc_pos_free(zc_pos *position);
+
+/* A step inside the bytes that were copied is made in place, and each other one by the call. What a macro hides is
+   called by its name in parentheses, as (zc_pos_next)(&position). */
+static inline int zc_pos_fetch_here(const zc_pos *position, unsigned char *byte) {
+    if (position == NULL || byte == NULL || position->at >= position->count) return (zc_pos_fetch)(position, byte);
+    *byte = position->bytes[position->at];
+    return ZC_OK;
+}
+
+static inline void zc_pos_next_here(zc_pos *position) {
+    if (position != NULL && position->at + 1 < position->count)
+        position->at++;
+    else
+        (zc_pos_next)(position);
+}
+
+static inline void zc_pos_prev_here(zc_pos *position) {
+    if (position != NULL && position->at > 0 && position->at < position->count)
+        position->at--;
+    else
+        (zc_pos_prev)(position);
+}
+
+#define zc_pos_fetch(position, byte) zc_pos_fetch_here(position, byte)
+#define zc_pos_next(position) zc_pos_next_here(position)
+#define zc_pos_prev(position) zc_pos_prev_here(position)
 
 /* ---- chunks ---- */
 

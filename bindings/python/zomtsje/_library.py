@@ -7,7 +7,7 @@ import os
 from collections.abc import Callable
 from ctypes import POINTER, c_char_p, c_int, c_int32, c_size_t, c_ubyte, c_uint32, c_uint64, c_void_p
 
-NAME = "libzomtsje.so.0.5"
+NAME = "libzomtsje.so.0.6"
 NOT_FOUND = 2**64 - 1
 MAX_LEN = 2**40 - 1
 

@@ -3,3 +3,4 @@ pub mod Lists
 pub mod Scanning
 pub mod Parts
 pub mod Arguments
+pub mod Walking

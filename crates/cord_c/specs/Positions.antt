@@ -15,10 +15,15 @@ next_in bytes (Some i) = index_in bytes (i + 1)
 abbrev pub bytes_of : Position → List ℕ
 bytes_of p = p.text.text
 
--- the index where a position stands
+-- the index where a position stands, if it stands in what it has a copy of
 abbrev pub index_of : Position → Option ℕ
-index_of p = index_in p.text.text p.index
+index_of p = if nat_lt p.at p.count then Some (p.start + p.at) else None
+
+-- the byte at an index, none where there is none
+abbrev pub byte_in : List ℕ → Option ℕ → Option ℕ
+byte_in bytes None = None
+byte_in bytes (Some i) = slice_get bytes i
 
 -- the byte where it stands
 abbrev pub byte_of : Position → Option ℕ
-byte_of p = slice_get p.text.text p.index
+byte_of p = byte_in p.text.text (index_of p)

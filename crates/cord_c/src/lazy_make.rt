@@ -11,7 +11,7 @@ ghost use denote.RawPtr.{Testable};
 ghost use Rattle.core.specs.Ptr.{as_mut_ptr};
 
 use crate::code::{NULL_POINTER, OK, TOO_LONG};
-use crate::pointer::missing;
+use crate::pointer::{any_missing, either_missing, missing};
 use crate::{Handle, LazyHandle};
 use cord::{CordError, MAX_DEPTH, MAX_LEN, Text};
 use cord_core::Cord;
@@ -54,7 +54,7 @@ pub extern "C" fn zc_lazy_from_cord(alloc: Global, x: &mut Handle, out: &mut Laz
     ensures code { MayLackMemory result }
     ensures x { x.new.text ≡ x.old.text }
 {
-    if missing(x) || missing(out) {
+    if either_missing(x, out) {
         return NULL_POINTER;
     }
     let made = x.text(&Text::empty()).as_cord().share(alloc);
@@ -78,7 +78,7 @@ pub extern "C" fn zc_lazy_cat(
     ensures x { cord_of x.new ≡ cord_of x.old }
     ensures y { cord_of y.new ≡ cord_of y.old }
 {
-    if missing(x) || missing(y) || missing(out) {
+    if any_missing(x, y, out) {
         return NULL_POINTER;
     }
     let made = Cord::cat(alloc, x.cord(&Cord::empty()), y.cord(&Cord::empty()));
@@ -100,7 +100,7 @@ pub extern "C" fn zc_lazy_substr(
     ensures code { MayLackMemory result }
     ensures x { cord_of x.new ≡ cord_of x.old }
 {
-    if missing(x) || missing(out) {
+    if either_missing(x, out) {
         return NULL_POINTER;
     }
     let made = x.cord(&Cord::empty()).substr(alloc, start, count);
@@ -125,17 +125,7 @@ pub extern "C" fn zc_lazy_insert(
     ensures x { cord_of x.new ≡ cord_of x.old }
     ensures y { cord_of y.new ≡ cord_of y.old }
 {
-    if missing(x) || missing(y) || missing(out) {
-        return NULL_POINTER;
-    }
-    let longer = spliced(
-        alloc,
-        x.cord(&Cord::empty()),
-        start,
-        0,
-        y.cord(&Cord::empty()),
-    );
-    out.hold(alloc, longer)
+    zc_lazy_replace(alloc, x, start, 0, y, out)
 }
 
 /// `x` without at most `count` of its bytes from `start` on.
@@ -153,7 +143,7 @@ pub extern "C" fn zc_lazy_remove(
     ensures code { MayLackMemory result }
     ensures x { cord_of x.new ≡ cord_of x.old }
 {
-    if missing(x) || missing(out) {
+    if either_missing(x, out) {
         return NULL_POINTER;
     }
     let shorter = spliced(alloc, x.cord(&Cord::empty()), start, count, &Cord::empty());
@@ -179,7 +169,7 @@ pub extern "C" fn zc_lazy_replace(
     ensures x { cord_of x.new ≡ cord_of x.old }
     ensures y { cord_of y.new ≡ cord_of y.old }
 {
-    if missing(x) || missing(y) || missing(out) {
+    if any_missing(x, y, out) {
         return NULL_POINTER;
     }
     let edited = spliced(
@@ -214,7 +204,7 @@ pub extern "C" fn zc_lazy_balance(alloc: Global, x: &mut LazyHandle, out: &mut L
     ensures code { MayLackMemory result }
     ensures x { cord_of x.new ≡ cord_of x.old }
 {
-    if missing(x) || missing(out) {
+    if either_missing(x, out) {
         return NULL_POINTER;
     }
     let made = x.cord(&Cord::empty()).balance(alloc);
@@ -230,7 +220,7 @@ pub extern "C" fn zc_lazy_share(alloc: Global, x: &mut LazyHandle, out: &mut Laz
     ensures code { MayLackMemory result }
     ensures x { cord_of x.new ≡ cord_of x.old }
 {
-    if missing(x) || missing(out) {
+    if either_missing(x, out) {
         return NULL_POINTER;
     }
     let made = x.cord(&Cord::empty()).share(alloc);

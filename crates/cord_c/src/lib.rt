@@ -37,4 +37,4 @@ pub use extensible::{Extensible, ROOM};
 pub use handle::Handle;
 pub use lazy::LazyHandle;
 pub use limits::limits_are;
-pub use position::Position;
+pub use position::{Position, WINDOW};

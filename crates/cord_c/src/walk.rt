@@ -1,16 +1,18 @@
 // Positions, and steps from byte to byte.
-ghost use Rattle.std.specs.Prelude.{◌≡◌, ◌⊎◌, [], Some, None};
+ghost use Rattle.std.specs.Prelude.{◌≡◌, ◌⊎◌, ◌-◌, ◌<◌, ◌≤◌, [], Some, None};
 ghost use Rattle.cord_c.specs.Answers.{place_or_none};
 ghost use Rattle.cord_c.specs.Codes.{MayLackMemory};
+ghost use Rattle.cord_c.specs.declared.position.TheConstants.{WINDOW};
 ghost use Rattle.cord_c.specs.Positions.{index_in, next_in, bytes_of, index_of, byte_of};
 ghost use Rattle.cord_pos.specs.Position.{prev_index};
 ghost use denote.RawPtr.{Testable};
 ghost use Rattle.core.specs.Ptr.{as_mut_ptr};
 
 use crate::code::{NO_MEMORY, NOT_FOUND, NULL_POINTER, OK, PAST_END};
-use crate::pointer::missing;
+use crate::pointer::{either_missing, missing};
+use crate::position::WINDOW;
+use crate::referent::Referent;
 use crate::{Handle, Position};
-use cord::Text;
 use std::alloc::Global;
 
 /// Sets a position to the byte `index` of `x`, or nowhere where `x` has no such byte.
@@ -29,16 +31,20 @@ pub extern "C" fn zc_pos_set(
     ensures code { MayLackMemory result }
     ensures x { x.new.text ≡ x.old.text }
 {
-    if missing(x) || missing(position) {
+    if either_missing(x, position) {
         return NULL_POINTER;
     }
-    let len = x.text(&Text::empty()).len();
-    let shared = x.text(&Text::empty()).share(alloc);
-    if position.text.hold_within(alloc, shared) != OK {
+    let Ok(text) = x.read(alloc) else {
+        return NO_MEMORY;
+    };
+    let len = text.len();
+    if position.text.keep(alloc, Referent::Text(text)) != OK {
         return NO_MEMORY;
     }
     position.len = len;
-    position.index = index;
+    position.start = len;
+    position.count = 0;
+    position.look(index, index);
     OK
 }
 
@@ -67,14 +73,13 @@ pub extern "C" fn zc_pos_fetch(position: &mut Position, byte: &mut u8) -> i32
     ensures bytes { bytes_of position.new ≡ bytes_of position.old }
     ensures index { index_of position.new ≡ index_of position.old }
 {
-    if missing(position) || missing(byte) {
+    if either_missing(position, byte) {
         return NULL_POINTER;
     }
-    let index = position.index;
-    let Some(found) = position.text.text(&Text::empty()).get(index) else {
+    if position.at >= position.count {
         return PAST_END;
-    };
-    *byte = found;
+    }
+    *byte = position.bytes[position.at];
     OK
 }
 
@@ -85,10 +90,14 @@ pub extern "C" fn zc_pos_next(position: &mut Position)
     ensures index { index_of position.new ≡ next_in (bytes_of position.old) (index_of position.old) }
     ensures bytes { bytes_of position.new ≡ bytes_of position.old }
 {
-    if missing(position) || position.index >= position.len {
+    if missing(position) || position.at >= position.count {
         return;
     }
-    position.index += 1;
+    position.at += 1;
+    if position.at == position.count {
+        let next = position.start + position.at as u64;
+        position.look(next, next);
+    }
 }
 
 /// Goes to the previous byte, from the first one nowhere.
@@ -98,14 +107,17 @@ pub extern "C" fn zc_pos_prev(position: &mut Position)
     ensures index { index_of position.new ≡ prev_index (index_of position.old) }
     ensures bytes { bytes_of position.new ≡ bytes_of position.old }
 {
-    if missing(position) || position.index >= position.len {
+    if missing(position) || position.at >= position.count {
         return;
     }
-    position.index = if position.index == 0 {
-        NOT_FOUND
+    if position.at > 0 {
+        position.at -= 1;
+    } else if position.start > 0 {
+        let end = position.start;
+        position.look(end.saturating_sub(WINDOW as u64), end - 1);
     } else {
-        position.index - 1
-    };
+        position.at = position.count;
+    }
 }
 
 /// Frees what a position owns, which then stands nowhere in the text of no bytes.
@@ -126,11 +138,22 @@ impl Position {
     fn index(&self) -> Option<u64>
         ensures { result ≡ index_of self.now }
     {
-        if self.index < self.len {
-            Some(self.index)
+        if self.at < self.count {
+            Some(self.start + self.at as u64)
         } else {
             None
         }
+    }
+
+    // Copies the bytes from `start` on, and stands at the byte `index`, or nowhere where the text has no such byte.
+    fn look(&mut self, start: u64, index: u64)
+        requires near { (start ≤ index) × (index - start < WINDOW) }
+        ensures bytes { bytes_of self.new ≡ bytes_of self.old }
+        ensures index { index_of self.new ≡ index_in (bytes_of self.old) index }
+    {
+        self.count = self.text.copy_to(start, &mut self.bytes);
+        self.start = start;
+        self.at = (index - start) as usize;
     }
 
     // Frees the text.
@@ -140,5 +163,6 @@ impl Position {
     {
         self.text = Handle::empty(alloc);
         self.len = 0;
+        self.count = 0;
     }
 }
