@@ -1,12 +1,12 @@
 -- The last place of a text in another, by searches from the back.
-use Rattle.std.proofs.Common.{◌≡◌, ◌==◌, ℕ, zero, suc, ◌+◌, ◌-◌, ◌<◌, ◌≤◌, Bool, true, false, List, [], ◌∷◌, ◌++◌, length, take, drop}
+use Rattle.std.proofs.Common.{◌≡◌, ℕ, zero, suc, ◌+◌, ◌-◌, ◌<◌, ◌≤◌, Bool, true, false, List, [], ◌∷◌, ◌++◌, length, take, drop}
 use Rattle.std.proofs.Common.{None, Some, refl, sym, ◌∙◌, ap, subst, arith, ⊎_elim, eq-eqb}
 use Rattle.std.specs.Prelude.{Option, IfSome, min, if◌then◌else◌}
 use Rattle.std.proofs.Math.Dec.{leb-zero}
 use Rattle.std.proofs.lemmas.Bool.{cases_lt}
 use Rattle.cord_io.specs.Table.{Table}
 use Rattle.cord_node.specs.declared.Node.{Node}
-use Rattle.cord_core.specs.Cord.{text_len, bytes_of}
+use Rattle.cord_core.specs.Cord.{bytes_of}
 use Rattle.cord_core.specs.Texts.{begins_with, first_from, StandsAt, first, IsFirst}
 use Rattle.cord_core.proofs.Searches.{first_is_least}
 use Rattle.cord_search.specs.LastTexts.{last_below, last_text, IsLastBelow}

@@ -1,4 +1,4 @@
-use Rattle.std.proofs.Common.{◌≡◌, ◌∙◌, ◌+◌, ◌-◌, ◌≤◌, true, sym, arith}
+use Rattle.std.proofs.Common.{◌∙◌, ◌+◌, ◌-◌, true, sym, arith}
 use Rattle.cord_core.specs.Cord.{text_len, bytes_of}
 use Rattle.cord_search.specs.inner.Pieces.{IsStanding}
 use Rattle.cord_search.proofs.Ranges.{cord_len}

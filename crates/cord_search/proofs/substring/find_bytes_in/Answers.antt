@@ -1,5 +1,5 @@
 use Rattle.std.proofs.Common.{ℕ, ◌∙◌, List, length, ap, arith}
-use Rattle.cord_core.specs.Cord.{text_len, bytes_of}
+use Rattle.cord_core.specs.Cord.{text_len}
 use Rattle.cord_core.specs.Texts.{first}
 use Rattle.cord_search.proofs.Ranges.{cord_len}
 use Rattle.cord_search.proofs.Cuts.{take_limit, ends_within}
