@@ -1,17 +1,19 @@
 -- Texts that are cut into pieces.
-use Rattle.std.proofs.Common.{◌≡◌, ℕ, suc, zero, ◌+◌, ◌-◌, ◌<◌, ◌≤◌, List, [], ◌∷◌, ◌++◌, length, take, drop, refl, sym, ap, ◌∙◌, arith, append_assoc, subst, min, length-take, length-append}
-use Rattle.std.proofs.lemmas.List.{append-nil, take_all, drop-drop}
+use Rattle.std.proofs.Common.{◌≡◌, ℕ, suc, zero, ◌+◌, ◌-◌, ◌<◌, ◌≤◌, List, [], ◌∷◌, ◌++◌, length, take, drop, refl, sym, ap, ◌∙◌, arith, append_assoc, subst, min, length-take, length-append, Bool}
+use Rattle.std.specs.Prelude.{map}
+use Rattle.std.proofs.lemmas.List.{append-nil, take_all, drop-drop, take-append-drop}
 use Rattle.std.proofs.lemmas.List.Sums.{sum_by-take-le}
-use Rattle.std.proofs.Math.Seq.{take-add, drop-append_seam}
+use Rattle.std.proofs.Math.Seq.{take-add, take-append_seam, drop-append_seam}
 use Rattle.cord_io.specs.declared.TheConstants.{MAX_LEN}
 use Rattle.cord_node.proofs.Ranges.{take-append_right}
-use Rattle.cord_lines.specs.Lines.{after_ends}
+use Rattle.cord_lines.specs.Lines.{after_ends, lacks_end}
+use Rattle.cord_lines.specs.Index.{Indexed, AreCountsOf, IsIndexOf}
 use Rattle.cord_lines.proofs.Ends.{past_all}
 use Rattle.cord_lines.specs.declared.counting.Counts.{Counts}
 use Rattle.cord_lines.specs.declared.blocks.Block.{Block}
 use Rattle.cord_lines.specs.Counts.{counts_of, ends_in, plus, AreFew, AreNarrow}
 use Rattle.cord_lines.specs.inner.Blocks.{block_counts, total}
-use Rattle.cord_lines.specs.inner.Cuts.{IsCut, AreModest}
+use Rattle.cord_lines.specs.inner.Cuts.{IsCut, AreModest, AreOfSomeText, shown}
 use Rattle.cord_lines.proofs.Countings.{counts-append, ends-le, chars-le}
 use Rattle.cord_lines.proofs.Sums.{min_prefix, total-cons}
 
@@ -20,6 +22,25 @@ total_is [] x c = ap counts_of (sym c)
 total_is (b ∷ bs) x (piece, rest, text, here, more) =
     total-cons b bs ∙ ap (λ (a : Counts). plus a (total bs)) here ∙ ap (plus (counts_of piece)) (total_is bs rest more)
     ∙ sym (counts-append piece rest) ∙ ap counts_of (sym text)
+
+-- the blocks of an index are cut from its text
+pub cut_of : (bs : List Block) (x : List ℕ) → AreCountsOf (map block_counts bs) x → IsCut bs x
+cut_of [] x none = none
+cut_of (b ∷ bs) x (here, more) = (take b.bytes x, drop b.bytes x, sym (take-append-drop b.bytes x), here, cut_of bs (drop b.bytes x) more)
+
+pub counted_of : (bs : List Block) (x : List ℕ) → IsCut bs x → AreCountsOf (map block_counts bs) x
+counted_of [] x none = none
+counted_of (b ∷ bs) x (piece, rest, text, here, more) =
+    let len : b.bytes ≡ length piece = ap (λ (a : Counts). a.bytes) here in
+    let first : take b.bytes x ≡ piece = ap (λ (n : ℕ). take n x) len ∙ ap (take (length piece)) text ∙ take-append_seam piece rest in
+    let left : drop b.bytes x ≡ rest = ap (λ (n : ℕ). drop n x) len ∙ ap (drop (length piece)) text ∙ drop-append_seam piece rest in
+    (here ∙ ap counts_of (sym first), subst (λ (y : List ℕ). AreCountsOf (map block_counts bs) y) (sym left) (counted_of bs rest more))
+
+pub cut_from : (bs : List Block) (lacks : Bool) (i : Indexed) (x : List ℕ) → shown bs lacks ≡ i → IsIndexOf i x → IsCut bs x
+cut_from bs lacks i x seen is = cut_of bs x (subst (λ (j : Indexed). AreCountsOf j.pieces x) (sym seen) is.counted)
+
+pub index_from : (bs : List Block) (lacks : Bool) (x : List ℕ) → IsCut bs x → lacks ≡ lacks_end x → IsIndexOf (shown bs lacks) x
+index_from bs lacks x c e = record { counted = counted_of bs x c; end = e }
 
 -- a text in two, between two blocks
 pub record Split (i : ℕ) (bs : List Block) (x : List ℕ) : Type 0 where
@@ -62,6 +83,12 @@ modest bs x c le =
       ends = (let e = ap (λ (a : Counts). a.ends) all in omega (arith, e, le, ends-le x));
       chars = (let e = ap (λ (a : Counts). a.chars) all in omega (arith, e, le, chars-le x));
     }
+
+pub modest_by : (bs : List Block) → AreOfSomeText bs → AreModest bs
+modest_by bs some = modest bs some.text some.cut some.limit
+
+pub few_by : (bs : List Block) → AreOfSomeText bs → AreFew (total bs)
+few_by bs some = few bs (modest_by bs some)
 
 pub one_piece_more : (bs : List Block) (b : Block) (x y z : List ℕ) → IsCut bs x → block_counts b ≡ counts_of y → z ≡ x ++ y → IsCut (bs ++ b ∷ []) z
 one_piece_more bs b x y z c here text = subst (λ (w : List ℕ). IsCut (bs ++ b ∷ []) w) (sym text)

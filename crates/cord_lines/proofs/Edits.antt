@@ -1,15 +1,16 @@
 -- Blocks of a text that is edited.
-use Rattle.std.proofs.Common.{◌≡◌, ℕ, ◌+◌, ◌-◌, ◌<◌, ◌≤◌, List, [], ◌∷◌, ◌++◌, length, take, drop, refl, sym, ap, ◌∙◌, arith, append_assoc, subst, length-append, length-take, length-drop}
-use Rattle.std.proofs.lemmas.List.{drop-drop, take-append-le, drop-append-le, take-append-drop}
+use Rattle.std.proofs.Common.{◌≡◌, ℕ, ◌+◌, ◌-◌, ◌≤◌, List, [], ◌∷◌, ◌++◌, length, take, drop, sym, ap, ◌∙◌, arith, append_assoc, subst, length-append, length-take, length-drop, min, suc, zero}
+use Rattle.std.proofs.lemmas.List.{drop_all, drop-drop, take-append-le, drop-append-le}
 use Rattle.std.proofs.Math.Seq.{take-add, take-append_seam, drop-append_seam}
 use Rattle.cord_node.proofs.Ranges.{take-append_right, drop-append_right}
+use Rattle.cord_io.specs.declared.TheConstants.{MAX_LEN}
 use Rattle.cord_lines.specs.declared.counting.Counts.{Counts}
 use Rattle.cord_lines.specs.declared.blocks.Block.{Block}
-use Rattle.cord_lines.specs.Counts.{counts_of}
 use Rattle.cord_lines.specs.Lines.{IsEditOf}
 use Rattle.cord_lines.specs.inner.Blocks.{total}
-use Rattle.cord_lines.specs.inner.Cuts.{IsCut}
+use Rattle.cord_lines.specs.inner.Cuts.{IsCut, AreOfSomeText}
 use Rattle.cord_lines.proofs.Cuts.{Split, split, joined, total_is}
+use Rattle.cord_lines.proofs.Sums.{min_prefix}
 
 regroup : (a b c d e : List ℕ) → ((a ++ b) ++ c) ++ (d ++ e) ≡ a ++ (((b ++ c) ++ d) ++ e)
 regroup a b c d e = simp append_assoc
@@ -43,10 +44,29 @@ module _ (a m z after fresh : List ℕ) (st rem : ℕ) (from : length a ≤ st) 
   middle_at n e = ap (λ (y : List ℕ). take n (drop (length a) y)) after_is ∙ ap (take n) (drop-append_seam a (middle ++ z))
       ∙ ap (λ (i : ℕ). take i (middle ++ z)) (e ∙ sym middle-len) ∙ take-append_seam middle z
 
--- the same of blocks
-module _ (bs news : List Block) (x after : List ℕ) (c : IsCut bs x) (st rem ins : ℕ) (e : IsEditOf x after st rem ins)
-    (first count start bytes len : ℕ) (here : start ≡ (total (take first bs)).bytes) (end : start + bytes ≡ (total (take (first + count) bs)).bytes)
-    (from : start ≤ st) (to : st + rem ≤ start + bytes) (new-len : len ≡ bytes - rem + ins) where
+-- an edit whose numbers go past the end
+drop_min : (n : ℕ) (x : List ℕ) → drop (min n (length x)) x ≡ drop n x
+drop_min zero x = let none : min 0 (length x) ≡ 0 = omega arith in ap (λ (m : ℕ). drop m x) none
+drop_min (suc n) [] =
+    let none : length {A = ℕ} [] ≤ min (suc n) (length {A = ℕ} []) = omega arith in drop_all (min (suc n) (length {A = ℕ} [])) [] none
+drop_min (suc n) (b ∷ x) =
+    let less : min (suc n) (length (b ∷ x)) ≡ suc (min n (length x)) = omega arith in ap (λ (m : ℕ). drop m (b ∷ x)) less ∙ drop_min n x
+
+pub capped : (x after fresh : List ℕ) (start count from removed inserted : ℕ) → after ≡ take start x ++ fresh ++ drop (start + count) x →
+    from ≡ min start (length x) → removed ≡ min count (length x - from) → length fresh ≡ inserted → IsEditOf x after from removed inserted
+capped x after fresh start count from removed inserted text from-is removed-is len =
+    let end : from + removed ≡ min (start + count) (length x) = omega (arith, from-is, removed-is) in
+    record {
+      fresh = fresh;
+      count = len;
+      inside = omega (arith, end);
+      text = text ∙ ap (λ (y : List ℕ). y ++ fresh ++ drop (start + count) x) (sym (min_prefix x start from (omega (arith, from-is))))
+          ∙ ap (λ (y : List ℕ). take from x ++ fresh ++ y) (sym (ap (λ (n : ℕ). drop n x) end ∙ drop_min (start + count) x));
+    }
+
+-- blocks of a text, some of which are replaced
+module _ (bs news : List Block) (x : List ℕ) (c : IsCut bs x) (first count start bytes : ℕ)
+    (here : start ≡ (total (take first bs)).bytes) (end : start + bytes ≡ (total (take (first + count) bs)).bytes) where
   abbrev s : Split first bs x
   s = split first bs x c
 
@@ -67,43 +87,42 @@ module _ (bs news : List Block) (x after : List ℕ) (c : IsCut bs x) (st rem in
   middle-is = (let all = end ∙ ap (λ (a : Counts). a.bytes) (total_is (take (first + count) bs) (s.prefix ++ r.prefix) both) in
       omega (arith, all, prefix-len, length-append s.prefix r.prefix))
 
-  edited : after ≡ take st (s.prefix ++ (r.prefix ++ r.back)) ++ e.fresh ++ drop (st + rem) (s.prefix ++ (r.prefix ++ r.back))
-  edited = subst (λ (y : List ℕ). after ≡ take st y ++ e.fresh ++ drop (st + rem) y) text e.text
-
-  a-from : length s.prefix ≤ st
-  a-from = omega (arith, prefix-len, from)
-
-  a-to : st + rem ≤ length s.prefix + length r.prefix
-  a-to = omega (arith, prefix-len, middle-is, to)
-
-  there : take len (drop start after) ≡ middle s.prefix r.prefix r.back after e.fresh st rem a-from a-to edited
-  there = ap (λ (n : ℕ). take len (drop n after)) prefix-len
-      ∙ middle_at s.prefix r.prefix r.back after e.fresh st rem a-from a-to edited len (omega (arith, new-len, middle-is, e.count))
-
-  -- new blocks of the middle one
-  pub renewed : IsCut news (take len (drop start after)) → IsCut (take first bs ++ news ++ drop (first + count) bs) after
-  renewed n = subst (λ (y : List ℕ). IsCut (take first bs ++ news ++ drop (first + count) bs) y)
-      (sym (after_is s.prefix r.prefix r.back after e.fresh st rem a-from a-to edited))
-      (subst (λ (ys : List Block). IsCut ys (s.prefix ++ (middle s.prefix r.prefix r.back after e.fresh st rem a-from a-to edited ++
-      r.back)))
+  replaced : (piece : List ℕ) → IsCut news piece → IsCut (take first bs ++ news ++ drop (first + count) bs) (s.prefix ++ (piece ++ r.back))
+  replaced piece n = subst (λ (ys : List Block). IsCut ys (s.prefix ++ (piece ++ r.back)))
       (sym (append_assoc (take first bs) news (drop (first + count) bs)))
-      (joined (take first bs) (news ++ drop (first + count) bs) s.prefix
-      (middle s.prefix r.prefix r.back after e.fresh st rem a-from a-to edited ++ r.back) s.first
-      (joined news (drop (first + count) bs) (middle s.prefix r.prefix r.back after e.fresh st rem a-from a-to edited) r.back
-      (subst (λ (y : List ℕ). IsCut news y) there n)
-      (subst (λ (ys : List Block). IsCut ys r.back) (drop-drop count first bs) r.second))))
+      (joined (take first bs) (news ++ drop (first + count) bs) s.prefix (piece ++ r.back) s.first
+      (joined news (drop (first + count) bs) piece r.back n (subst (λ (ys : List Block). IsCut ys r.back) (drop-drop count first bs) r.second)))
 
-  -- which lie in the text
-  pub inside : start + len ≤ length after
-  inside = (let all = ap (λ (y : List ℕ). length y) (after_is s.prefix r.prefix r.back after e.fresh st rem a-from a-to edited) in
-      omega (
-        arith,
-        all,
-        prefix-len,
-        new-len,
-        middle-is,
-        e.count,
-        length-append s.prefix (middle s.prefix r.prefix r.back after e.fresh st rem a-from a-to edited ++ r.back),
-        length-append (middle s.prefix r.prefix r.back after e.fresh st rem a-from a-to edited) r.back,
-        middle-len s.prefix r.prefix r.back after e.fresh st rem a-from a-to edited,
-      ))
+  -- the result is of some text
+  pub of_some : (piece : List ℕ) → IsCut news piece → length x - bytes + length piece ≤ MAX_LEN →
+      AreOfSomeText (take first bs ++ news ++ drop (first + count) bs)
+  of_some piece n le = record {
+    text = s.prefix ++ (piece ++ r.back);
+    cut = replaced piece n;
+    limit = (let all = ap (λ (y : List ℕ). length y) text in
+        omega (
+          arith,
+          le,
+          all,
+          middle-is,
+          length-append s.prefix (r.prefix ++ r.back),
+          length-append r.prefix r.back,
+          length-append s.prefix (piece ++ r.back),
+          length-append piece r.back,
+        ));
+  }
+
+  -- and of the text after an edit, where the pieces are
+  pub renewed : (after : List ℕ) (st rem ins len : ℕ) (e : IsEditOf x after st rem ins) → start ≤ st → st + rem ≤ start + bytes →
+      len ≡ bytes - rem + ins → IsCut news (take len (drop start after)) → IsCut (take first bs ++ news ++ drop (first + count) bs) after
+  renewed after st rem ins len e from to new-len n =
+      let edited : after ≡ take st (s.prefix ++ (r.prefix ++ r.back)) ++ e.fresh ++ drop (st + rem) (s.prefix ++ (r.prefix ++ r.back)) =
+      subst (λ (y : List ℕ). after ≡ take st y ++ e.fresh ++ drop (st + rem) y) text e.text in
+      let a-from : length s.prefix ≤ st = omega (arith, prefix-len, from) in
+      let a-to : st + rem ≤ length s.prefix + length r.prefix = omega (arith, prefix-len, middle-is, to) in
+      let there : take len (drop start after) ≡ middle s.prefix r.prefix r.back after e.fresh st rem a-from a-to edited =
+      ap (λ (n : ℕ). take len (drop n after)) prefix-len
+      ∙ middle_at s.prefix r.prefix r.back after e.fresh st rem a-from a-to edited len (omega (arith, new-len, middle-is, e.count)) in
+      subst (λ (y : List ℕ). IsCut (take first bs ++ news ++ drop (first + count) bs) y)
+      (sym (after_is s.prefix r.prefix r.back after e.fresh st rem a-from a-to edited))
+      (replaced (middle s.prefix r.prefix r.back after e.fresh st rem a-from a-to edited) (subst (λ (y : List ℕ). IsCut news y) there n))

@@ -1,9 +1,9 @@
 -- Lines begin after the ends of those before them.
-use Rattle.std.proofs.Common.{◌≡◌, ℕ, suc, zero, ◌+◌, ◌-◌, ◌<◌, ◌≤◌, Bool, true, false, cond, Option, Some, None, List, [], ◌∷◌, length, get_or, take, drop, refl, sym, ap, ◌∙◌, arith}
-use Rattle.std.specs.Prelude.{◌==◌, if◌then◌else◌, not, slice_get}
-use Rattle.std.proofs.lemmas.List.{drop_all}
-use Rattle.std.proofs.lemmas.Option.{slice_get_past, slice_get-get_or}
-use Rattle.cord.specs.Lines.{lines, led_by}
+use Rattle.std.proofs.Common.{◌≡◌, ℕ, suc, zero, ◌+◌, ◌-◌, ◌<◌, ◌≤◌, Bool, true, false, cond, Some, None, List, [], ◌∷◌, length, get_or, take, drop, refl, sym, ap, ◌∙◌, arith, min, map, subst, true≢false}
+use Rattle.std.specs.Prelude.{◌||◌, if◌then◌else◌, not, slice_get, option_map}
+use Rattle.std.proofs.lemmas.List.{drop_all, drop-map, length-map}
+use Rattle.std.proofs.lemmas.Option.{slice_get_past, slice_get-get_or, slice_get-map}
+use Rattle.cord.specs.Lines.{lines, led_by, bare, bare_lines, lines_as}
 use Rattle.cord_lines.specs.Counts.{is_end, ends_in}
 use Rattle.cord_lines.specs.Lines.{after_ends, lacks_end, is_inside_line}
 use Rattle.cord_lines.proofs.Ends.{ends-cons, none_passed, one_more}
@@ -127,3 +127,89 @@ pub get_after : (n : ℕ) (ls : List (List ℕ)) (line : List ℕ) → slice_get
 get_after zero ls line e = e
 get_after (suc n) [] line e = cc
 get_after (suc n) (l ∷ ls) line e = get_after n ls line e
+
+-- the line that ends after the first k bytes, without its end
+pub record IsBare (y : List ℕ) (k : ℕ) : Type 0 where
+  pub some : 0 < k
+  pub ended : is_inside_line (slice_get y (k - 1)) ≡ false → bare (take k y) ≡ take (k - 1) y
+  pub unended : is_inside_line (slice_get y (k - 1)) ≡ true → bare (take k y) ≡ take k y
+
+bare_by : (b : ℕ) (line : List ℕ) (is : Bool) → is_end b ≡ is → bare (b ∷ line) ≡ (if is then [] else b ∷ bare line)
+bare_by b line is h = ap (λ (w : Bool). if w then [] else b ∷ bare line) h
+
+bare_step : (b : ℕ) (x : List ℕ) (is : Bool) → is_end b ≡ is → (0 < length x → IsBare x (after_ends 1 x)) → IsBare (b ∷ x) (after_ends 1 (b ∷ x))
+bare_step b x true h later =
+    let past : after_ends 1 (b ∷ x) ≡ 1 = one_more 1 x b true h (omega arith) ∙ ap (λ (k : ℕ). 1 + k) (none_passed x) in
+    subst (λ (k : ℕ). IsBare (b ∷ x) k) (sym past) (record {
+      some = omega arith;
+      ended = λ e. bare_by b [] true h;
+      unended = λ e. absurd (true≢false (sym e ∙ ap not h));
+    })
+bare_step b [] false h later =
+    let past : after_ends 1 (b ∷ []) ≡ 1 = one_more 1 [] b false h (omega arith) in
+    subst (λ (k : ℕ). IsBare (b ∷ []) k) (sym past) (record {
+      some = omega arith;
+      ended = λ e. absurd (true≢false (sym (ap not h) ∙ e));
+      unended = λ e. bare_by b [] false h;
+    })
+bare_step b (c ∷ x) false h later =
+    let r = later (omega arith) in
+    let k = after_ends 1 (c ∷ x) in
+    let past : after_ends 1 (b ∷ c ∷ x) ≡ suc k = one_more 1 (c ∷ x) b false h (omega arith) ∙ omega arith in
+    let less : suc k - 1 ≡ suc (k - 1) = omega (arith, r.some) in
+    let same : slice_get (b ∷ c ∷ x) (suc k - 1) ≡ slice_get (c ∷ x) (k - 1) = ap (λ (n : ℕ). slice_get (b ∷ c ∷ x) n) less in
+    let line : bare (take (suc k) (b ∷ c ∷ x)) ≡ b ∷ bare (take k (c ∷ x)) = bare_by b (take k (c ∷ x)) false h in
+    subst (λ (n : ℕ). IsBare (b ∷ c ∷ x) n) (sym past) (record {
+      some = omega arith;
+      ended = λ e. line ∙ ap (λ (y : List ℕ). b ∷ y) (r.ended (sym (ap is_inside_line same) ∙ e)) ∙ ap (λ (n : ℕ). take n (b ∷ c ∷ x)) (sym less);
+      unended = λ e. line ∙ ap (λ (y : List ℕ). b ∷ y) (r.unended (sym (ap is_inside_line same) ∙ e));
+    })
+
+pub bare_first : (x : List ℕ) → 0 < length x → IsBare x (after_ends 1 x)
+bare_first [] some = absurd (omega (arith, some))
+bare_first (b ∷ x) some = bare_step b x (is_end b) refl (bare_first x)
+
+-- the first line ends there, with its end or without it
+pub first_as : (with_end inside : Bool) (x : List ℕ) → 0 < length x → is_inside_line (slice_get x (after_ends 1 x - 1)) ≡ inside →
+    slice_get (lines_as with_end x) 0 ≡ Some (take (if with_end || inside then after_ends 1 x else after_ends 1 x - 1) x)
+first_as true inside x some e = first_line x some
+first_as false true x some e =
+    slice_get-map bare (lines x) 0 ∙ ap (option_map bare) (first_line x some) ∙ ap (λ (y : List ℕ). Some y) ((bare_first x some).unended e)
+first_as false false x some e =
+    slice_get-map bare (lines x) 0 ∙ ap (option_map bare) (first_line x some) ∙ ap (λ (y : List ℕ). Some y) ((bare_first x some).ended e)
+
+-- lines with their ends or without
+pub as_drop : (with_ends : Bool) (n : ℕ) (x y : List ℕ) → lines y ≡ drop n (lines x) → lines_as with_ends y ≡ drop n (lines_as with_ends x)
+as_drop true n x y e = e
+as_drop false n x y e = ap (map bare) e ∙ sym (drop-map bare n (lines x))
+
+pub as_none : (with_ends : Bool) (n : ℕ) (x : List ℕ) → length (lines x) ≤ n → slice_get (lines_as with_ends x) n ≡ None
+as_none true n x le = slice_get_past (lines x) n le
+as_none false n x le = slice_get_past (bare_lines x) n (omega (arith, length-map (lines x) bare, le))
+
+pub get_drop : (n i : ℕ) (x : List ℕ) → slice_get (drop n x) i ≡ slice_get x (n + i)
+get_drop zero i x = ap (λ (k : ℕ). slice_get x k) (let e : i ≡ 0 + i = omega arith in e)
+get_drop (suc n) i [] = slice_get_past [] i (omega arith) ∙ sym (slice_get_past [] (suc n + i) (omega arith))
+get_drop (suc n) i (b ∷ x) = get_drop n i x ∙ ap (λ (k : ℕ). slice_get (b ∷ x) k) (let e : suc (n + i) ≡ suc n + i = omega arith in e)
+
+-- the line of a place begins there or before it
+begins_later : (ends m b : ℕ) (x : List ℕ) → is_end b ≡ false → after_ends ends x ≤ m → after_ends ends (b ∷ x) ≤ 1 + m
+begins_later zero m b x h le = omega (arith, none_passed (b ∷ x))
+begins_later (suc n) m b x h le = omega (arith, one_more (suc n) x b false h (omega arith), le)
+
+begins_step : (place b : ℕ) (x : List ℕ) (is : Bool) → is_end b ≡ is → after_ends (ends_in (take place x)) x ≤ min place (length x) →
+    after_ends (ends_in (b ∷ take place x)) (b ∷ x) ≤ 1 + min place (length x)
+begins_step place b x true h le =
+    let count : ends_in (b ∷ take place x) ≡ 1 + ends_in (take place x) = ends-cons b (take place x) true h in
+    let past : after_ends (1 + ends_in (take place x)) (b ∷ x) ≡ 1 + after_ends (ends_in (take place x)) x =
+    one_more (1 + ends_in (take place x)) x b true h (omega arith)
+    ∙ ap (λ (n : ℕ). 1 + after_ends n x) (let e : 1 + ends_in (take place x) - 1 ≡ ends_in (take place x) = omega arith in e) in
+    omega (arith, ap (λ (n : ℕ). after_ends n (b ∷ x)) count, past, le)
+begins_step place b x false h le =
+    let count : ends_in (b ∷ take place x) ≡ ends_in (take place x) = ends-cons b (take place x) false h ∙ omega arith in
+    omega (arith, ap (λ (n : ℕ). after_ends n (b ∷ x)) count, begins_later (ends_in (take place x)) (min place (length x)) b x h le)
+
+pub begins_before : (place : ℕ) (x : List ℕ) → after_ends (ends_in (take place x)) x ≤ min place (length x)
+begins_before zero x = omega (arith, none_passed x)
+begins_before (suc place) [] = omega arith
+begins_before (suc place) (b ∷ x) = omega (arith, begins_step place b x (is_end b) refl (begins_before place x))

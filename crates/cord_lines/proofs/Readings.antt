@@ -1,5 +1,5 @@
 -- What a reader takes is what a text has at its place.
-use Rattle.std.proofs.Common.{◌≡◌, ℕ, ◌+◌, ◌-◌, ◌<◌, ◌≤◌, Option, Some, None, List, [], ◌∷◌, ◌++◌, length, take, drop, refl, sym, ap, ◌∙◌, arith, length-drop, length-take}
+use Rattle.std.proofs.Common.{◌≡◌, ℕ, ◌+◌, ◌<◌, ◌≤◌, Option, Some, None, List, [], ◌++◌, length, take, drop, refl, sym, ap, ◌∙◌, arith, length-drop, length-take}
 use Rattle.std.proofs.lemmas.List.{drop_all, take-take, take-append-drop, drop-drop}
 use Rattle.cord_pos.specs.Position.{Standing}
 use Rattle.cord_pos.specs.declared.span.Span.{Span}
@@ -10,10 +10,7 @@ use Rattle.std.proofs.lemmas.Bool.Decides.{nat_tests}
 use Rattle.cord_node.specs.Tables.{lengths_of}
 use Rattle.cord_core.specs.Cord.{text_len}
 use Rattle.cord.specs.Plain.{no_table, no_lengths}
-use Rattle.cord_pos.specs.Position.{index_at, moved_index}
 use Rattle.cord_pos.specs.Spans.{SpanFitsIn}
-use Rattle.cord_io.specs.declared.SourceId.{SourceId}
-use Rattle.cord_pos.specs.declared.span.Span.TheVariants.{Func}
 use Rattle.cord.specs.declared.chunks.Chunk.{Chunk}
 use Rattle.cord.specs.Chunks.{chunk_bytes}
 use Rattle.cord_lines.specs.inner.Reading.{IsPrefix}

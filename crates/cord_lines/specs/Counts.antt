@@ -1,5 +1,5 @@
 -- What is counted in a text: its bytes, the ends of its lines, and the bytes with which characters of UTF-8 begin.
-use Rattle.std.specs.Prelude.{◌≡◌, ℕ, suc, zero, ◌+◌, ◌<◌, ◌^◌, ◌==◌, Bool, ◌||◌, nat_lt, nat_le, List, [], ◌∷◌, length, if◌then◌else◌}
+use Rattle.std.specs.Prelude.{ℕ, ◌+◌, ◌<◌, ◌^◌, ◌==◌, Bool, ◌||◌, nat_lt, nat_le, List, length}
 use Rattle.std.specs.List.{count_by}
 use Rattle.cord_lines.specs.declared.counting.Counts.{Counts}
 

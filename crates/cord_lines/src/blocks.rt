@@ -1,5 +1,5 @@
 // The blocks of a text, and what each holds.
-ghost use Rattle.std.specs.Prelude.{◌≡◌, ◌+◌, ◌-◌, ◌<◌, ◌≤◌, ◌^◌, ◌++◌, IfOk, OnOk, IsErr, IsOkUnless, length, take, drop, slice_set};
+ghost use Rattle.std.specs.Prelude.{◌≡◌, ◌+◌, ◌-◌, ◌<◌, ◌≤◌, ◌^◌, ◌++◌, IfOk, OnOk, IsErr, IsOkUnless, [], length, take, drop, slice_set};
 ghost use Rattle.cord_io.specs.declared.CordError.TheVariants.{NoMemory};
 ghost use Rattle.cord_lines.specs.Counts.{plus, AreFew, AreNarrow};
 ghost use Rattle.cord_lines.specs.inner.Blocks.{amount, block_counts, total, AreSumsOf};
@@ -98,6 +98,16 @@ impl Blocks {
     {
         let sums = sums_of(alloc, &blocks)?;
         Ok(Blocks { blocks, sums })
+    }
+
+    /// No blocks, which take no memory.
+    pub(crate) fn none(alloc: Global) -> Blocks
+        ensures { result ≡ [] }
+    {
+        Blocks {
+            blocks: Vec::new(alloc),
+            sums: Vec::new(alloc),
+        }
     }
 
     /// The number of blocks.

@@ -1,10 +1,11 @@
 //! The lines of a text by number.
-ghost use Rattle.std.specs.Prelude.{◌≡◌, ◌+◌, ◌≤◌, List, ℕ, IfOk, OnOk, IsErr, IsOkUnless, length, take, drop, slice_get};
+ghost use Rattle.std.specs.Prelude.{◌≡◌, ◌+◌, ◌-◌, ◌<◌, ◌≤◌, List, ℕ, IfOk, OnOk, IsErr, IsOkUnless};
+ghost use Rattle.std.specs.Prelude.{Some, length, take, drop, min, slice_get};
 ghost use Rattle.cord_io.specs.declared.CordError.TheVariants.{NoMemory};
-ghost use Rattle.cord.specs.Lines.{lines, bare_lines};
+ghost use Rattle.cord.specs.Lines.{lines, bare_lines, lines_as};
 ghost use Rattle.cord_lines.specs.Counts.{chars_in, counts_of, ends_in};
-ghost use Rattle.cord_lines.specs.Lines.{after_ends, lacks_end};
-ghost use Rattle.cord_lines.specs.inner.Cuts.{AreModest};
+ghost use Rattle.cord_lines.specs.Lines.{after_ends, is_inside_line, lacks_end};
+ghost use Rattle.cord_lines.specs.Index.{FollowsEdit, IsIndexOf, of_no_bytes};
 
 use crate::blocks::{Blocks, Measure};
 use crate::counting::Counts;
@@ -13,6 +14,7 @@ use crate::reading::{count_range, end_from};
 use crate::renewing::{Edit, renew};
 use cord::{CordError, Text};
 use std::alloc::Global;
+use std::marker::Model;
 
 /// How many lines end, and how many characters begin, in each block of a text, so that a line is found by its number
 /// and by a place in it without a walk through the text. It belongs to one text and doesn't keep it: each call is given
@@ -25,11 +27,29 @@ use std::alloc::Global;
 pub struct LineIndex {
     blocks: Blocks,
     lacks_end: bool,
-    ghost modest: { AreModest blocks },
+}
+
+impl Model for LineIndex {
+    ghost use Rattle.cord_lines.specs.Index.{Indexed};
+    ghost use Rattle.cord_lines.specs.inner.Cuts.{AreOfSomeText, shown};
+
+    ghost Value = { Indexed };
+
+    ghost view = { λ i. shown i.blocks i.lacks_end };
+
+    ghost invariant = { λ i. AreOfSomeText i.blocks };
 }
 
 impl LineIndex {
-    ghost use Rattle.cord_lines.specs.Index.{IsIndexBefore, IsIndexOf};
+    /// The index of a text of no bytes, which takes no memory.
+    pub fn empty(alloc: Global) -> LineIndex
+        ensures { result ≡ of_no_bytes }
+    {
+        LineIndex {
+            blocks: Blocks::none(alloc),
+            lacks_end: false,
+        }
+    }
 
     /// The index of a text. Each byte is counted once. Refused only when out of memory.
     pub fn of(alloc: Global, text: &Text) -> Result<LineIndex, CordError>
@@ -82,23 +102,64 @@ impl LineIndex {
         self.counts_before(text, end).chars.saturating_sub(before)
     }
 
-    /// Line `n`, from 0, with its end or without it: none where there are no more than `n` lines. It shares the tree of
-    /// the text. Refused only when out of memory.
+    /// The column of the byte at `place`: how many bytes its line has before it. At or past the end of the text it is
+    /// that of the end.
+    pub fn column(&self, text: &Text, place: u64) -> u64
+        ensures { IsIndexOf self.now text.now →
+            after_ends (ends_in (take place text.now)) text.now + result ≡ min place (length text.now) }
+    {
+        let start = self.line_start(text, self.line_of(text, place));
+        place.min(text.len()).saturating_sub(start)
+    }
+
+    /// Line `n`, from 0, without its end: none where there are no more than `n` lines. It shares the tree of the text.
+    /// Refused only when out of memory.
     pub fn line(&self, alloc: Global, text: &Text, n: u64) -> Result<Option<Text>, CordError>
+        ensures line { IsIndexOf self.now text.now → IfOk result (λ line. line ≡ slice_get (bare_lines text.now) n) }
+        ensures refused { IsOkUnless result NoMemory }
+    {
+        self.line_as(alloc, text, n, false)
+    }
+
+    /// Line `n`, from 0, as `line`, but with its end, which the last line may lack.
+    pub fn line_with_end(
+        &self,
+        alloc: Global,
+        text: &Text,
+        n: u64,
+    ) -> Result<Option<Text>, CordError>
         ensures line { IsIndexOf self.now text.now → IfOk result (λ line. line ≡ slice_get (lines text.now) n) }
+        ensures refused { IsOkUnless result NoMemory }
+    {
+        self.line_as(alloc, text, n, true)
+    }
+
+    // Line `n` with its end or without it.
+    fn line_as(
+        &self,
+        alloc: Global,
+        text: &Text,
+        n: u64,
+        with_end: bool,
+    ) -> Result<Option<Text>, CordError>
+        ensures line { IsIndexOf self.now text.now →
+            IfOk result (λ line. line ≡ slice_get (lines_as with_end text.now) n) }
         ensures refused { IsOkUnless result NoMemory }
     {
         let start = self.line_start(text, n);
         if start >= text.len() {
             return Ok(None);
         }
-        let end = end_from(text, start, 1);
+        let end = line_end(text, start, with_end);
         let line = text.substr(alloc, start, end - start)?;
         Ok(Some(line))
     }
+
     /// Makes it the index of the text after an edit: `inserted` bytes stand from `start` on in the place of `removed`
-    /// others of the text before. Only the blocks that the edit meets are counted once more, and the new bytes. Refused
-    /// only when out of memory, and then it is as it was.
+    /// others of the text before. Only the blocks that the edit meets are counted once more, and the new bytes; where
+    /// the number of blocks changes, the list of them is copied, which takes O(n) in blocks of some 8 KiB. If no such
+    /// edit makes a text of this length, all of it is counted. Refused only when out of memory, and then the index is as
+    /// it was.
     pub fn edited(
         &mut self,
         alloc: Global,
@@ -107,8 +168,7 @@ impl LineIndex {
         removed: u64,
         inserted: u64,
     ) -> Result<(), CordError>
-        requires { IsIndexBefore self.old after.now start removed inserted }
-        ensures index { OnOk result (IsIndexOf self.new after.now) }
+        ensures index { OnOk result (FollowsEdit self.old self.new after.now start removed inserted) }
         ensures unchanged { IsErr result → self.new ≡ self.old }
         ensures refused { IsOkUnless result NoMemory }
     {
@@ -117,9 +177,12 @@ impl LineIndex {
             removed,
             inserted,
         };
-        let lacks_end = lacks_end_of(after);
+        if !edit.fits(self.blocks.counts().bytes, after.len()) {
+            *self = LineIndex::of(alloc, after)?;
+            return Ok(());
+        }
         renew(&mut self.blocks, alloc, after, edit)?;
-        self.lacks_end = lacks_end;
+        self.lacks_end = lacks_end_of(after);
         Ok(())
     }
 
@@ -139,8 +202,33 @@ impl LineIndex {
 fn lacks_end_of(text: &Text) -> bool
     ensures { result ≡ lacks_end text.now }
 {
-    match text.get(text.len().saturating_sub(1)) {
+    is_inside_line_at(text, text.len().saturating_sub(1))
+}
+
+// Whether there is a byte at a place that is no end of a line.
+fn is_inside_line_at(text: &Text, place: u64) -> bool
+    ensures { result ≡ is_inside_line (slice_get text.now place) }
+{
+    match text.get(place) {
         Some(byte) => byte != b'\n',
         None => false,
+    }
+}
+
+// Where the line that begins at a place ends, with its end or without it.
+fn line_end(text: &Text, start: u64, with_end: bool) -> u64
+    requires { start < length text.now }
+    ensures line { slice_get (lines_as with_end (drop start text.now)) 0
+        ≡ Some (take (result - start) (drop start text.now)) }
+    ensures ordered { start ≤ result }
+{
+    let end = end_from(text, start, 1);
+    if with_end {
+        return end;
+    }
+    if is_inside_line_at(text, end - 1) {
+        end
+    } else {
+        end - 1
     }
 }

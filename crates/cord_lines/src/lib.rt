@@ -4,8 +4,10 @@
 mod blocks;
 mod counting;
 mod cutting;
+mod editor;
 mod index;
 mod reading;
 mod renewing;
 
+pub use editor::LineEditor;
 pub use index::LineIndex;

@@ -1,14 +1,14 @@
 // Blocks of a text that was edited.
-ghost use Rattle.std.specs.Prelude.{◌≡◌, ◌+◌, ◌<◌, ◌≤◌, ◌^◌, OnOk, IsErr, IsOkUnless, length};
+ghost use Rattle.std.specs.Prelude.{◌≡◌, ◌↔◌, ◌+◌, ◌<◌, ◌≤◌, ◌^◌, IsTrue, OnOk, IsErr, IsOkUnless, length};
 ghost use Rattle.cord_io.specs.declared.CordError.TheVariants.{NoMemory};
 ghost use Rattle.cord_lines.specs.Counts.{AreFew};
 ghost use Rattle.cord_lines.specs.inner.Blocks.{total};
-ghost use Rattle.cord_lines.specs.inner.Cuts.{AreModest, IsCut};
-ghost use Rattle.cord_lines.specs.inner.Edits.{Covers, IsBefore, IsSpan};
+ghost use Rattle.cord_lines.specs.inner.Cuts.{AreModest, AreOfSomeText};
+ghost use Rattle.cord_lines.specs.inner.Edits.{Covers, Fits, FollowEdit, IsSpan};
 
 use crate::blocks::{Blocks, Measure};
 use crate::cutting::{BLOCK, LARGEST, cut};
-use cord::{CordError, MAX_LEN, Text};
+use cord::{CordError, Text};
 use std::alloc::Global;
 
 /// Blocks of fewer bytes are joined with one beside them.
@@ -20,6 +20,18 @@ pub(crate) struct Edit {
     pub(crate) start: u64,
     pub(crate) removed: u64,
     pub(crate) inserted: u64,
+}
+
+impl Edit {
+    /// Whether it may make a text of `after` bytes of one of `before` bytes.
+    pub(crate) fn fits(self, before: u64, after: u64) -> bool
+        ensures { IsTrue result ↔ Fits self before after }
+    {
+        self.start <= before
+            && self.removed <= before - self.start
+            && before - self.removed <= after
+            && after - (before - self.removed) == self.inserted
+    }
 }
 
 /// Blocks beside each other: `count` of them from the index `first` on, which hold `bytes` bytes from `start` on.
@@ -39,10 +51,10 @@ pub(crate) fn renew(
     after: &Text,
     edit: Edit,
 ) -> Result<(), CordError>
-    requires modest { AreModest blocks.old }
-    requires edit { IsBefore blocks.old after.now edit }
-    ensures cut { OnOk result (IsCut blocks.new after.now) }
-    ensures limit { length after.now ≤ MAX_LEN }
+    requires blocks { AreOfSomeText blocks.old }
+    requires edit { Fits edit (total blocks.old).bytes (length after.now) }
+    ensures blocks { AreOfSomeText blocks.new }
+    ensures cut { OnOk result (FollowEdit blocks.old blocks.new after.now edit) }
     ensures unchanged { IsErr result → blocks.new ≡ blocks.old }
     ensures refused { IsOkUnless result NoMemory }
 {

@@ -1,7 +1,8 @@
 -- Texts that are cut into pieces, of each of which a block has the counts.
-use Rattle.std.specs.Prelude.{◌≡◌, ℕ, ◌≤◌, ◌++◌, List, [], ◌∷◌}
+use Rattle.std.specs.Prelude.{◌≡◌, ℕ, ◌≤◌, ◌++◌, Bool, List, [], ◌∷◌, length, map}
 use Rattle.cord_io.specs.declared.TheConstants.{MAX_LEN}
 use Rattle.cord_lines.specs.Counts.{counts_of}
+use Rattle.cord_lines.specs.Index.{Indexed}
 use Rattle.cord_lines.specs.declared.blocks.Block.{Block}
 use Rattle.cord_lines.specs.inner.Blocks.{block_counts, total}
 
@@ -14,3 +15,13 @@ pub record AreModest (bs : List Block) : Type 0 where
   pub bytes : (total bs).bytes ≤ MAX_LEN
   pub ends : (total bs).ends ≤ MAX_LEN
   pub chars : (total bs).chars ≤ MAX_LEN
+
+-- they are those of some text
+pub record AreOfSomeText (bs : List Block) : Type 0 where
+  pub text : List ℕ
+  pub cut : IsCut bs text
+  pub limit : length text ≤ MAX_LEN
+
+-- what an index of these blocks shows
+abbrev pub shown : List Block → Bool → Indexed
+shown bs lacks_end = record { pieces = map block_counts bs; lacks_end = lacks_end }

@@ -1,5 +1,5 @@
 -- Blocks of a text that is edited.
-use Rattle.std.specs.Prelude.{◌≡◌, ℕ, ◌+◌, ◌≤◌, List, length, take}
+use Rattle.std.specs.Prelude.{◌≡◌, ℕ, ◌+◌, ◌-◌, ◌≤◌, List, length, take}
 use Rattle.cord_lines.specs.Lines.{IsEditOf}
 use Rattle.cord_lines.specs.declared.blocks.Block.{Block}
 use Rattle.cord_lines.specs.declared.renewing.Edit.{Edit}
@@ -7,11 +7,14 @@ use Rattle.cord_lines.specs.declared.renewing.Span.{Span}
 use Rattle.cord_lines.specs.inner.Blocks.{total}
 use Rattle.cord_lines.specs.inner.Cuts.{IsCut}
 
--- the blocks are those of a text that becomes this one by the edit
-pub record IsBefore (bs : List Block) (after : List ℕ) (edit : Edit) : Type 0 where
-  pub before : List ℕ
-  pub cut : IsCut bs before
-  pub edited : IsEditOf before after edit.start edit.removed edit.inserted
+-- the edit may make a text of one length of a text of another one
+pub record Fits (edit : Edit) (before after : ℕ) : Type 0 where
+  pub inside : edit.start + edit.removed ≤ before
+  pub len : before - edit.removed + edit.inserted ≡ after
+
+-- where the old blocks are those of a text before an edit, the new ones are those of the text after it
+abbrev pub FollowEdit : List Block → List Block → List ℕ → Edit → Type 0
+FollowEdit old new after edit = (before : List ℕ) → IsCut old before → IsEditOf before after edit.start edit.removed edit.inserted → IsCut new after
 
 -- these blocks hold these bytes
 pub record IsSpan (bs : List Block) (s : Span) : Type 0 where

@@ -1,4 +1,4 @@
-use Rattle.std.proofs.Common.{◌≡◌, ◌∙◌, ap, take, arith}
+use Rattle.std.proofs.Common.{◌∙◌, ap, arith}
 use Rattle.cord_lines.specs.Counts.{plus}
 use Rattle.cord_lines.proofs.Sums.{none_yet, then_next, few_after}
 use Rattle.cord_lines.proofs.blocks.block_with.Goals as goal

@@ -1,4 +1,4 @@
-use Rattle.std.proofs.Common.{◌≡◌, ◌∙◌, ◌+◌, ℕ, ap, sym, take, get_or, arith}
+use Rattle.std.proofs.Common.{◌∙◌, ap, sym, get_or, arith}
 use Rattle.cord_lines.specs.declared.counting.Counts.{Counts}
 use Rattle.cord_lines.specs.Counts.{plus}
 use Rattle.cord_lines.specs.inner.Blocks.{block_counts}

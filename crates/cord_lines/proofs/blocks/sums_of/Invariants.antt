@@ -1,5 +1,4 @@
-use Rattle.std.proofs.Common.{◌≡◌, ◌*◌, ◌≤◌, ◌++◌, length, List}
-use Rattle.cord_lines.specs.declared.blocks.Block.{Block}
+use Rattle.std.proofs.Common.{length}
 use Rattle.cord_lines.proofs.Grouping.{GroupsSoFar}
 use Rattle.cord_lines.proofs.blocks.sums_of.Given as goal
 

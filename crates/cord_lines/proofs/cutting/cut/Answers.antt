@@ -1,6 +1,5 @@
-use Rattle.std.proofs.Common.{◌≡◌, ◌∙◌, ℕ, List, ◌+◌, ◌*◌, ◌-◌, ◌<◌, ◌≤◌, length, take, drop, ap, arith, subst, sym}
-use Rattle.cord_lines.specs.declared.counting.Counts.{Counts}
-use Rattle.cord_lines.specs.Counts.{counts_of, AreNarrow}
+use Rattle.std.proofs.Common.{◌≡◌, ◌∙◌, ℕ, ◌-◌, ◌<◌, ◌≤◌, take, drop, ap, arith, subst, sym}
+use Rattle.cord_lines.specs.Counts.{AreNarrow}
 use Rattle.cord_lines.specs.inner.Cuts.{IsCut}
 use Rattle.cord_lines.proofs.Cuts.{one_piece_more, range_more, short, narrow}
 use Rattle.cord_lines.proofs.cutting.cut.Goals as goal

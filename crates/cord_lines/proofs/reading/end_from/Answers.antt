@@ -1,8 +1,8 @@
-use Rattle.std.proofs.Common.{◌≡◌, ◌∙◌, ℕ, List, ◌+◌, ◌-◌, ◌<◌, ◌≤◌, length, take, drop, ap, sym, arith, length-append}
+use Rattle.std.proofs.Common.{◌≡◌, ◌∙◌, ℕ, List, ◌+◌, length, drop, ap, arith, length-append}
 use Rattle.cord.specs.Chunks.{chunk_bytes}
 use Rattle.cord_lines.specs.declared.counting.Counts.{Counts}
 use Rattle.cord_lines.specs.Lines.{after_ends}
-use Rattle.cord_lines.specs.Counts.{counts_of, ends_in}
+use Rattle.cord_lines.specs.Counts.{ends_in}
 use Rattle.cord_lines.proofs.Countings.{end_here, end_later, after-le}
 use Rattle.cord_lines.proofs.reading.end_from.Goals as goal
 

@@ -1,7 +1,6 @@
-use Rattle.std.proofs.Common.{◌≡◌, ◌∙◌, ap, sym, List, take, length, arith}
+use Rattle.std.proofs.Common.{◌∙◌, ap}
 use Rattle.std.proofs.lemmas.List.{take_all}
-use Rattle.cord_lines.specs.declared.counting.Counts.{Counts}
-use Rattle.cord_lines.specs.inner.Blocks.{total, AreSumsOf}
+use Rattle.cord_lines.specs.inner.Blocks.{AreSumsOf}
 use Rattle.cord_lines.proofs.Sums.{sum_of_all, few_sum_next, then_sum, sums_all, sums_as}
 use Rattle.cord_lines.proofs.blocks.Blocks.counts.Goals as goal
 

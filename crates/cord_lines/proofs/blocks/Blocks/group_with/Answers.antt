@@ -1,4 +1,4 @@
-use Rattle.std.proofs.Common.{◌≡◌, ◌∙◌, ℕ, ◌+◌, ◌*◌, ◌<◌, ◌≤◌, ◌^◌, ap, sym, List, take, length, arith}
+use Rattle.std.proofs.Common.{◌≡◌, ◌∙◌, ◌*◌, ◌<◌, ◌≤◌, ◌^◌, ap, sym, List, take, length, arith}
 use Rattle.std.proofs.lemmas.List.{take_all}
 use Rattle.cord_lines.specs.declared.counting.Counts.{Counts}
 use Rattle.cord_lines.specs.declared.blocks.Block.{Block}

@@ -1,4 +1,4 @@
-use Rattle.std.proofs.Common.{◌≡◌, ◌∙◌, ℕ, ◌+◌, ◌<◌, ◌++◌, length, take, drop, ap, sym, arith}
+use Rattle.std.proofs.Common.{◌≡◌, ◌∙◌, ℕ, ◌+◌, ◌<◌, ◌++◌, length, take, drop, ap, arith}
 use Rattle.cord_lines.proofs.Sums.{set_one}
 use Rattle.cord_lines.proofs.blocks.Blocks.replace.Goals as goal
 

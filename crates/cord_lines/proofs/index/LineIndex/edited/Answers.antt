@@ -1,8 +1,11 @@
-use Rattle.cord_lines.proofs.Cuts.{modest}
+use Rattle.cord_lines.proofs.Cuts.{cut_from, index_from, few_by}
 use Rattle.cord_lines.proofs.index.LineIndex.edited.Goals as goal
 
-pub invariant_of-self-2 : goal.invariant_of-self-2
-invariant_of-self-2 c = record { modest = modest c.renew.new.blocks c.args.after.now c.in_ok-renew.ensures.cut c.in_ok-renew.ensures.limit }
+pub counts-requires : goal.counts-requires
+counts-requires c = few_by c.self.inside.blocks c.self.invariant
 
 pub returns-clause-index : goal.returns-clause-index
-returns-clause-index c = record { cut = c.in_ok-renew.ensures.cut; end = c.lacks_end_of-lacks_end.ensures }
+returns-clause-index c = λ before is edit.
+    index_from c.renew.new.blocks c.lacks_end_of-self-inside.result c.args.after.now
+    (c.in_ok-renew.ensures.cut before (cut_from c.self.inside.blocks c.self.inside.lacks_end c.args.self.now before c.self.view_is is) edit)
+    c.lacks_end_of-self-inside.ensures

@@ -1,22 +1,22 @@
-use Rattle.std.proofs.Common.{◌≡◌, ◌∙◌, List, ℕ, sym, subst, ap, arith}
+use Rattle.std.proofs.Common.{List, ℕ, sym, subst, arith}
 use Rattle.cord_lines.specs.declared.blocks.Block.{Block}
-use Rattle.cord_lines.specs.inner.Cuts.{IsCut, AreModest}
-use Rattle.cord_lines.proofs.Cuts.{all_of, modest}
+use Rattle.cord_lines.specs.inner.Cuts.{IsCut}
+use Rattle.cord_lines.proofs.Cuts.{all_of, index_from}
 use Rattle.cord_lines.proofs.index.LineIndex.of.Goals as goal
 
 pub invariant_of-result : goal.invariant_of-result
 invariant_of-result c =
     let all = all_of c.args.text.now c.len.result c.len.ensures.value in
-    let cut : IsCut c.in_ok-blocks-2.blocks c.args.text.now =
-    subst (λ (bs : List Block). IsCut bs c.args.text.now) (sym c.in_ok-blocks-2.ensures.blocks)
-    (subst (λ (x : List ℕ). IsCut c.in_ok-blocks.blocks.items x) all c.in_ok-blocks.ensures.cut) in
-    record { modest = modest c.in_ok-blocks-2.blocks c.args.text.now cut (omega (arith, c.len.ensures.value, c.len.ensures.limit)) }
+    record {
+      text = c.args.text.now;
+      cut = subst (λ (bs : List Block). IsCut bs c.args.text.now) (sym c.in_ok-blocks-2.ensures.blocks)
+          (subst (λ (x : List ℕ). IsCut c.in_ok-blocks.blocks.items x) all c.in_ok-blocks.ensures.cut);
+      limit = omega (arith, c.len.ensures.value, c.len.ensures.limit);
+    }
 
 pub returns-clause-index : goal.returns-clause-index
 returns-clause-index c =
     let all = all_of c.args.text.now c.len.result c.len.ensures.value in
-    record {
-      cut = subst (λ (bs : List Block). IsCut bs c.args.text.now) (sym c.in_ok-blocks-2.ensures.blocks)
-          (subst (λ (x : List ℕ). IsCut c.in_ok-blocks.blocks.items x) all c.in_ok-blocks.ensures.cut);
-      end = c.lacks_end_of.ensures;
-    }
+    index_from c.in_ok-blocks-2.blocks c.lacks_end_of.result c.args.text.now
+    (subst (λ (bs : List Block). IsCut bs c.args.text.now) (sym c.in_ok-blocks-2.ensures.blocks)
+    (subst (λ (x : List ℕ). IsCut c.in_ok-blocks.blocks.items x) all c.in_ok-blocks.ensures.cut)) c.lacks_end_of.ensures

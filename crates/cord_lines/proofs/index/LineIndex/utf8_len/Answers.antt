@@ -1,4 +1,4 @@
-use Rattle.std.proofs.Common.{◌≡◌, ◌∙◌, ◌+◌, ◌-◌, ◌++◌, ℕ, List, ap, sym, min, length, take, drop, arith}
+use Rattle.std.proofs.Common.{◌≡◌, ◌∙◌, ◌+◌, ◌++◌, ap, min, length, take, drop, arith}
 use Rattle.std.proofs.Math.Seq.{take-add}
 use Rattle.cord_lines.specs.declared.counting.Counts.{Counts}
 use Rattle.cord_lines.specs.Counts.{chars_in}

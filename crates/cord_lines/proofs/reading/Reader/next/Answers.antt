@@ -1,10 +1,8 @@
-use Rattle.std.proofs.Common.{◌≡◌, List, ℕ, ◌<◌, ◌≤◌, ◌++◌, Some, None, length, take, drop, ap, sym, ◌∙◌, refl, arith, length-take, length-drop}
+use Rattle.std.proofs.Common.{◌<◌, ◌≤◌, ap, sym, arith}
 use Rattle.cord.specs.Plain.{no_table, no_lengths}
 use Rattle.cord.specs.declared.chunks.Chunk.TheVariants.{Bytes, Run}
-use Rattle.cord_pos.specs.Spans.{SpanFitsIn, span_len, span_bytes, IsSpanOf}
-use Rattle.cord_pos.specs.declared.span.Span.{Span}
-use Rattle.cord_lines.specs.inner.Reading.{GivesPrefix}
-use Rattle.cord_lines.proofs.Readings.{none_left, ahead_is, limited, over_none, gives}
+use Rattle.cord_pos.specs.Spans.{SpanFitsIn, span_len, span_bytes}
+use Rattle.cord_lines.proofs.Readings.{ahead_is, limited, over_none, gives}
 use Rattle.cord_lines.proofs.reading.Reader.next.Goals as goal
 use Rattle.cord_lines.proofs.reading.Reader.next.Goals.{in-Bytes, in-Run}
 
