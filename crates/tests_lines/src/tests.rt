@@ -1,7 +1,8 @@
+ghost use Rattle.std.specs.Prelude.{◌<◌};
 ghost use Rattle.cord_lines.specs.Index.{IsIndexOf};
 
 use cord::Text;
-use cord_lines::LineIndex;
+use cord_lines::{LineEditor, LineIndex};
 use std::alloc::Global;
 use std::process::Abort;
 
@@ -15,25 +16,40 @@ fn index_of(rt: &impl Abort, alloc: Global, text: &Text) -> LineIndex
     LineIndex::of(alloc, text).expect(rt, "memory")
 }
 
-// That line `n` begins at a place, and has these bytes with its end.
-fn expect_line(rt: &impl Abort, alloc: Global, text: &Text, n: u64, start: u64, bytes: &[u8]) {
-    let index = index_of(rt, alloc, text);
-    assert!(rt; index.line_start(text, n) == start, "line {n}");
-    match index.line(alloc, text, n).expect(rt, "memory") {
-        Some(line) => assert!(rt; line.starts_with(bytes) && line.len() == bytes.len() as u64),
-        None => assert!(rt; bytes.is_empty(), "no line {n}"),
+// That a line has these bytes, or isn't there.
+fn expect_bytes(rt: &impl Abort, line: Option<Text>, bytes: Option<&[u8]>) {
+    match (line, bytes) {
+        (Some(line), Some(bytes)) => {
+            assert!(rt; line.starts_with(bytes) && line.len() == bytes.len() as u64)
+        }
+        (None, None) => {}
+        _ => assert!(rt; false, "a line is there or not"),
     }
 }
+
+// A line that is looked for: its number, the place where it begins, its bytes, and those without its end.
+struct Row(u64, u64, Option<&'static [u8]>, Option<&'static [u8]>);
+
+const ROWS: [Row; 5] = [
+    Row(0, 0, Some(b"one\n"), Some(b"one")),
+    Row(1, 4, Some(b"\n"), Some(b"")),
+    Row(2, 5, Some(b"two\n"), Some(b"two")),
+    Row(3, 9, Some(b"last"), Some(b"last")),
+    Row(4, 13, None, None),
+];
 
 #[test]
 fn short_lines(rt: HostRuntime) {
     let alloc = rt.alloc();
     let text = text_of(&rt, alloc, b"one\n\ntwo\nlast");
-    expect_line(&rt, alloc, &text, 0, 0, b"one\n");
-    expect_line(&rt, alloc, &text, 1, 4, b"\n");
-    expect_line(&rt, alloc, &text, 2, 5, b"two\n");
-    expect_line(&rt, alloc, &text, 3, 9, b"last");
-    expect_line(&rt, alloc, &text, 4, 13, b"");
+    let index = index_of(&rt, alloc, &text);
+    for row in &ROWS {
+        assert!(rt; index.line_start(&text, row.0) == row.1);
+        let line = index.line_with_end(alloc, &text, row.0);
+        expect_bytes(&rt, line.expect(&rt, "memory"), row.2);
+        let bare = index.line(alloc, &text, row.0);
+        expect_bytes(&rt, bare.expect(&rt, "memory"), row.3);
+    }
 }
 
 #[test]
@@ -44,15 +60,20 @@ fn lines_of_places(rt: HostRuntime) {
     assert!(rt; index.lines() == 4 && index.line_of(&text, 0) == 0);
     assert!(rt; index.line_of(&text, 3) == 0 && index.line_of(&text, 4) == 1);
     assert!(rt; index.line_of(&text, 12) == 3 && index.line_of(&text, 99) == 3);
+    assert!(rt; index.column(&text, 3) == 3 && index.column(&text, 4) == 0);
+    assert!(rt; index.column(&text, 12) == 3 && index.column(&text, 99) == 4);
 }
 
 #[test]
 fn no_lines(rt: HostRuntime) {
     let text = Text::empty();
-    let index = index_of(&rt, rt.alloc(), &text);
-    assert!(rt;
-        index.lines() == 0 && index.line_of(&text, 7) == 0 && index.line_start(&text, 3) == 0
-    );
+    for index in [
+        LineIndex::empty(rt.alloc()),
+        index_of(&rt, rt.alloc(), &text),
+    ] {
+        assert!(rt; index.lines() == 0 && index.line_of(&text, 7) == 0);
+        assert!(rt; index.line_start(&text, 3) == 0 && index.column(&text, 3) == 0);
+    }
 }
 
 // Two bytes begin a character in each of 20,000 of "aé", which has three.
@@ -64,4 +85,119 @@ fn characters(rt: HostRuntime) {
     let index = index_of(&rt, alloc, &text);
     assert!(rt; index.utf8_len(&text, 0, 60_000) == 40_000);
     assert!(rt; index.utf8_len(&text, 30_001, 2) == 1 && index.utf8_len(&text, 59_999, 9) == 0);
+}
+
+// An edit whose numbers are none of this text: all of it is counted.
+#[test]
+fn other_numbers(rt: HostRuntime) {
+    let alloc = rt.alloc();
+    let text = text_of(&rt, alloc, b"one\ntwo\n");
+    let mut index = LineIndex::empty(alloc);
+    index
+        .edited(alloc, &text, u64::MAX, u64::MAX, 1)
+        .expect(&rt, "memory");
+    assert!(rt; index.lines() == 2 && index.line_start(&text, 1) == 4);
+}
+
+// Numbers that look like chance.
+#[derive(Drop)]
+struct Dice(u64);
+
+impl Dice {
+    // A number below `bound`.
+    fn roll(&mut self, bound: u64) -> u64
+        requires { 0 < bound }
+        ensures { result < bound }
+    {
+        self.0 = self
+            .0
+            .wrapping_mul(6_364_136_223_846_793_005)
+            .wrapping_add(1_442_695_040_888_963_407);
+        (self.0 >> 33) % bound
+    }
+}
+
+// That the editor answers for a place what a count of all bytes before it says. In these texts A9 alone begins no
+// character.
+fn expect_answers(rt: &impl Abort, alloc: Global, editor: &LineEditor, place: u64) {
+    let before = editor.text().substr(alloc, 0, place).expect(rt, "memory");
+    let line = before.count_of(b'\n');
+    let start = match before.rfind_byte(b'\n', place) {
+        Some(end) => end.wrapping_add(1),
+        None => 0,
+    };
+    assert!(rt; editor.line_of(place) == line, "the line of {place}");
+    assert!(rt;
+        editor.line_start(line) == start,
+        "the start of line {line}"
+    );
+    assert!(rt;
+        editor.column(place) == place.wrapping_sub(start),
+        "the column of {place}"
+    );
+    let chars = place.wrapping_sub(before.count_of(0xA9));
+    assert!(rt;
+        editor.utf8_len(0, place) == chars,
+        "the characters before {place}"
+    );
+}
+
+// An edit at a place like chance: most change some 100 bytes, one of 20 some 10,000.
+fn edit_somewhere(
+    rt: &impl Abort,
+    alloc: Global,
+    dice: &mut Dice,
+    line: &Text,
+    editor: &mut LineEditor,
+) {
+    let most = if dice.roll(20) == 0 { 400 } else { 8 };
+    let start = dice.roll(editor.text().len().max(1));
+    let removed = dice.roll(25 * most);
+    let added = line.repeated(alloc, dice.roll(most)).expect(rt, "memory");
+    editor
+        .replace_range(alloc, start, removed, &added)
+        .expect(rt, "memory");
+}
+
+#[test]
+fn edits_like_chance(rt: HostRuntime) {
+    let alloc = rt.alloc();
+    let mut dice = Dice(17);
+    let line = text_of(&rt, alloc, "one of many lines: é é\n".as_bytes());
+    let text = line.repeated(alloc, 2_000).expect(&rt, "memory");
+    let mut editor = LineEditor::of(alloc, &text).expect(&rt, "memory");
+    for _edit in 0..300 {
+        edit_somewhere(&rt, alloc, &mut dice, &line, &mut editor);
+        let place = dice.roll(editor.text().len().wrapping_add(1).max(1));
+        expect_answers(&rt, alloc, &editor, place);
+    }
+    assert!(rt; editor.lines() > 0);
+}
+
+// The value of a call, which is made again where it was refused memory.
+macro_rules! again {
+    ($rt:expr, $call:expr) => {
+        match $call {
+            Ok(value) => value,
+            Err(_) => $call.expect($rt, "memory"),
+        }
+    };
+}
+
+#[test]
+fn refused_edit_of_lines(rt: HostRuntime) {
+    let alloc = rt.alloc();
+    let line = again!(&rt, Text::from_bytes(alloc, b"a line\n"));
+    let text = again!(&rt, line.repeated(alloc, 5_000));
+    let mut editor = again!(&rt, LineEditor::of(alloc, &text));
+    if editor.replace_range(alloc, 3, 20_000, &line).is_err() {
+        assert!(rt; editor.text().len() == 35_000 && editor.lines() == 5_000);
+        assert!(rt; editor.line_of(20_003) == 2_857 && editor.line_start(4_999) == 34_993);
+        editor
+            .replace_range(alloc, 3, 20_000, &line)
+            .expect(&rt, "memory");
+    }
+    assert!(rt; editor.text().len() == 15_007 && editor.lines() == 2_144);
+    let second = again!(&rt, editor.line(alloc, 1));
+    expect_bytes(&rt, second, Some(b"ne"));
 }
