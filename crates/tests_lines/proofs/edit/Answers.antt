@@ -1,4 +1,4 @@
-use Rattle.std.proofs.Common.{refl, sym}
+use Rattle.std.proofs.Common.{sym}
 use Rattle.tests_lines.proofs.edit.Goals as goal
 
 pub returns-clause-index : goal.returns-clause-index
