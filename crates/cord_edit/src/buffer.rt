@@ -88,6 +88,7 @@ impl EditBuffer {
     /// Puts bytes, of which it takes a copy, in front of the byte `at`: at the end where `at` is at or past the end.
     /// `TooLong` where the text would be longer than `MAX_LEN`, `NoMemory` where memory was refused. After either the
     /// text is as before.
+    #[inline(always)]
     pub fn insert(&mut self, alloc: Global, at: u64, bytes: &[u8]) -> Result<(), CordError>
         ensures text { IfOk result (λ _. self.new.text ≡ edited at 0 (map known bytes.now) self.old.text) }
         ensures over { IfOk result (λ _. IsEdited at 0 bytes.now self.old.text self.new.text) }

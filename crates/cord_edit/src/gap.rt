@@ -39,6 +39,7 @@ impl Gap {
         })
     }
 
+    #[inline(always)]
     pub(crate) fn len(&self) -> usize
         ensures value { result ≡ length (gap_bytes self.now) }
         ensures limit { result ≤ MOST }
@@ -53,6 +54,7 @@ impl Gap {
     }
 
     // Whether so many bytes may come after those that are there.
+    #[inline(always)]
     pub(crate) fn fits_after(&self, count: usize) -> bool
         ensures room { result ≡ true → (self.now.end + count ≤ ROOM) × (self.now.end + count ≤ self.now.start + MOST) }
         ensures most { result ≡ true → length (gap_bytes self.now) + count ≤ MOST }
@@ -61,6 +63,7 @@ impl Gap {
     }
 
     // Whether so many bytes may come in front of those that are there.
+    #[inline(always)]
     pub(crate) fn fits_before(&self, count: usize) -> bool
         ensures room { result ≡ true → (count ≤ self.now.start) × (self.now.end + count ≤ self.now.start + MOST) }
         ensures most { result ≡ true → length (gap_bytes self.now) + count ≤ MOST }
@@ -69,6 +72,7 @@ impl Gap {
     }
 
     // Adds bytes at the end.
+    #[inline(always)]
     pub(crate) fn append(&mut self, bytes: &[u8])
         requires room { self.old.end + length bytes.now ≤ ROOM }
         requires most { self.old.end + length bytes.now ≤ self.old.start + MOST }
@@ -79,6 +83,7 @@ impl Gap {
     }
 
     // Adds bytes in front.
+    #[inline(always)]
     pub(crate) fn prepend(&mut self, bytes: &[u8])
         requires room { length bytes.now ≤ self.old.start }
         requires most { self.old.end + length bytes.now ≤ self.old.start + MOST }
@@ -109,6 +114,7 @@ impl Gap {
 }
 
 // Copies bytes to a place of others, all of which has to lie inside.
+#[inline(always)]
 fn copy_to(all: &mut [u8], place: usize, bytes: &[u8])
     requires { place + length bytes.now ≤ length all.old }
     ensures copied { all.new ≡ put_mid place (length bytes.now) all.old bytes.now }

@@ -1,3 +1,4 @@
+pub mod Edits
 pub mod Exprs
 pub mod Values
 pub mod Operands

@@ -5,6 +5,7 @@
 //! writes a plan as text. `laws`, `meaning` and their like state what holds of all plans.
 #![tactic(auto)]
 
+mod edits;
 mod examples;
 mod expression_laws;
 mod expressions;
@@ -19,6 +20,7 @@ mod plan_text;
 mod planner;
 mod plans;
 
+pub use edits::{Edit, OwnRange, Replacement};
 pub use examples::{plans_are_computed, runs_of_plans_are_computed};
 pub use expression_laws::{
     defining_expressions_mean_their_lines, flattened_cats_mean_the_nested, measures_are_lengths,

@@ -1,5 +1,5 @@
 //! Names that get what a plan makes for them: a cord, or a length alone.
-mod edits;
+pub(crate) mod edits;
 mod files;
 mod literals;
 mod prints;

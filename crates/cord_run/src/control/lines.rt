@@ -6,6 +6,7 @@ ghost use Rattle.cord_plan.specs.Views.{operation_view};
 use cord_plan::Operation;
 
 /// The line of an operation.
+#[inline(always)]
 pub(crate) fn operation_line(operation: &Operation) -> u32
     ensures { result ≡ operation_line (operation_view operation.now) }
 {

@@ -1,40 +1,23 @@
 // Edits: a name that gets its own text again, with another one in the place of a range of it. Its cord is changed where
 // it is held.
 ghost use Rattle.std.specs.Prelude.{◌≡◌, IfErr, IfOk, IfSome, IsErr};
-ghost use Rattle.cord_plan.specs.Exprs.{cat, member, nothing};
-ghost use Rattle.cord_plan.specs.Planned.{Joined};
-ghost use Rattle.cord_plan.specs.Views.{expr_view, made_view};
+ghost use Rattle.cord_plan.specs.Views.{made_view};
 ghost use Rattle.cord_run.specs.inner.Contents.{IsUnmadeOfNames};
-ghost use Rattle.cord_run.specs.inner.Edits.{Edited, IsEdit, IsMiddle, IsNoMiddle, IsReplaced, form_view, range_view};
+ghost use Rattle.cord_run.specs.inner.Edits.{Edited, IsEdit, IsMiddle, IsNoMiddle, IsReplaced, form_view};
 
-use crate::expressions::parts::{build_part, range_parts};
+use crate::expressions::parts::build_part;
 use crate::stops::Stop;
 use crate::store::Store;
 use cord_core::Cord;
-use cord_plan::{Expr, Made};
-use cord_script::{Name, Number};
+use cord_plan::{Expr, Made, Replacement};
+use cord_script::Name;
 use std::alloc::Global;
-
-/// A range of the text of the name that is edited: at most so many bytes from a place on.
-#[derive(Clone, Copy)]
-pub(crate) struct OwnRange<'a> {
-    start: &'a Number,
-    count: &'a Number,
-}
-
-/// What is joined for the name that is edited: a range of its own, what is put there, and a range of its own again.
-#[derive(Clone, Copy)]
-pub(crate) struct EditForm<'a> {
-    prefix: OwnRange<'a>,
-    middle: Option<&'a Expr>,
-    suffix: OwnRange<'a>,
-}
 
 /// Bytes of a text: so many from a place on.
 #[derive(Clone, Copy)]
 pub(crate) struct Replaced {
-    start: u64,
-    count: u64,
+    pub(crate) start: u64,
+    pub(crate) count: u64,
 }
 
 /// An edit of the cord in the entry at a place: what is put in the place of these bytes.
@@ -67,62 +50,19 @@ pub(crate) fn edit_of<'a>(target: &Name, made: &'a Made, store: &Store) -> Optio
     })
 }
 
-// What is joined, where it has the form of an edit.
-fn form_of<'a>(target: &Name, made: &'a Made) -> Option<EditForm<'a>>
+// What is joined, where it has the form of an edit in the middle.
+fn form_of<'a>(target: &Name, made: &'a Made) -> Option<Replacement<'a>>
     ensures { IfSome result (λ form. made_view made.now ≡ form_view target.now form) }
 {
-    let Made::Joined(Expr::Cat(members)) = made else {
-        return None;
-    };
-    match members.halves() {
-        (None, [first, last]) => Some(EditForm {
-            prefix: own_range(target, first.as_ref())?,
-            middle: None,
-            suffix: own_range(target, last.as_ref())?,
-        }),
-        (None, [first, middle, last]) => {
-            form_around(target, first.as_ref(), middle.as_ref(), last.as_ref())
-        }
-        (Some(prefix), [last]) => match prefix.halves() {
-            (None, [first, middle]) => {
-                form_around(target, first.as_ref(), middle.as_ref(), last.as_ref())
-            }
-            _ => None,
-        },
+    match made.edit_of(target) {
+        Some(cord_plan::Edit::Replace(form)) => Some(form),
         _ => None,
     }
 }
 
-// An expression between two others, where these are ranges of the name's own text.
-fn form_around<'a>(
-    target: &Name,
-    first: &'a Expr,
-    middle: &'a Expr,
-    last: &'a Expr,
-) -> Option<EditForm<'a>>
-    ensures { IfSome result (λ form. Joined (cat (member (expr_view first.now) (member (expr_view middle.now)
-        (member (expr_view last.now) nothing)))) ≡ form_view target.now form) }
-{
-    Some(EditForm {
-        prefix: own_range(target, first)?,
-        middle: Some(middle),
-        suffix: own_range(target, last)?,
-    })
-}
-
-// The range of the name's own text that an expression is.
-fn own_range<'a>(target: &Name, expression: &'a Expr) -> Option<OwnRange<'a>>
-    ensures { IfSome result (λ range. expr_view expression.now ≡ range_view target.now range) }
-{
-    match range_parts(expression) {
-        Some((name, start, count)) if name.is(target) => Some(OwnRange { start, count }),
-        _ => None,
-    }
-}
-
-// The bytes of a text of this length that stand in neither of two ranges, where the first range begins the text, the
-// second one ends it, and they have no byte in common.
-fn replaced_of(
+/// The bytes of a text of this length that stand in neither of two ranges, where the first range begins the text, the
+/// second one ends it, and they have no byte in common.
+pub(crate) fn replaced_of(
     len: u64,
     first_start: i64,
     first_count: i64,
