@@ -455,18 +455,31 @@ const WITHIN: &[(Parts, u64, &[u8], Option<u64>, Option<u64>)] = &[
     (RUN_AND_LEAF, MAX_LEN - 1, b"aa", Some(0), Some(MAX_LEN - 3)),
 ];
 
+// The first place of a pattern before an end, as a cord and as bytes, which are at least one; and the last place.
+fn expect_within(
+    rt: &impl Abort,
+    alloc: Global,
+    (parts, end, bytes): (Parts, u64, &'static [u8]),
+    first: Option<u64>,
+    last: Option<u64>,
+) {
+    if bytes.is_empty() || MOST_BYTES < bytes.len() {
+        return;
+    }
+    let cord = made(rt, alloc, parts);
+    let pattern = made(rt, alloc, &[Leaf(bytes)]);
+    let found = str_in(&cord, 0, end, &pattern, &mut six_hundred(NONE));
+    let by_bytes = find_bytes_in(&cord, 0, end, bytes, &mut six_hundred(NONE));
+    let found_last = rstr(&cord, end, &pattern, &mut six_hundred(NONE));
+    expect_case(rt, found == Ok(first), "str_in", end);
+    expect_case(rt, by_bytes == Ok(first), "find_bytes_in", end);
+    expect_case(rt, found_last == Ok(last), "rstr", end);
+}
+
 #[test]
 fn cases_before_an_end(rt: HostRuntime) {
     for &(parts, end, bytes, first, last) in WITHIN {
-        let cord = made(&rt, rt.alloc(), parts);
-        let pattern = made(&rt, rt.alloc(), &[Leaf(bytes)]);
-        let mut source = six_hundred(NONE);
-        let found = str_in(&cord, 0, end, &pattern, &mut source);
-        let by_bytes = find_bytes_in(&cord, 0, end, bytes, &mut source);
-        let found_last = rstr(&cord, end, &pattern, &mut source);
-        expect_case(&rt, found == Ok(first), "str_in", end);
-        expect_case(&rt, by_bytes == Ok(first), "find_bytes_in", end);
-        expect_case(&rt, found_last == Ok(last), "rstr", end);
+        expect_within(&rt, rt.alloc(), (parts, end, bytes), first, last);
     }
 }
 
