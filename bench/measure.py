@@ -5,10 +5,10 @@ import sys
 import time
 
 
-def run(program, script, folder, out=subprocess.DEVNULL):
-    """Runs a script in a folder: the seconds of a processor, and those on the clock. Ends the benchmark where it fails."""
+def run(program, script, directory, out=subprocess.DEVNULL):
+    """Runs a script in a directory: the seconds of a processor, and those on the clock. Ends the benchmark where it fails."""
     began = time.perf_counter()
-    process = subprocess.Popen([program, script], cwd=folder, stdout=out)
+    process = subprocess.Popen([program, script], cwd=directory, stdout=out)
     _, status, used = os.wait4(process.pid, 0)
     taken = time.perf_counter() - began
     process.returncode = status

@@ -5,7 +5,7 @@ from reading import FORMS
 
 CORDS, NUMBERS, GROWN = "abcdtuz", "nmik", "ef"
 FILES = {b"short": b"hello file\n", b"long": bytes(range(256)) * 9, b"empty": b"", 'odd"\\\u00e9'.encode(): b"odd"}
-PATHS = [*FILES, b"short", b"long", b"none", b"folder", b"short/x"]
+PATHS = [*FILES, b"short", b"long", b"none", b"directory", b"short/x"]
 STATEMENTS = sorted([*FORMS, "catn", "sprintf"])
 OFTEN = ["let", "cat", "substr", "put", "catc", "chars", "catn", "sprintf"]
 WEIGHTS = [3, 6, 6, 7, 3, 2, 2, 1]

@@ -67,10 +67,10 @@ off64_t lseek64(int fd, off64_t to, int whence) {
     return fails("lseek") ? -1 : next(fd, to, whence);
 }
 
-int statx(int folder, const char *path, int flags, unsigned mask, struct statx *to) {
+int statx(int directory, const char *path, int flags, unsigned mask, struct statx *to) {
     static int (*next)(int, const char *, int, unsigned, struct statx *);
     FIND("statx");
-    return fails("statx") ? -1 : next(folder, path, flags, mask, to);
+    return fails("statx") ? -1 : next(directory, path, flags, mask, to);
 }
 
 static mode_t mode_of(int flags, va_list rest) { return flags & (O_CREAT | O_TMPFILE) ? va_arg(rest, mode_t) : 0; }
@@ -87,14 +87,14 @@ static mode_t mode_of(int flags, va_list rest) { return flags & (O_CREAT | O_TMP
     }
 
 #define OPENS_AT(name) \
-    int name(int folder, const char *path, int flags, ...) { \
+    int name(int directory, const char *path, int flags, ...) { \
         static int (*next)(int, const char *, int, ...); \
         va_list rest; \
         va_start(rest, flags); \
         mode_t mode = mode_of(flags, rest); \
         va_end(rest); \
         FIND(#name); \
-        return fails("open") ? -1 : next(folder, path, flags, mode); \
+        return fails("open") ? -1 : next(directory, path, flags, mode); \
     }
 
 OPENS(open)

@@ -34,11 +34,11 @@ def shortened(text):
 
 
 class Runner:
-    """Runs programs, in this process's folder, and stops those that run too long."""
+    """Runs programs, in this process's directory, and stops those that run too long."""
 
     def __init__(self, longest=LONGEST_RUN):
         self.longest = longest
-        self.folder = tempfile.TemporaryDirectory()
+        self.directory = tempfile.TemporaryDirectory()
         self.begun = {}
         self.room = threading.local()
         threading.Thread(target=self.watch, daemon=True).start()
@@ -53,7 +53,7 @@ class Runner:
     def files(self):
         """The two files of this thread for what a run writes."""
         if not hasattr(self.room, "files"):
-            made = tempfile.mkdtemp(dir=self.folder.name)
+            made = tempfile.mkdtemp(dir=self.directory.name)
             self.room.files = [f"{made}/out", f"{made}/err"]
         return self.room.files
 
@@ -104,11 +104,11 @@ def side_by_side(call, given):
         return list(pool.map(call, given))
 
 
-def preloaded(source, folder):
+def preloaded(source, directory):
     """A library, built of a file of tools, that is to be preloaded; None where there is no C compiler."""
     if not shutil.which("cc"):
         return None
-    made = Path(folder) / f"{source}.so"
+    made = Path(directory) / f"{source}.so"
     subprocess.run(["cc", "-shared", "-fPIC", "-O2", "-o", made, TOOLS / f"{source}.c", "-ldl"], check=True)
     return str(made)
 

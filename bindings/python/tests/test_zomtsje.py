@@ -214,20 +214,20 @@ class Editors(unittest.TestCase):
 
 class OverFiles(unittest.TestCase):
     def setUp(self):
-        self.folder = tempfile.TemporaryDirectory()
-        self.path = f"{self.folder.name}/text"
+        self.directory = tempfile.TemporaryDirectory()
+        self.path = f"{self.directory.name}/text"
         self.data = b"." * 150_000 + b"here\n" + b"," * 100_000
         with open(self.path, "wb") as it:
             it.write(self.data)
 
     def tearDown(self):
-        self.folder.cleanup()
+        self.directory.cleanup()
 
     def test_whole_files(self):
         x = Cord.from_file(self.path)
         self.assertEqual(x, self.data)
         self.assertEqual(Cord.from_file(io.BytesIO(b"abc")), b"abc")
-        with open(f"{self.folder.name}/copy", "w+b") as it:
+        with open(f"{self.directory.name}/copy", "w+b") as it:
             x.write_to(it)
             it.seek(0)
             self.assertEqual(it.read(), self.data)
@@ -252,7 +252,7 @@ class OverFiles(unittest.TestCase):
     def test_cannot_be_opened(self):
         with self.assertRaises(FileNotFoundError):
             Cord.lazy("/tmp/zomtsje_none")
-        self.assertRaises(OSError, Cord.lazy, self.folder.name)
+        self.assertRaises(OSError, Cord.lazy, self.directory.name)
 
 
 if __name__ == "__main__":
