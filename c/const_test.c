@@ -13,6 +13,7 @@ static struct {
     zc_cord x, y, none;
     zc_lazy lazy;
     zc_edit edit;
+    zc_lines lines;
     zc_ext ext;
     zc_pos position;
     zc_arg args[1];
@@ -58,6 +59,7 @@ static void fill(void) {
     DO(zc_substr(&held->x, 4000, 3000, &held->y));
     DO(zc_lazy_from_cord(&held->x, &held->lazy));
     DO(zc_edit_set(&held->x, &held->edit));
+    DO(zc_lines_set(&held->x, &held->lines));
     DO(zc_ext_cord(&held->ext, &held->x));
     DO(zc_pos_set(&held->x, 5004, &held->position));
     DO(zc_share(&held->y, &held->args[0].text));
@@ -79,6 +81,10 @@ static void ask(int null) {
     EXPECT(zc_to_bytes(&held->x, 4990, bytes, 200) == ZC_OK && memcmp(bytes, "aaaaaaaaaaone", 13) == 0);
     EXPECT(zc_read(&held->x, 12890, bytes, 200, &got) == ZC_OK && got == 10);
     EXPECT(zc_edit_len(&held->edit) == 12900 && zc_ext_len(&held->ext) == 12900);
+    EXPECT(zc_lines_count(&held->lines) == 100);
+    EXPECT(zc_lines_start(&held->lines, &held->x, 1, &place) == ZC_OK && place == 5079);
+    EXPECT(zc_lines_of(&held->lines, &held->x, 5079, &place) == ZC_OK && place == 1);
+    EXPECT(zc_lines_utf8(&held->lines, &held->x, 4990, 20, &place) == ZC_OK && place == 20);
     EXPECT(zc_pos_index(&held->position) == 5004 && zc_pos_fetch(&held->position, &byte) == ZC_OK && byte == 'l');
     EXPECT(zc_lazy_len(&held->lazy) == 12900 && zc_lazy_depth(&held->lazy) > 0);
     EXPECT(zc_put(&held->x, null) == ZC_OK);
@@ -90,6 +96,7 @@ static void make(void) {
     zc_cord out = ZC_EMPTY;
     zc_lazy lazy = ZC_LAZY_EMPTY;
     zc_edit edit = ZC_EDIT_EMPTY;
+    zc_lines lines = ZC_LINES_EMPTY;
     static zc_chunks chunks = ZC_CHUNKS_EMPTY;
     int32_t order = 5;
     uint64_t at = 0;
@@ -122,6 +129,9 @@ static void make(void) {
     DO(zc_chunks_set(&held->x, 0, &chunks));
     DO(zc_edit_set(&held->x, &edit));
     DO(zc_edit_cord(&edit, 1, 2, &held->y));
+    DO(zc_lines_set(&held->x, &lines));
+    DO(zc_lines_edited(&lines, &held->x, 1, 2, 2));
+    DO(zc_lines_line(&held->lines, &held->x, 1, &out));
     DO(zc_lazy_from_cord(&held->x, &lazy));
     DO(zc_lazy_cat(&held->lazy, &held->lazy, &lazy));
     DO(zc_lazy_substr(&held->lazy, 1, 2, &lazy));

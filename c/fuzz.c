@@ -16,7 +16,7 @@
 #include <sys/mman.h>
 #include <unistd.h>
 
-enum { CORDS = 6, LAZIES = 4, FILES = 3, LONGEST = 9000, FILE_LENGTH = 40000 };
+enum { CORDS = 6, LAZIES = 4, FILES = 3, LONGEST = 9000, FILE_LENGTH = 40000, LINED_ROOM = 100000 };
 
 /* A text as the model has it. */
 typedef struct text {
@@ -32,6 +32,10 @@ static zc_ext grown;
 static text grown_text;
 static zc_edit edited;
 static text edited_text;
+static zc_cord lined;
+static zc_lines lines;
+static unsigned char lined_bytes[LINED_ROOM];
+static size_t lined_count;
 static zc_pos position;
 static text position_text;
 static uint64_t position_index = UINT64_MAX;
@@ -488,6 +492,75 @@ static void retype(size_t x, size_t out) {
     CHECK(zc_edit_len(&edited) == edited_text.count);
 }
 
+/* ---- lines by number ---- */
+
+/* How many of the bytes from one place up to another are ends of lines, and how many begin a character of UTF-8. */
+static void count_lines(size_t from, size_t to, uint64_t *ends, uint64_t *chars) {
+    *ends = *chars = 0;
+    for (size_t i = from; i < to; i++) {
+        *ends += lined_bytes[i] == '\n';
+        *chars += (lined_bytes[i] & 0xC0) != 0x80;
+    }
+}
+
+/* The place where a line begins: the end where there is no such line. */
+static size_t line_place(uint64_t number) {
+    size_t place = 0;
+    for (uint64_t i = 0; i < number && place < lined_count; i++) {
+        const unsigned char *end = memchr(lined_bytes + place, '\n', lined_count - place);
+        place = end == NULL ? lined_count : (size_t)(end - lined_bytes) + 1;
+    }
+    return place;
+}
+
+/* What the index of the lines says of a place and of the line there, beside a count of all bytes. */
+static void ask_lines(size_t out) {
+    size_t place = below(lined_count + 2), end = smaller(place, lined_count), far = smaller(end + below(20000), lined_count);
+    uint64_t ends, chars, all, wanted, found = 7, number, first = 7;
+    count_lines(0, end, &number, &chars);
+    CHECK(zc_lines_of(&lines, &lined, place, &found) == ZC_OK && found == number);
+    count_lines(end, far, &ends, &wanted);
+    CHECK(zc_lines_utf8(&lines, &lined, place, far - end, &chars) == ZC_OK && chars == wanted);
+    count_lines(0, lined_count, &all, &chars);
+    all += lined_count > 0 && lined_bytes[lined_count - 1] != '\n';
+    CHECK(zc_lines_count(&lines) == all);
+    int code = zc_lines_start(&lines, &lined, number, &first);
+    CHECK(number < all ? code == ZC_OK && first == line_place(number) : code == ZC_PAST_END && first == 7);
+    code = zc_lines_line(&lines, &lined, number, &cords[out]);
+    if (number >= all) {
+        CHECK(code == ZC_PAST_END);
+        return;
+    }
+    const unsigned char *stop = memchr(lined_bytes + first, '\n', lined_count - first);
+    made.count = (stop == NULL ? lined_count : (size_t)(stop - lined_bytes)) - first;
+    CHECK(made.count <= LONGEST);
+    memcpy(made.bytes, lined_bytes + first, made.count);
+    check_made(code, out);
+}
+
+/* Three edits of a text of many lines, most of them small, and what its index says after each. */
+static void edit_lines(size_t x, size_t out) {
+    static unsigned char block[20000];
+    unsigned long refused = refuse_in;
+    for (int turn = 0; turn < 3; turn++) {
+        size_t start = below(lined_count + 1), most = below(50) == 0 ? sizeof block : 40 + x;
+        size_t removed = smaller(below(most), lined_count - start), inserted = below(most);
+        zc_cord piece = ZC_EMPTY;
+        if (lined_count - removed + inserted > LINED_ROOM) inserted = 0;
+        for (size_t i = 0; i < inserted; i++) block[i] = (unsigned char)"ab\n\303\251"[below(5)];
+        refuse_in = 0;
+        CHECK(zc_from_bytes(block, inserted, &piece) == ZC_OK && zc_splice(&lined, start, removed, &piece) == ZC_OK);
+        zc_free(&piece);
+        memmove(lined_bytes + start + inserted, lined_bytes + start + removed, lined_count - start - removed);
+        memcpy(lined_bytes + start, block, inserted);
+        lined_count += inserted - removed;
+        refuse_in = refused;
+        while (!is_done(zc_lines_edited(&lines, &lined, start, removed, inserted))) {}
+        if (below(100) == 0 && is_done(zc_lines_set(&lined, &lines))) refuse_in = refused;
+        ask_lines(out);
+    }
+}
+
 static void step(size_t x) {
     uint64_t index = place_in(&texts[x]);
     unsigned char byte = 7;
@@ -644,7 +717,7 @@ static const struct {
     {"change", NULL, change},
     {"edit", NULL, edit}, {"edit", NULL, edit}, {"edit", NULL, edit}, {"take_line", take_line, NULL}, {"print_texts", print_texts, NULL},
     {"move_handles", move_handles, NULL}, {"search", search, NULL}, {"search_cord", search_cord, NULL},
-    {"compare", compare, NULL}, {"grow", grow, NULL}, {"retype", retype, NULL}, {"retype", retype, NULL},
+    {"compare", compare, NULL}, {"grow", grow, NULL}, {"retype", retype, NULL}, {"retype", retype, NULL}, {"edit_lines", edit_lines, NULL},
 };
 
 /* One group of calls, with handles of its own choice. */
@@ -681,6 +754,8 @@ int main(int count, char **words) {
     for (size_t i = 0; i < LAZIES; i++) zc_lazy_free(&lazies[i]);
     zc_ext_free(&grown);
     zc_edit_free(&edited);
+    zc_free(&lined);
+    zc_lines_free(&lines);
     zc_pos_free(&position);
     zc_chunks_free(&chunks);
     zc_files_free(&files);

@@ -791,6 +791,83 @@ static void nulls_of_edits(void) {
     zc_edit_free(no_edit);
 }
 
+/* A text of 5,000 lines of ten characters in eleven bytes, whose last one lacks its end. */
+static void lines_by_number(void) {
+    zc_cord x = ZC_EMPTY, line = ZC_EMPTY, out = ZC_EMPTY;
+    zc_lines lines = ZC_LINES_EMPTY;
+    uint64_t at = 7;
+    DO(zc_from_bytes("a l\303\255ne: 12\n", 12, &line));
+    DO(zc_repeat(&line, 4999, &x));
+    DO(zc_cat_bytes(&x, "the last", 8, &x));
+    EXPECT(zc_lines_count(&lines) == 0);
+    DO(zc_lines_set(&x, &lines));
+    EXPECT(zc_lines_count(&lines) == 5000);
+    EXPECT(zc_lines_start(&lines, &x, 4999, &at) == ZC_OK && at == 59988);
+    EXPECT(zc_lines_start(&lines, &x, 5000, &at) == ZC_PAST_END && at == 59988);
+    EXPECT(zc_lines_of(&lines, &x, 59987, &at) == ZC_OK && at == 4998);
+    EXPECT(zc_lines_of(&lines, &x, UINT64_MAX, &at) == ZC_OK && at == 4999);
+    EXPECT(zc_lines_utf8(&lines, &x, 12, 36, &at) == ZC_OK && at == 33);
+    EXPECT(zc_lines_utf8(&lines, &x, 59990, UINT64_MAX, &at) == ZC_OK && at == 6);
+    DO(zc_lines_line(&lines, &x, 4998, &out));
+    EXPECT_TEXT(&out, "a l\303\255ne: 12");
+    DO(zc_lines_line(&lines, &x, 4999, &out));
+    EXPECT_TEXT(&out, "the last");
+    if (!may_want) EXPECT(zc_lines_line(&lines, &x, 5000, &out) == ZC_PAST_END);
+    EXPECT_TEXT(&out, "the last");
+    zc_lines_free(&lines);
+    EXPECT(zc_lines_count(&lines) == 0);
+    zc_lines_free(&lines);
+    zc_free(&x);
+    zc_free(&line);
+    zc_free(&out);
+}
+
+/* An index stays that of a text along its edits. */
+static void lines_along_edits(void) {
+    zc_cord x = ZC_EMPTY, line = ZC_EMPTY;
+    zc_lines lines = ZC_LINES_EMPTY;
+    uint64_t at = 7;
+    DO(zc_from_bytes("nine more\n", 10, &line));
+    DO(zc_repeat(&line, 10000, &x));
+    DO(zc_lines_edited(&lines, &x, 0, 0, 100000));
+    EXPECT(zc_lines_count(&lines) == 10000);
+    DO(zc_splice(&x, 50005, 0, &line));
+    DO(zc_lines_edited(&lines, &x, 50005, 0, 10));
+    EXPECT(zc_lines_count(&lines) == 10001);
+    EXPECT(zc_lines_start(&lines, &x, 5001, &at) == ZC_OK && at == 50015);
+    DO(zc_remove(&x, 9, 90001, &x));
+    DO(zc_lines_edited(&lines, &x, 9, 90001, 0));
+    EXPECT(zc_lines_count(&lines) == 1000);
+    EXPECT(zc_lines_start(&lines, &x, 999, &at) == ZC_OK && at == 9999);
+    DO(zc_lines_edited(&lines, &line, 5, UINT64_MAX, UINT64_MAX)); /* no edit of x: all is counted */
+    EXPECT(zc_lines_count(&lines) == 1);
+    zc_lines_free(&lines);
+    zc_free(&x);
+    zc_free(&line);
+}
+
+static void nulls_of_lines(void) {
+    zc_cord *volatile none = NULL;
+    zc_lines *volatile no_lines = NULL;
+    uint64_t *volatile nowhere = NULL;
+    zc_cord a = ZC_EMPTY;
+    zc_lines lines = ZC_LINES_EMPTY;
+    uint64_t at = 7;
+    EXPECT(zc_lines_set(none, &lines) == ZC_NULL && zc_lines_set(&a, no_lines) == ZC_NULL);
+    EXPECT(zc_lines_count(no_lines) == 0);
+    EXPECT(zc_lines_start(no_lines, &a, 0, &at) == ZC_NULL && zc_lines_start(&lines, none, 0, &at) == ZC_NULL);
+    EXPECT(zc_lines_start(&lines, &a, 0, nowhere) == ZC_NULL);
+    EXPECT(zc_lines_of(no_lines, &a, 0, &at) == ZC_NULL && zc_lines_of(&lines, none, 0, &at) == ZC_NULL);
+    EXPECT(zc_lines_of(&lines, &a, 0, nowhere) == ZC_NULL);
+    EXPECT(zc_lines_utf8(no_lines, &a, 0, 1, &at) == ZC_NULL && zc_lines_utf8(&lines, none, 0, 1, &at) == ZC_NULL);
+    EXPECT(zc_lines_utf8(&lines, &a, 0, 1, nowhere) == ZC_NULL);
+    EXPECT(zc_lines_line(no_lines, &a, 0, &a) == ZC_NULL && zc_lines_line(&lines, none, 0, &a) == ZC_NULL);
+    EXPECT(zc_lines_line(&lines, &a, 0, none) == ZC_NULL);
+    EXPECT(zc_lines_edited(no_lines, &a, 0, 0, 0) == ZC_NULL && zc_lines_edited(&lines, none, 0, 0, 0) == ZC_NULL);
+    EXPECT(at == 7);
+    zc_lines_free(no_lines);
+}
+
 static int byte_at(zc_pos *position) {
     unsigned char byte = 7;
     int code = zc_pos_fetch(position, &byte);
@@ -1677,6 +1754,8 @@ int main(int count, char **words) {
     edits();
     edits_by_leaves();
     edits_no_longer();
+    lines_by_number();
+    lines_along_edits();
     walks();
     walks_far();
     chunks_in_order();
@@ -1698,6 +1777,7 @@ int main(int count, char **words) {
     put_lazily();
     nulls_of_lazies();
     nulls_of_edits();
+    nulls_of_lines();
     nulls_of_lazy_reads();
     doubles();
     long_texts();

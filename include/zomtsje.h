@@ -25,8 +25,9 @@
  * race:cord (attributes(7)), where "cord" is all cords that have parts in common: one thread at a time uses them. MT-Safe
  * race:cord are the calls that only look at one cord: zc_len, zc_depth, zc_fetch, zc_chr, zc_rchr, zc_starts_with,
  * zc_ends_with, zc_count, zc_to_bytes, zc_read, zc_put, zc_put_range, zc_pos_index, zc_pos_fetch, zc_ext_len,
- * zc_edit_len, zc_lazy_len, zc_lazy_depth and zc_lazy_part. They write to nothing but their results, so many threads may
- * make them at once, on one handle too, while none makes another call.
+ * zc_edit_len, zc_lines_count, zc_lines_start, zc_lines_of, zc_lines_utf8, zc_lazy_len, zc_lazy_depth and zc_lazy_part.
+ * They write to nothing but their results, so many threads may make them at once, on one handle too, while none makes
+ * another call.
  *
  * Memory comes from malloc and realloc, and goes to free. No call ends the program where memory is refused. A handle that
  * owns a cord keeps its block of a few bytes for the next one; zc_free gives it back.
@@ -281,6 +282,47 @@ uint64_t zc_edit_len(const zc_edit *edit);
 
 /* Frees what edit owns; it is then ZC_EDIT_EMPTY, and may be used or freed again. Null is fine. */
 void zc_edit_free(zc_edit *edit);
+
+/* ---- lines by number ---- */
+
+/* The index of the lines of a cord: a line is found by its number, and by a place in it, without a walk through the
+   text. It is a handle as zc_cord is one: begin with ZC_LINES_EMPTY or zeros, the index of no bytes, and end with
+   zc_lines_free. It keeps no cord: each call is given the one it belongs to once more, and of another its answers mean
+   nothing. It takes less than a thousandth of the text's memory. A line ends with the byte 10, which the last one may
+   lack; numbers are from 0. A look-up passes the sums of each 2 MiB of the text, and reads at most 64 KiB. */
+typedef struct zc_lines {
+    void *index; /* for the library alone; null for no bytes */
+} zc_lines;
+
+#define ZC_LINES_EMPTY {0}
+
+/* lines is the index of x from now on. ZC_NO_MEMORY: lines stays. O(n). */
+int zc_lines_set(const zc_cord *x, zc_lines *lines);
+
+/* The number of lines; 0 of null. */
+uint64_t zc_lines_count(const zc_lines *lines);
+
+/* Writes the place where line number of x begins to *place. ZC_PAST_END where x has no more lines than that: *place
+   stays. It takes no memory. */
+int zc_lines_start(const zc_lines *lines, const zc_cord *x, uint64_t number, uint64_t *place);
+
+/* Writes the number of the line of x that holds the byte at place to *number: at or past the end how many lines end.
+   It takes no memory. */
+int zc_lines_of(const zc_lines *lines, const zc_cord *x, uint64_t place, uint64_t *number);
+
+/* Writes how many characters of UTF-8 begin in at most count bytes of x from start on to *chars. It takes no memory. */
+int zc_lines_utf8(const zc_lines *lines, const zc_cord *x, uint64_t start, uint64_t count, uint64_t *chars);
+
+/* Line number of x, without its end. ZC_PAST_END where x has no more lines than that, ZC_NO_MEMORY. */
+int zc_lines_line(const zc_lines *lines, const zc_cord *x, uint64_t number, zc_cord *out);
+
+/* lines is the index of after from now on, where it was that of a cord in which inserted bytes of after stand from start
+   on in the place of removed others. ZC_NO_MEMORY: lines stays. It counts the new bytes and those around them, some 16
+   KiB; O(n) in blocks of 8 KiB where their number changes. */
+int zc_lines_edited(zc_lines *lines, const zc_cord *after, uint64_t start, uint64_t removed, uint64_t inserted);
+
+/* Frees what lines owns; it is then ZC_LINES_EMPTY, and may be used or freed again. Null is fine. */
+void zc_lines_free(zc_lines *lines);
 
 /* ---- positions ---- */
 

@@ -458,10 +458,111 @@ private:
     mutable zc_ext state_ ZC_EXT_EMPTY;
 };
 
+// The lines of a cord by number, from 0, each found without a walk through the text. It shares the cord, and stays its
+// index along replace. A line ends with '\n', which the last one may lack.
+class line_index {
+public:
+    using value_type = cord;
+    using size_type = std::uint64_t;
+
+    // Goes over the lines, without their ends; each is made when it is asked for.
+    class const_iterator {
+    public:
+        using iterator_category = std::input_iterator_tag;
+        using value_type = cord;
+        using difference_type = std::int64_t;
+        using pointer = void;
+        using reference = cord;
+
+        const_iterator(const line_index &lines, size_type number) : lines_(&lines), number_(number) {}
+        cord operator*() const { return lines_->line(number_); }
+        const_iterator &operator++() {
+            ++number_;
+            return *this;
+        }
+        const_iterator operator++(int) {
+            const_iterator old = *this;
+            ++number_;
+            return old;
+        }
+        friend bool operator==(const const_iterator &x, const const_iterator &y) { return x.number_ == y.number_; }
+        friend bool operator!=(const const_iterator &x, const const_iterator &y) { return !(x == y); }
+
+    private:
+        const line_index *lines_;
+        size_type number_;
+    };
+    using iterator = const_iterator;
+
+    explicit line_index(cord text = {}) : text_(std::move(text)) { detail::check(zc_lines_set(text_.raw(), &handle_)); }
+    line_index(line_index &&other) noexcept : text_(std::move(other.text_)), handle_(std::exchange(other.handle_, zc_lines ZC_LINES_EMPTY)) {}
+    line_index &operator=(line_index &&other) noexcept {
+        std::swap(text_, other.text_);
+        std::swap(handle_, other.handle_);
+        return *this;
+    }
+    ~line_index() { zc_lines_free(&handle_); }
+
+    const cord &text() const noexcept { return text_; }
+    size_type size() const noexcept { return zc_lines_count(&handle_); }
+    bool empty() const noexcept { return size() == 0; }
+    cord line(size_type number) const {
+        cord made;
+        detail::check(zc_lines_line(&handle_, text_.raw(), number, made.raw()));
+        return made;
+    }
+    cord operator[](size_type number) const { return line(number); }
+    // The place where a line begins.
+    size_type line_start(size_type number) const {
+        size_type place = 0;
+        detail::check(zc_lines_start(&handle_, text_.raw(), number, &place));
+        return place;
+    }
+    // The line that holds the byte at a place: at the end how many lines end.
+    size_type line_of(size_type place) const {
+        size_type number = 0;
+        if (place > text_.size()) detail::check(ZC_PAST_END);
+        detail::check(zc_lines_of(&handle_, text_.raw(), place, &number));
+        return number;
+    }
+    // How many characters of UTF-8 begin in a range.
+    size_type utf8_size(size_type place, size_type count) const {
+        size_type chars = 0;
+        detail::check(zc_lines_utf8(&handle_, text_.raw(), place, count, &chars));
+        return chars;
+    }
+    void replace(size_type place, size_type count, const cord &more) {
+        cord after = text_;
+        after.replace(place, count, more);
+        become(std::move(after), place, std::min(count, text_.size() - place), more.size());
+    }
+    const_iterator begin() const { return {*this, 0}; }
+    const_iterator end() const { return {*this, size()}; }
+
+private:
+    friend class cord_editor;
+    // It is the index of the text after an edit from now on.
+    void become(cord after, size_type place, size_type removed, size_type inserted) {
+        detail::check(zc_lines_edited(&handle_, after.raw(), place, removed, inserted));
+        text_ = std::move(after);
+    }
+    cord text_;
+    zc_lines handle_ ZC_LINES_EMPTY;
+};
+
 // A cord under edit with all its versions, which share what they have in common.
 class cord_editor {
 public:
     explicit cord_editor(cord text = {}) : now_(std::move(text)) {}
+    cord_editor(const cord_editor &other) : now_(other.now_), done_(other.done_), undone_(other.undone_) {}
+    cord_editor(cord_editor &&) noexcept = default;
+    cord_editor &operator=(cord_editor other) noexcept {
+        now_ = std::move(other.now_);
+        done_.swap(other.done_);
+        undone_.swap(other.undone_);
+        lines_.swap(other.lines_);
+        return *this;
+    }
 
     const cord &text() const noexcept { return now_; }
     std::uint64_t size() const noexcept { return now_.size(); }
@@ -470,24 +571,39 @@ public:
     void replace(std::uint64_t place, std::uint64_t count, const cord &more) {
         cord next = now_;
         next.replace(place, count, more);
+        const std::uint64_t removed = std::min(count, now_.size() - place);
+        done_.reserve(done_.size() + 1);
+        if (lines_) lines_->become(next, place, removed, more.size());
         undone_.clear();
-        done_.push_back(now_);
-        now_ = std::move(next);
+        done_.push_back({std::exchange(now_, std::move(next)), place, more.size(), removed});
     }
     // Goes back, or forward again, by one edit: whether there was one.
     bool undo() { return step(done_, undone_); }
     bool redo() { return step(undone_, done_); }
+    // The lines of the text as it is now. The index is made when it is first asked for, and kept along edits.
+    const line_index &lines() const {
+        if (!lines_) lines_ = std::make_unique<line_index>(now_);
+        return *lines_;
+    }
 
 private:
-    bool step(std::vector<cord> &from, std::vector<cord> &to) {
+    // A text, and the edit of the one that it takes the place of.
+    struct version {
+        cord text;
+        std::uint64_t place, removed, inserted;
+    };
+    bool step(std::vector<version> &from, std::vector<version> &to) {
         if (from.empty()) return false;
-        to.push_back(now_);
-        now_ = std::move(from.back());
+        version &next = from.back();
+        to.reserve(to.size() + 1);
+        if (lines_) lines_->become(next.text, next.place, next.removed, next.inserted);
+        to.push_back({std::exchange(now_, std::move(next.text)), next.place, next.inserted, next.removed});
         from.pop_back();
         return true;
     }
     cord now_;
-    std::vector<cord> done_, undone_;
+    std::vector<version> done_, undone_;
+    mutable std::unique_ptr<line_index> lines_;
 };
 
 // The files that lazy cords have parts in. It outlives the lazy cords that are read over it.

@@ -17,6 +17,7 @@ using zomtsje::cord_builder;
 using zomtsje::cord_editor;
 using zomtsje::file_set;
 using zomtsje::lazy_cord;
+using zomtsje::line_index;
 
 static unsigned long rows = 0;
 
@@ -156,6 +157,34 @@ static void editors() {
     EXPECT(throws<std::out_of_range>([&] { editor.insert(99, "x"); }) && editor.undo() && editor.text() == "one two three");
 }
 
+static void lines() {
+    line_index lines("one\n\ntw\xc3\xb3\nlast");
+    const std::vector<cord> wanted{"one", "", "tw\xc3\xb3", "last"};
+    EXPECT(lines.size() == 4 && std::equal(lines.begin(), lines.end(), wanted.begin(), wanted.end()));
+    EXPECT(lines[3] == "last" && lines.line_start(3) == 10 && lines.line_of(9) == 2 && lines.line_of(14) == 3);
+    EXPECT(lines.utf8_size(5, 5) == 4 && lines.utf8_size(5, ZC_MAX_LEN) == 8);
+    EXPECT(throws<std::out_of_range>([&] { lines.line(4); }) && throws<std::out_of_range>([&] { lines.line_start(4); }));
+    EXPECT(throws<std::out_of_range>([&] { lines.line_of(15); }) && throws<std::out_of_range>([&] { lines.replace(15, 0, "x"); }));
+    lines.replace(3, 2, " and ");
+    lines.replace(12, 99, "\n");
+    EXPECT(lines.text() == "one and tw\xc3\xb3\n" && lines.size() == 1 && lines.line(0) == "one and tw\xc3\xb3");
+    line_index moved = std::move(lines);
+    EXPECT(moved.size() == 1 && lines.empty() && line_index().begin() == line_index().end());
+    lines = std::move(moved);
+    EXPECT(lines.size() == 1);
+    cord many;
+    for (int i = 0; i < 15; i++) many = i == 0 ? cord("a line\n") : many + many;
+    cord_editor editor(many);
+    EXPECT(editor.lines().size() == 16384 && editor.lines().line_of(70001) == 10000);
+    editor.insert(70001, "\n");
+    editor.erase(7, 69995);
+    EXPECT(editor.lines().size() == 6385 && editor.lines().line_start(1) == 7 && editor.lines()[1] == " line");
+    const cord_editor copied = editor;
+    EXPECT(editor.undo() && editor.lines().size() == 16385 && editor.lines()[10001] == " line");
+    EXPECT(editor.undo() && editor.lines().size() == 16384 && editor.lines().text() == many);
+    EXPECT(editor.redo() && editor.redo() && editor.lines().size() == 6385 && copied.lines().size() == 6385);
+}
+
 static std::string make_file(const std::string &bytes) {
     char path[] = "/tmp/zomtsje_cpp_XXXXXX";
     const int fd = mkstemp(path);
@@ -192,6 +221,7 @@ int main() {
     iterations();
     builders();
     editors();
+    lines();
     files();
     std::printf("%lu rows\n", rows);
 }

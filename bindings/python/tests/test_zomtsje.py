@@ -14,7 +14,7 @@ import tempfile
 import unittest
 
 import zomtsje
-from zomtsje import Builder, Cord, Editor, Files
+from zomtsje import Builder, Cord, Editor, Files, LineIndex
 
 SHORT = b"abc ab\n\r\nb\0 \xffca\n"
 
@@ -179,7 +179,7 @@ class Values(unittest.TestCase):
 
     def test_documented(self):
         self.assertEqual(doctest.testmod(zomtsje).failed, 0)
-        for item in (Cord, Builder, Editor, Files, zomtsje.LazyCord):
+        for item in (Cord, Builder, Editor, Files, LineIndex, zomtsje.LazyCord):
             bare = [name for name, it in vars(item).items() if callable(it) and not name.startswith("_") and not it.__doc__]
             self.assertEqual(bare, [])
 
@@ -210,6 +210,40 @@ class Editors(unittest.TestCase):
         self.assertRaises(IndexError, editor.insert, 99, b"x")
         self.assertTrue(editor.undo())
         self.assertEqual(editor.text, b"one two three")
+
+
+class Lines(unittest.TestCase):
+    def test_lines(self):
+        text = "one\n\ntwó\nlast".encode()
+        lines = LineIndex(text)
+        self.assertEqual((len(lines), list(lines), lines[1:3]), (4, text.split(b"\n"), text.split(b"\n")[1:3]))
+        self.assertEqual((lines[-1], lines.line_start(3), lines.line_of(9), lines.line_of(14)), (b"last", 10, 2, 3))
+        self.assertEqual((lines.utf8_len(5, 10), lines.utf8_len(5, 99), lines.utf8_len(9, 5)), (4, 8, 0))
+        for call in lines.line_start, lines.__getitem__, lambda it: lines.line_of(it + 11):
+            self.assertRaises(IndexError, call, 4)
+        self.assertRaises(IndexError, lines.replace, 14, 15, b"x")
+        lines.replace(3, 5, b" and ")
+        lines.replace(12, 17, Cord(b"\n"))
+        self.assertEqual((lines.text, list(lines)), ("one and twó\n".encode(), ["one and twó".encode()]))
+        self.assertEqual((len(LineIndex()), list(LineIndex())), (0, []))
+
+    def test_along_edits(self):
+        rng = random.Random(7)
+        editor = Editor(b"a line of many\n" * 5000)
+        for _ in range(200):
+            if rng.randrange(4) == 0:
+                editor.undo() if rng.randrange(2) else editor.redo()
+            else:
+                start = rng.randrange(len(editor) + 1)
+                stop = min(start + rng.randrange(100), len(editor))
+                editor.replace(start, stop, some_bytes(rng).replace(b"\r", "é".encode()))
+            data, place = bytes(editor.text), rng.randrange(len(editor) + 1)
+            wanted = data.removesuffix(b"\n").split(b"\n")
+            number = data.count(b"\n", 0, place)
+            self.assertEqual((len(editor.lines), editor.lines.line_of(place)), (len(wanted), number))
+            if number < len(wanted):
+                self.assertEqual((editor.lines[number], editor.lines.line_start(number)), (wanted[number], data.rfind(b"\n", 0, place) + 1))
+            self.assertEqual(editor.lines.utf8_len(0, place), sum(1 for it in data[:place] if it & 0xC0 != 0x80))
 
 
 class OverFiles(unittest.TestCase):

@@ -24,6 +24,12 @@ class LazyHandle(ctypes.Structure):
     _fields_ = [("tree", c_void_p)]
 
 
+class LinesHandle(ctypes.Structure):
+    """A zc_lines."""
+
+    _fields_ = [("index", c_void_p)]
+
+
 class ExtHandle(ctypes.Structure):
     """A zc_ext."""
 
@@ -37,6 +43,7 @@ class FilesHandle(ctypes.Structure):
 
 
 CORD, LAZY, EXT, FILES = POINTER(CordHandle), POINTER(LazyHandle), POINTER(ExtHandle), POINTER(FilesHandle)
+LINES = POINTER(LinesHandle)
 U64 = c_uint64
 PLACE, SIZE, ORDER = POINTER(c_uint64), POINTER(c_size_t), POINTER(c_int32)
 
@@ -65,6 +72,12 @@ CODED: dict[str, list[type]] = {
     "zc_ext_bytes": [EXT, c_char_p, c_size_t],
     "zc_ext_cord": [EXT, CORD],
     "zc_ext_to_cord": [EXT, CORD],
+    "zc_lines_set": [CORD, LINES],
+    "zc_lines_start": [LINES, CORD, U64, PLACE],
+    "zc_lines_of": [LINES, CORD, U64, PLACE],
+    "zc_lines_utf8": [LINES, CORD, U64, U64, PLACE],
+    "zc_lines_line": [LINES, CORD, U64, CORD],
+    "zc_lines_edited": [LINES, CORD, U64, U64, U64],
     "zc_lazy_from_path": [FILES, c_char_p, LAZY],
     "zc_lazy_from_cord": [CORD, LAZY],
     "zc_lazy_cat": [LAZY, LAZY, LAZY],
@@ -86,6 +99,8 @@ PLAIN: dict[str, tuple[type | None, list[type]]] = {
     "zc_free": (None, [CORD]),
     "zc_ext_len": (U64, [EXT]),
     "zc_ext_free": (None, [EXT]),
+    "zc_lines_count": (U64, [LINES]),
+    "zc_lines_free": (None, [LINES]),
     "zc_lazy_len": (U64, [LAZY]),
     "zc_lazy_free": (None, [LAZY]),
     "zc_files_free": (None, [FILES]),
@@ -139,4 +154,5 @@ def _frees(handle: type[ctypes.Structure], free: Callable[[ctypes.Structure], No
 _frees(CordHandle, zc.zc_free)
 _frees(LazyHandle, zc.zc_lazy_free)
 _frees(ExtHandle, zc.zc_ext_free)
+_frees(LinesHandle, zc.zc_lines_free)
 _frees(FilesHandle, zc.zc_files_free)

@@ -6,6 +6,7 @@ pub mod Grown
 pub mod Handles
 pub mod Referent
 pub mod Lazy
+pub mod LineIndexes
 pub mod Lists
 pub mod Positions
 pub mod Prints

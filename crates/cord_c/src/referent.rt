@@ -1,8 +1,10 @@
 //! What lies behind the pointers that C keeps.
 ghost use Rattle.std.specs.Prelude.{◌≡◌, [], None, length};
+ghost use Rattle.cord_lines.specs.Index.{of_no_bytes};
 
 use cord::{Text, TextEditor};
 use cord_core::Cord;
+use cord_lines::LineIndex;
 
 /// What a handle leads to.
 #[derive(Drop)]
@@ -15,10 +17,12 @@ pub enum Referent {
     Cord(Cord),
     /// A text that is edited in place.
     Editor(TextEditor),
+    /// The index of the lines of a text.
+    Lines(LineIndex),
 }
 
 impl Referent {
-    ghost use Rattle.cord_c.specs.Referent.{text_by, cord_by, edited_by};
+    ghost use Rattle.cord_c.specs.Referent.{text_by, cord_by, edited_by, index_by};
 
     /// The text, `none` where there is none.
     pub(crate) fn text_or<'a>(&'a self, none: &'a Text) -> &'a Text
@@ -38,6 +42,17 @@ impl Referent {
     {
         match self {
             Referent::Cord(cord) => cord,
+            _ => none,
+        }
+    }
+
+    /// The index of lines, `none` where there is none.
+    pub(crate) fn index_or<'a>(&'a self, none: &'a LineIndex) -> &'a LineIndex
+        requires { none.now ≡ of_no_bytes }
+        ensures { result.now ≡ index_by self.now }
+    {
+        match self {
+            Referent::Lines(index) => index,
             _ => none,
         }
     }

@@ -7,6 +7,7 @@ use crate::refusal::Refusal;
 pub enum Command<'a> {
     Edit(Edit<'a>),
     Find(&'a str),
+    Window(u64),
     Print,
     Undo,
     Redo,
@@ -19,6 +20,7 @@ impl<'a> Command<'a> {
         let (name, rest) = line.split_once(' ').unwrap_or((line, ""));
         let command = match name {
             "find" => Command::Find(rest),
+            "window" => Command::Window(number(rest)?),
             "print" => Command::Print,
             "undo" => Command::Undo,
             "redo" => Command::Redo,

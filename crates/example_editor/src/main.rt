@@ -10,12 +10,13 @@
 //! | `replace OLD/NEW` | puts NEW in the place of the first OLD |
 //! | `find TEXT` | tells the first place of TEXT |
 //! | `print` | writes the text |
+//! | `window PLACE` | writes the line of the byte at PLACE, and two lines above and below it, with their numbers |
 //! | `undo`, `redo` | goes one version back, or on again |
 //! | `quit` | ends the program |
 //!
-//! Places and counts are in bytes, and the first byte has place 0. A command that can't be done is refused by a line of
-//! output, and the text stays as it was. `rt try` runs the program on the commands in the file `stdin`, unproved, and
-//! `rt run` proves it first.
+//! Places and counts are in bytes, and the first byte has place 0, as the first line has number 0. A command that can't
+//! be done is refused by a line of output, and the text stays as it was. `rt try` runs the program on the commands in
+//! the file `stdin`, unproved, and `rt run` proves it first.
 //!
 //! What it shows of the library:
 //!
@@ -30,6 +31,7 @@ mod buffer;
 mod command;
 mod edit;
 mod refusal;
+mod window;
 
 use anyhow::Result;
 use buffer::Buffer;
@@ -39,6 +41,7 @@ use edit::edited;
 use refusal::Refusal;
 use std::alloc::Global;
 use std::io::ErrorKind;
+use window::window_of;
 
 /// Does what a command says, and answers the text that is to be written, if any.
 fn obey(
@@ -54,6 +57,7 @@ fn obey(
         Command::Undo => buffer.undo()?,
         Command::Redo => buffer.redo()?,
         Command::Find(wanted) => return Ok(Some(place_of(alloc, buffer.text(), wanted)?)),
+        Command::Window(place) => return Ok(Some(window_of(alloc, buffer.text(), *place)?)),
         Command::Print => return Ok(Some(buffer.text().share(alloc)?)),
         Command::Quit => {}
     }

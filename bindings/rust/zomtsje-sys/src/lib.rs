@@ -61,6 +61,18 @@ impl zc_lazy {
     pub const EMPTY: zc_lazy = zc_lazy { tree: null_mut() };
 }
 
+/// The index of the lines of a cord.
+#[repr(C)]
+#[derive(Debug)]
+pub struct zc_lines {
+    index: *mut c_void,
+}
+
+impl zc_lines {
+    /// `ZC_LINES_EMPTY`.
+    pub const EMPTY: zc_lines = zc_lines { index: null_mut() };
+}
+
 /// A text that grows at its end.
 #[repr(C)]
 #[derive(Debug)]
@@ -125,6 +137,21 @@ extern "C" {
     pub fn zc_ext_to_cord(x: *mut zc_ext, out: *mut zc_cord) -> c_int;
     pub fn zc_ext_len(x: *const zc_ext) -> u64;
     pub fn zc_ext_free(x: *mut zc_ext);
+
+    pub fn zc_lines_set(x: *const zc_cord, lines: *mut zc_lines) -> c_int;
+    pub fn zc_lines_count(lines: *const zc_lines) -> u64;
+    pub fn zc_lines_start(lines: *const zc_lines, x: *const zc_cord, number: u64, place: *mut u64) -> c_int;
+    pub fn zc_lines_of(lines: *const zc_lines, x: *const zc_cord, place: u64, number: *mut u64) -> c_int;
+    pub fn zc_lines_utf8(lines: *const zc_lines, x: *const zc_cord, start: u64, count: u64, chars: *mut u64) -> c_int;
+    pub fn zc_lines_line(lines: *const zc_lines, x: *const zc_cord, number: u64, out: *mut zc_cord) -> c_int;
+    pub fn zc_lines_edited(
+        lines: *mut zc_lines,
+        after: *const zc_cord,
+        start: u64,
+        removed: u64,
+        inserted: u64,
+    ) -> c_int;
+    pub fn zc_lines_free(lines: *mut zc_lines);
 
     pub fn zc_lazy_from_path(files: *mut zc_files, path: *const c_char, out: *mut zc_lazy) -> c_int;
     pub fn zc_lazy_from_cord(x: *const zc_cord, out: *mut zc_lazy) -> c_int;

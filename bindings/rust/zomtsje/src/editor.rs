@@ -1,4 +1,5 @@
-use crate::Cord;
+use crate::cord::bounds;
+use crate::{Cord, LineIndex};
 use std::mem::replace;
 use std::ops::RangeBounds;
 
@@ -10,22 +11,43 @@ use std::ops::RangeBounds;
 /// assert!(editor.undo());
 /// assert_eq!(*editor.text(), "one three");
 /// ```
-#[derive(Clone, Debug, Default)]
+#[derive(Debug, Default)]
 pub struct CordEditor {
     now: Cord,
-    done: Vec<Cord>,
-    undone: Vec<Cord>,
+    done: Vec<Version>,
+    undone: Vec<Version>,
+    lines: Option<LineIndex>,
+}
+
+// A text, and the edit of the one that it takes the place of.
+#[derive(Clone, Debug)]
+struct Version {
+    text: Cord,
+    start: u64,
+    removed: u64,
+    inserted: u64,
 }
 
 impl CordEditor {
     /// The editor of a text.
     pub fn new(text: impl Into<Cord>) -> CordEditor {
-        CordEditor { now: text.into(), done: Vec::new(), undone: Vec::new() }
+        CordEditor { now: text.into(), ..CordEditor::default() }
     }
 
     /// The current version.
     pub fn text(&self) -> &Cord {
         &self.now
+    }
+
+    /// The lines of the current version. The index is made when it is first asked for, and kept along edits.
+    ///
+    /// ```
+    /// let mut editor = zomtsje::CordEditor::new("one\nthree");
+    /// editor.insert(4, "two\n");
+    /// assert_eq!(editor.lines().line_of(8), 2);
+    /// ```
+    pub fn lines(&mut self) -> &LineIndex {
+        self.lines.get_or_insert_with(|| LineIndex::new(self.now.clone()))
     }
 
     /// Puts bytes in front of the one at a place.
@@ -49,25 +71,44 @@ impl CordEditor {
     /// # Panics
     /// Where the range isn't inside the text.
     pub fn replace_range(&mut self, range: impl RangeBounds<u64>, with: impl Into<Cord>) {
-        let mut next = self.now.clone();
-        next.replace_range(range, with);
-        self.done.push(replace(&mut self.now, next));
+        let (start, end) = bounds(range, self.now.len());
+        let with = with.into();
+        let inserted = with.len();
+        let mut text = self.now.clone();
+        text.replace_range(start..end, with);
+        let back = self.turn_into(Version { text, start, removed: end - start, inserted });
+        self.done.push(back);
         self.undone.clear();
     }
 
     /// Goes back to the version before the last change: whether there was one.
     pub fn undo(&mut self) -> bool {
-        step(&mut self.now, &mut self.done, &mut self.undone)
+        let Some(next) = self.done.pop() else { return false };
+        let back = self.turn_into(next);
+        self.undone.push(back);
+        true
     }
 
     /// Goes forward again to the version that was undone last: whether there was one.
     pub fn redo(&mut self) -> bool {
-        step(&mut self.now, &mut self.undone, &mut self.done)
+        let Some(next) = self.undone.pop() else { return false };
+        let back = self.turn_into(next);
+        self.done.push(back);
+        true
+    }
+
+    // Has another text from now on: gives the way back.
+    fn turn_into(&mut self, next: Version) -> Version {
+        let Version { text, start, removed, inserted } = next;
+        if let Some(lines) = &mut self.lines {
+            lines.become_edited(text.clone(), start, removed, inserted);
+        }
+        Version { text: replace(&mut self.now, text), start, removed: inserted, inserted: removed }
     }
 }
 
-fn step(now: &mut Cord, from: &mut Vec<Cord>, to: &mut Vec<Cord>) -> bool {
-    let Some(next) = from.pop() else { return false };
-    to.push(replace(now, next));
-    true
+impl Clone for CordEditor {
+    fn clone(&self) -> CordEditor {
+        CordEditor { now: self.now.clone(), done: self.done.clone(), undone: self.undone.clone(), lines: None }
+    }
 }

@@ -10,8 +10,9 @@
 //! assert_eq!(old, "one three");
 //! ```
 //!
-//! [`CordBuilder`] makes a cord from its beginning to its end, [`CordEditor`] keeps the versions of one under edit, and
-//! [`LazyCord`] has parts in [`Files`] that aren't read until their bytes are asked for.
+//! [`CordBuilder`] makes a cord from its beginning to its end, [`CordEditor`] keeps the versions of one under edit,
+//! [`LineIndex`] has its lines by number, and [`LazyCord`] has parts in [`Files`] that aren't read until their bytes are
+//! asked for.
 //!
 //! # Memory
 //!
@@ -31,6 +32,7 @@ mod editor;
 mod error;
 mod iter;
 mod lazy;
+mod line_index;
 
 pub use builder::CordBuilder;
 pub use cord::{Cord, MAX_LEN};
@@ -38,6 +40,7 @@ pub use editor::CordEditor;
 pub use error::Error;
 pub use iter::{Bytes, Chunks, Lines, Reader};
 pub use lazy::{Files, LazyCord, LazyReader};
+pub use line_index::{LineIndex, LineIter};
 
 /// The version of the C library that was linked.
 ///

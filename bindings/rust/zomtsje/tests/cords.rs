@@ -7,7 +7,7 @@ use std::io::{BufRead, Read, Seek, SeekFrom, Write};
 use std::ops::Bound;
 use std::panic::{catch_unwind, AssertUnwindSafe};
 use std::path::PathBuf;
-use zomtsje::{Cord, CordBuilder, CordEditor, Error, Files, MAX_LEN};
+use zomtsje::{Cord, CordBuilder, CordEditor, Error, Files, LineIndex, MAX_LEN};
 
 /// Numbers that look random, from a seed.
 struct Random(u64);
@@ -211,6 +211,40 @@ fn editors() {
     editor.replace_range(0..3, "1");
     assert!(*editor.text() == "1 two three" && !editor.redo() && editor.undo() && *editor.text() == "one two three");
     assert!(panics(|| editor.insert(99, "x")) && *editor.text() == "one two three");
+}
+
+#[test]
+fn lines_by_number() {
+    let text = "one\n\ntwó\nlast";
+    let mut lines = LineIndex::new(text);
+    let wanted: Vec<&str> = text.lines().collect();
+    assert_eq!(lines.iter().collect::<Vec<_>>(), wanted);
+    assert_eq!(lines.iter().rev().collect::<Vec<_>>(), ["last", "twó", "", "one"]);
+    assert!(lines.len() == 4 && lines.line_start(3) == Some(10) && lines.line_of(9) == 2 && lines.line_of(99) == 3);
+    assert!(lines.line(4).is_none() && lines.line_start(4).is_none());
+    assert!(lines.utf8_len(5..10) == 4 && lines.utf8_len(..) == 13);
+    lines.replace_range(3..5, " and ");
+    lines.replace_range(12.., "\n");
+    assert!(*lines.text() == "one and twó\n" && lines.len() == 1 && lines.line(0).unwrap() == "one and twó");
+    assert!(panics(|| lines.replace_range(15..16, "x")) && lines.len() == 1);
+    assert!(LineIndex::new("").is_empty() && LineIndex::new("").iter().next().is_none());
+}
+
+#[test]
+fn lines_along_edits() {
+    let mut editor = CordEditor::new(Cord::from("a line\n".repeat(16384).as_str()));
+    assert!(editor.lines().len() == 16384 && editor.lines().line_of(70001) == 10000);
+    editor.insert(70001, "\n");
+    editor.remove(7..70002);
+    let copied = editor.clone();
+    for mut it in [editor, copied] {
+        assert!(
+            it.lines().len() == 6385 && it.lines().line_start(1) == Some(7) && it.lines().line(1).unwrap() == " line"
+        );
+        assert!(it.undo() && it.lines().len() == 16385 && it.lines().line(10001).unwrap() == " line");
+        assert!(it.undo() && it.lines().len() == 16384 && it.lines().text().len() == 114688);
+        assert!(it.redo() && it.redo() && it.lines().len() == 6385);
+    }
 }
 
 /// A file with these bytes, which goes with the test.

@@ -8,12 +8,15 @@ use denote.Follow.{follows_if, follows_so}
 use Rattle.core.specs.declared.option.Option.{Option}
 use Rattle.core.specs.Option.{ghost_name_of}
 use Rattle.cord_c.specs.Lazy.{cord_of}
+use Rattle.cord_c.specs.LineIndexes.{index_in}
 use Rattle.cord_c.specs.Referent.{text_by}
 use Rattle.cord_c.specs.contracts.handle.Handle as handle
 use Rattle.cord_c.specs.contracts.lazy.LazyHandle as lazy
+use Rattle.cord_c.specs.contracts.line_index.Lines as line_index
 use Rattle.cord_c.specs.contracts.referent.Referent as referent
 use Rattle.cord_c.specs.declared.handle.Handle.{Handle}
 use Rattle.cord_c.specs.declared.lazy.LazyHandle.{LazyHandle}
+use Rattle.cord_c.specs.declared.line_index.Lines.{Lines}
 use Rattle.cord_c.specs.declared.referent.Referent.{Referent}
 
 -- the handle h that leads to r
@@ -31,3 +34,7 @@ KeepsText h = follows_so handle.the_row handle.the_row h.ghost_name none (λ _ _
 -- its cord is as it was
 abbrev pub KeepsCord : MutBor LazyHandle → Fml
 KeepsCord x = follows_so lazy.the_row lazy.the_row x.ghost_name none (λ _ _. ⊤) (λ left. cord_of left ≡ cord_of x.now)
+
+-- its index is as it was
+abbrev pub KeepsIndex : MutBor Lines → Fml
+KeepsIndex x = follows_so line_index.the_row line_index.the_row x.ghost_name none (λ _ _. ⊤) (λ left. index_in left ≡ index_in x.now)

@@ -1,0 +1,143 @@
+/* Times the index of the lines of a text: lines SIZE..
+ *
+ * The text has lines of 20 to 99 bytes in leaves of 4,096 bytes. Prints a row a size in bytes: how fast the index is
+ * made, its part of the memory, and nanoseconds: of a look-up by number and by place, of a count of 4,096 bytes at a
+ * place, of what an edit of up to 40 bytes costs the index, and of the two look-ups of its line and of where that
+ * begins. Answers are compared with a count of all bytes. Times are those of a processor. */
+#define _POSIX_C_SOURCE 200809L
+#include <inttypes.h>
+#include <malloc.h>
+#include <stdio.h>
+#include <stdlib.h>
+#include <string.h>
+#include <time.h>
+#include <zomtsje.h>
+
+enum { LOOKUPS = 1000000, EDITS = 100000, LONGEST = 40 };
+
+static uint64_t state = 88172645463325252u;
+
+static uint64_t below(uint64_t count) {
+    state ^= state << 13;
+    state ^= state >> 7;
+    state ^= state << 17;
+    return state % count;
+}
+
+static double nanoseconds(void) {
+    struct timespec it;
+    clock_gettime(CLOCK_PROCESS_CPUTIME_ID, &it);
+    return (double)it.tv_sec * 1e9 + (double)it.tv_nsec;
+}
+
+static void must(int holds, const char *what) {
+    if (holds) return;
+    fprintf(stderr, "lines: %s\n", what);
+    exit(1);
+}
+#define MUST(holds) must((holds), #holds)
+
+static void fill(uint64_t size, zc_cord *x) {
+    static zc_ext grown;
+    char line[100];
+    memset(line, 'x', sizeof line);
+    while (zc_ext_len(&grown) < size) {
+        uint64_t left = size - zc_ext_len(&grown), count = 20 + below(80);
+        if (count > left) count = left;
+        line[count - 1] = '\n';
+        MUST(zc_ext_bytes(&grown, line, count) == ZC_OK);
+        line[count - 1] = 'x';
+    }
+    MUST(zc_ext_to_cord(&grown, x) == ZC_OK);
+    zc_ext_free(&grown);
+}
+
+static uint64_t lines_before(const zc_cord *x, uint64_t place) {
+    zc_cord front = ZC_EMPTY;
+    MUST(zc_substr(x, 0, place, &front) == ZC_OK);
+    uint64_t count = zc_count(&front, '\n');
+    zc_free(&front);
+    return count;
+}
+
+/* Edits at random places: the index's part of an edit, then the line of its place and where that begins. */
+static void edit(zc_cord *x, zc_lines *lines, double *kept, double *asked) {
+    char bytes[LONGEST];
+    *kept = *asked = 0;
+    for (size_t i = 0; i < EDITS; i++) {
+        uint64_t len = zc_len(x), start = below(len + 1), removed = below(LONGEST), inserted = below(LONGEST);
+        uint64_t number, place;
+        zc_cord piece = ZC_EMPTY;
+        if (removed > len - start) removed = len - start;
+        for (size_t j = 0; j < inserted; j++) bytes[j] = below(40) == 0 ? '\n' : 'y';
+        MUST(zc_from_bytes(bytes, inserted, &piece) == ZC_OK && zc_splice(x, start, removed, &piece) == ZC_OK);
+        zc_free(&piece);
+        double begin = nanoseconds();
+        MUST(zc_lines_edited(lines, x, start, removed, inserted) == ZC_OK);
+        double edited = nanoseconds();
+        MUST(zc_lines_of(lines, x, start, &number) == ZC_OK);
+        int code = zc_lines_start(lines, x, number, &place); /* no line begins at the end, after the last line's */
+        MUST(code == ZC_OK || code == ZC_PAST_END);
+        *kept += edited - begin;
+        *asked += nanoseconds() - edited;
+        if (i % (EDITS / 10) == 0) {
+            place = below(zc_len(x));
+            MUST(zc_lines_of(lines, x, place, &number) == ZC_OK && number == lines_before(x, place));
+        }
+    }
+    *kept /= EDITS;
+    *asked /= EDITS;
+}
+
+static size_t memory_in_use(void) {
+    return mallinfo2().uordblks + mallinfo2().hblkhd;
+}
+
+/* Nanoseconds of a count of so many bytes at a random place: what a look-up does in its block. */
+static double count_somewhere(const zc_cord *x, uint64_t size, uint64_t bytes) {
+    uint64_t sum = 0;
+    double start = nanoseconds();
+    for (size_t i = 0; i < LOOKUPS; i++) {
+        zc_cord part = ZC_EMPTY;
+        MUST(zc_substr(x, below(size), bytes, &part) == ZC_OK);
+        sum += zc_count(&part, '\n');
+        zc_free(&part);
+    }
+    MUST(sum > 0);
+    return (nanoseconds() - start) / LOOKUPS;
+}
+
+static void measure(uint64_t size) {
+    zc_cord x = ZC_EMPTY;
+    zc_lines lines = ZC_LINES_EMPTY;
+    uint64_t place = 0, sum = 0;
+    double start, made, by_number, by_place, kept, asked;
+    fill(size, &x);
+    size_t memory = memory_in_use();
+    start = nanoseconds();
+    MUST(zc_lines_set(&x, &lines) == ZC_OK);
+    made = nanoseconds() - start;
+    memory = memory_in_use() - memory;
+    uint64_t count = zc_lines_count(&lines);
+    MUST(count == zc_count(&x, '\n'));
+    start = nanoseconds();
+    for (size_t i = 0; i < LOOKUPS; i++) MUST(zc_lines_start(&lines, &x, below(count), &place) == ZC_OK), sum += place;
+    by_number = (nanoseconds() - start) / LOOKUPS;
+    start = nanoseconds();
+    for (size_t i = 0; i < LOOKUPS; i++) MUST(zc_lines_of(&lines, &x, below(size), &place) == ZC_OK), sum += place;
+    by_place = (nanoseconds() - start) / LOOKUPS;
+    MUST(sum > 0);
+    double counted = count_somewhere(&x, size, 4096);
+    edit(&x, &lines, &kept, &asked);
+    printf("%" PRIu64 " bytes: made at %.2f GB/s, %.4f %% of the memory, ", size, (double)size / made,
+           100.0 * (double)memory / (double)size);
+    printf("by number %.0f, by place %.0f, a count %.0f, ", by_number, by_place, counted);
+    printf("an edit %.0f, its two look-ups %.0f\n", kept, asked);
+    zc_lines_free(&lines);
+    zc_free(&x);
+}
+
+int main(int count, char **words) {
+    for (int i = 1; i < count; i++) measure(strtoull(words[i], NULL, 10));
+    return count < 2;
+}

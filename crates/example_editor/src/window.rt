@@ -1,0 +1,25 @@
+//! What a window shows of a text.
+use cord::{CordError, Text, TextBuilder};
+use cord_lines::LineIndex;
+use std::alloc::Global;
+
+/// The lines above and below the one of a cursor that a window shows.
+const BESIDE: u64 = 2;
+
+/// The line that holds the byte at a place, and those beside it, each after its number; `>` marks the line itself.
+pub fn window_of(alloc: Global, text: &Text, place: u64) -> Result<Text, CordError> {
+    let index = LineIndex::of(alloc, text)?;
+    let at = index.line_of(text, place);
+    let mut window = TextBuilder::new(alloc)?;
+    for number in at.saturating_sub(BESIDE)..at.saturating_add(BESIDE + 1) {
+        let Some(line) = index.line(alloc, text, number)? else {
+            break;
+        };
+        let mark = if number == at { '>' } else { ' ' };
+        let head = format!(in alloc; "{number}{mark}")?;
+        window.push_bytes(alloc, head.as_str().as_bytes())?;
+        window.push_text(alloc, &line)?;
+        window.push(alloc, b'\n')?;
+    }
+    window.to_text(alloc)
+}
