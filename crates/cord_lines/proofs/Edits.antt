@@ -1,14 +1,18 @@
 -- Blocks of a text that is edited.
 use Rattle.std.proofs.Common.{◌≡◌, ℕ, ◌+◌, ◌-◌, ◌≤◌, List, [], ◌∷◌, ◌++◌, length, take, drop, sym, ap, ◌∙◌, arith, append_assoc, subst, length-append, length-take, length-drop, min, suc, zero}
 use Rattle.std.proofs.lemmas.List.{drop_all, drop-drop, take-append-le, drop-append-le}
+use Rattle.std.proofs.lemmas.List.Sums.{sum_by-take-le}
 use Rattle.std.proofs.Math.Seq.{take-add, take-append_seam, drop-append_seam}
 use Rattle.cord_node.proofs.Ranges.{take-append_right, drop-append_right}
 use Rattle.cord_io.specs.declared.TheConstants.{MAX_LEN}
 use Rattle.cord_lines.specs.declared.counting.Counts.{Counts}
 use Rattle.cord_lines.specs.declared.blocks.Block.{Block}
+use Rattle.cord_lines.specs.declared.renewing.Edit.{Edit}
+use Rattle.cord_lines.specs.declared.renewing.Span.{Span}
 use Rattle.cord_lines.specs.Lines.{IsEditOf}
 use Rattle.cord_lines.specs.inner.Blocks.{total}
 use Rattle.cord_lines.specs.inner.Cuts.{IsCut, AreOfSomeText}
+use Rattle.cord_lines.specs.inner.Edits.{Covers, Fits}
 use Rattle.cord_lines.proofs.Cuts.{Split, split, joined, total_is}
 use Rattle.cord_lines.proofs.Sums.{min_prefix}
 
@@ -126,3 +130,24 @@ module _ (bs news : List Block) (x : List ℕ) (c : IsCut bs x) (first count sta
       subst (λ (y : List ℕ). IsCut (take first bs ++ news ++ drop (first + count) bs) y)
       (sym (after_is s.prefix r.prefix r.back after e.fresh st rem a-from a-to edited))
       (replaced (middle s.prefix r.prefix r.back after e.fresh st rem a-from a-to edited) (subst (λ (y : List ℕ). IsCut news y) there n))
+
+-- the blocks that an edit meets are replaced by those of as many bytes as there are then
+pub replaced_some : (bs news : List Block) (some : AreOfSomeText bs) (span : Span) (edit : Edit) (after : List ℕ) → Covers bs span edit →
+    Fits edit (total bs).bytes (length after) → length after ≤ MAX_LEN →
+    IsCut news (take (span.bytes - edit.removed + edit.inserted) (drop span.start after)) →
+    AreOfSomeText (take span.first bs ++ news ++ drop (span.first + span.count) bs)
+replaced_some bs news some span edit after covers fits le cut =
+    let whole : (total bs).bytes ≡ length some.text = ap (λ (a : Counts). a.bytes) (total_is bs some.text some.cut) in
+    let len : ℕ = span.bytes - edit.removed + edit.inserted in
+    of_some bs news some.text some.cut span.first span.count span.start span.bytes covers.span.start covers.span.end
+    (take len (drop span.start after)) cut (omega (
+      arith,
+      whole,
+      le,
+      covers.span.end,
+      covers.from,
+      covers.to,
+      fits.len,
+      length-take len (drop span.start after),
+      sum_by-take-le (λ (b : Block). b.bytes) bs (span.first + span.count),
+    ))

@@ -1,16 +1,16 @@
 -- Sums of groups of blocks.
-use Rattle.std.proofs.Common.{◌≡◌, ℕ, suc, zero, ◌+◌, ◌*◌, ◌-◌, ◌<◌, ◌≤◌, List, [], ◌∷◌, ◌++◌, length, get_or, take, drop, refl, sym, ap, ◌∙◌, arith, append_assoc, length-drop, subst, min, Bool, true, false}
+use Rattle.std.proofs.Common.{◌≡◌, ℕ, suc, zero, ◌+◌, ◌*◌, ◌-◌, ◌<◌, ◌≤◌, List, [], ◌∷◌, ◌++◌, length, get_or, take, drop, refl, sym, ap, ◌∙◌, arith, append_assoc, length-drop, length-take, subst, min, Bool, true, false}
 use Rattle.std.specs.Prelude.{nat_le, nat_lt}
 use Rattle.std.proofs.lemmas.Bool.Decides.{nat_tests}
 use Rattle.std.proofs.Math.ListN.{set, length-set}
-use Rattle.std.proofs.Math.Seq.{take-add}
+use Rattle.std.proofs.Math.Seq.{take-add, take-set-lt}
 use Rattle.std.specs.List.{sum_by}
-use Rattle.std.proofs.lemmas.List.{take_all, drop_all, take-append-drop, drop-drop, drop-set, drop-set-lt, drop-set-add, take-set, take-set-le}
-use Rattle.std.proofs.lemmas.List.Sums.{fold_more, sum_by-cons, sum_by-append, sum_by-take-le}
+use Rattle.std.proofs.lemmas.List.{get_or-drop, get_or-take, take_all, drop_all, take-append-drop, drop-drop, drop-set, drop-set-lt, drop-set-add, take-set, take-set-le}
+use Rattle.std.proofs.lemmas.List.Sums.{fold_more, sum_by-cons, sum_by-append, sum_by-set, sum_by-take-drop, sum_by-take-le}
 use Rattle.cord_lines.specs.declared.counting.Counts.{Counts}
 use Rattle.cord_lines.specs.declared.blocks.Block.{Block}
 use Rattle.cord_lines.specs.Counts.{plus, AreFew}
-use Rattle.cord_lines.specs.inner.Blocks.{block_counts, total, AreSumsOf}
+use Rattle.cord_lines.specs.inner.Blocks.{block_counts, exchanged, sum_of_all, total, AreSummed, AreSumsOf, AreWithin}
 use Rattle.cord_lines.proofs.Countings.{plus_assoc, same_counts}
 
 pub total-append : (x y : List Block) → total (x ++ y) ≡ plus (total x) (total y)
@@ -20,10 +20,6 @@ total-append x y = same_counts (total (x ++ y)) (plus (total x) (total y)) (sum_
 pub total-cons : (b : Block) (x : List Block) → total (b ∷ x) ≡ plus (block_counts b) (total x)
 total-cons b x = same_counts (total (b ∷ x)) (plus (block_counts b) (total x)) (sum_by-cons (λ (c : Block). c.bytes) b x)
     (sum_by-cons (λ (c : Block). c.ends) b x) (sum_by-cons (λ (c : Block). c.chars) b x)
-
--- the sum of some counts
-abbrev pub sum_of_all : List Counts → Counts
-sum_of_all cs = record { bytes = sum_by (λ (c : Counts). c.bytes) cs; ends = sum_by (λ (c : Counts). c.ends) cs; chars = sum_by (λ (c : Counts). c.chars) cs }
 
 pub all-cons : (c : Counts) (cs : List Counts) → sum_of_all (c ∷ cs) ≡ plus c (sum_of_all cs)
 all-cons c cs = same_counts (sum_of_all (c ∷ cs)) (plus c (sum_of_all cs)) (sum_by-cons (λ (d : Counts). d.bytes) c cs)
@@ -54,25 +50,126 @@ enough [] bs s = let none : length bs ≡ 0 = ap (λ (y : List Block). length y)
 enough (sum ∷ sums) bs (here, some, more) = omega (arith, enough sums (drop 256 bs) more, length-drop 256 bs)
 
 -- one block is put into the place of another one
-pub sums_set : (k j : ℕ) (sums : List Counts) (bs : List Block) (b : Block) → AreSumsOf sums bs → k * 256 ≤ j → j < k * 256 + 256 →
-    AreSumsOf (set sums k (total (take 256 (drop (k * 256) (set bs j b))))) (set bs j b)
-sums_set k j [] bs b s from to = ap (λ (y : List Block). set y j b) s
-sums_set zero j (sum ∷ sums) bs b (here, some, more) from to =
-    let lt : j < 256 = omega (arith, to) in
-    let none : 0 * 256 ≡ 0 = omega arith in
-    (ap (λ (n : ℕ). total (take 256 (drop n (set bs j b)))) none, rw length-set some, subst (λ (y : List Block). AreSumsOf sums y) (sym (drop-set-lt 256 bs j b lt)) more)
-sums_set (suc k) j (sum ∷ sums) bs b (here, some, more) from to =
+total_set : (bs : List Block) (j : ℕ) (b d : Block) → j < length bs →
+    plus (total (set bs j b)) (block_counts (get_or bs j d)) ≡ plus (total bs) (block_counts b)
+total_set bs j b d lt = same_counts (plus (total (set bs j b)) (block_counts (get_or bs j d))) (plus (total bs) (block_counts b))
+    (sum_by-set (λ (c : Block). c.bytes) bs j b d lt) (sum_by-set (λ (c : Block). c.ends) bs j b d lt)
+    (sum_by-set (λ (c : Block). c.chars) bs j b d lt)
+
+block_within : (bs : List Block) (j : ℕ) (d : Block) → j < length bs → AreWithin (block_counts (get_or bs j d)) (total bs)
+block_within bs j d lt = record {
+  bytes = omega (arith, fold_more (λ (a : ℕ) (b : Block). a + b.bytes) 0 bs j d lt, sum_by-take-le (λ (b : Block). b.bytes) bs (j + 1));
+  ends = omega (arith, fold_more (λ (a : ℕ) (b : Block). a + b.ends) 0 bs j d lt, sum_by-take-le (λ (b : Block). b.ends) bs (j + 1));
+  chars = omega (arith, fold_more (λ (a : ℕ) (b : Block). a + b.chars) 0 bs j d lt, sum_by-take-le (λ (b : Block). b.chars) bs (j + 1));
+}
+
+exchanged_set : (bs : List Block) (j : ℕ) (b d : Block) → j < length bs →
+    exchanged (total bs) (block_counts (get_or bs j d)) (block_counts b) ≡ total (set bs j b)
+exchanged_set bs j b d lt =
+    let both = total_set bs j b d lt in
+    let within = block_within bs j d lt in
+    let bytes = ap (λ (a : Counts). a.bytes) both in
+    let ends = ap (λ (a : Counts). a.ends) both in
+    let chars = ap (λ (a : Counts). a.chars) both in
+    same_counts (exchanged (total bs) (block_counts (get_or bs j d)) (block_counts b)) (total (set bs j b))
+    (omega (arith, bytes, within.bytes)) (omega (arith, ends, within.ends)) (omega (arith, chars, within.chars))
+
+sums_set : (k j : ℕ) (sums : List Counts) (bs : List Block) (b d : Block) (e : Counts) → AreSumsOf sums bs → k * 256 ≤ j → j < k * 256 + 256 →
+    j < length bs → AreSumsOf (set sums k (exchanged (get_or sums k e) (block_counts (get_or bs j d)) (block_counts b))) (set bs j b)
+sums_set k j [] bs b d e s from to lt = ap (λ (y : List Block). set y j b) s
+sums_set zero j (sum ∷ sums) bs b d e (here, some, more) from to lt =
+    let first : j < 256 = omega (arith, to) in
+    let inside : j < length (take 256 bs) = omega (arith, first, lt, length-take 256 bs) in (
+      ap (λ (a : Counts). exchanged a (block_counts (get_or bs j d)) (block_counts b)) here
+          ∙ ap (λ (c : Block). exchanged (total (take 256 bs)) (block_counts c) (block_counts b)) (sym (get_or-take 256 bs j d first))
+          ∙ exchanged_set (take 256 bs) j b d inside ∙ ap total (sym (take-set-lt 256 bs j b first)),
+      rw length-set some,
+      subst (λ (y : List Block). AreSumsOf sums y) (sym (drop-set-lt 256 bs j b first)) more,
+    )
+sums_set (suc k) j (sum ∷ sums) bs b d e (here, some, more) from to lt =
     let ge : 256 ≤ j = omega (arith, from) in
     let at : j ≡ 256 + (j - 256) = omega (arith, ge) in
     let rest : drop 256 (set bs j b) ≡ set (drop 256 bs) (j - 256) b = ap (λ (n : ℕ). drop 256 (set bs n b)) at ∙ drop-set-add 256 bs (j - 256) b in
-    let later = sums_set k (j - 256) sums (drop 256 bs) b more (omega (arith, from)) (omega (arith, from, to)) in
-    let there : drop (suc k * 256) (set bs j b) ≡ drop (k * 256) (set (drop 256 bs) (j - 256) b) =
-    (let n : suc k * 256 ≡ 256 + k * 256 = omega arith in ap (λ (m : ℕ). drop m (set bs j b)) n ∙ sym (drop-drop (k * 256) 256 (set bs j b)) ∙ ap (drop (k * 256)) rest) in (
+    let old : get_or (drop 256 bs) (j - 256) d ≡ get_or bs j d = get_or-drop 256 bs (j - 256) d ∙ ap (λ (n : ℕ). get_or bs n d) (sym at) in
+    let later = sums_set k (j - 256) sums (drop 256 bs) b d e more (omega (arith, from)) (omega (arith, from, to)) (omega (arith, lt, length-drop 256 bs, ge)) in (
       here ∙ ap total (sym (take-set-le 256 bs j b ge)),
       rw length-set some,
-      subst (λ (y : List Block). AreSumsOf (set sums k (total (take 256 (drop (suc k * 256) (set bs j b))))) y) (sym rest)
-          (subst (λ (y : List Block). AreSumsOf (set sums k (total (take 256 y))) (set (drop 256 bs) (j - 256) b)) (sym there) later),
+      subst (λ (y : List Block). AreSumsOf (set sums k (exchanged (get_or sums k e) (block_counts (get_or bs j d)) (block_counts b))) y) (sym rest)
+          (subst (λ (c : Block). AreSumsOf (set sums k (exchanged (get_or sums k e) (block_counts c) (block_counts b))) (set (drop 256 bs) (j - 256) b)) old later),
     )
+
+sum_at : (k : ℕ) (sums : List Counts) (bs : List Block) (e : Counts) → AreSumsOf sums bs → k < length sums →
+    get_or sums k e ≡ total (take 256 (drop (k * 256) bs))
+sum_at k [] bs e s lt = absurd (omega (arith, lt))
+sum_at zero (sum ∷ sums) bs e (here, some, more) lt = let none : 0 ≡ 0 * 256 = omega arith in here ∙ ap (λ (n : ℕ). total (take 256 (drop n bs))) none
+sum_at (suc k) (sum ∷ sums) bs e (here, some, more) lt =
+    let more-is : 256 + k * 256 ≡ suc k * 256 = omega arith in
+    sum_at k sums (drop 256 bs) e more (omega (arith, lt))
+    ∙ ap (λ (y : List Block). total (take 256 y)) (drop-drop (k * 256) 256 bs ∙ ap (λ (n : ℕ). drop n bs) more-is)
+
+-- the sum of the group of a block
+module _ (k j : ℕ) (sums : List Counts) (bs : List Block) (d : Block) (e : Counts) (s : AreSumsOf sums bs) (here : k < length sums)
+    (from : k * 256 ≤ j) (to : j < k * 256 + 256) (lt : j < length bs) where
+  abbrev group : List Block
+  group = take 256 (drop (k * 256) bs)
+
+  sum : get_or sums k e ≡ total group
+  sum = sum_at k sums bs e s here
+
+  same : get_or group (j - k * 256) d ≡ get_or bs j d
+  same = (let at : k * 256 + (j - k * 256) ≡ j = omega (arith, from) in
+      get_or-take 256 (drop (k * 256) bs) (j - k * 256) d (omega (arith, from, to)) ∙ get_or-drop (k * 256) bs (j - k * 256) d
+      ∙ ap (λ (n : ℕ). get_or bs n d) at)
+
+  inside : j - k * 256 < length group
+  inside = omega (arith, from, to, lt, length-take 256 (drop (k * 256) bs), length-drop (k * 256) bs)
+
+  group_within : AreWithin (block_counts (get_or bs j d)) (get_or sums k e)
+  group_within = subst (λ (c : Block). AreWithin (block_counts c) (get_or sums k e)) same
+      (subst (λ (a : Counts). AreWithin (block_counts (get_or group (j - k * 256) d)) a) (sym sum) (block_within group (j - k * 256) d inside))
+
+  group_few : (b : Block) → AreFew (exchanged (total bs) (block_counts (get_or bs j d)) (block_counts b)) →
+      AreFew (exchanged (get_or sums k e) (block_counts (get_or bs j d)) (block_counts b))
+  group_few b f = (let bytes = ap (λ (a : Counts). a.bytes) sum in
+      let ends = ap (λ (a : Counts). a.ends) sum in
+      let chars = ap (λ (a : Counts). a.chars) sum in
+      record {
+        bytes = omega (arith, f.bytes, group_within.bytes, bytes, sum_by-take-le (λ (c : Block). c.bytes) (drop (k * 256) bs) 256,
+            sum_by-take-drop (λ (c : Block). c.bytes) bs (k * 256));
+        ends = omega (arith, f.ends, group_within.ends, ends, sum_by-take-le (λ (c : Block). c.ends) (drop (k * 256) bs) 256,
+            sum_by-take-drop (λ (c : Block). c.ends) bs (k * 256));
+        chars = omega (arith, f.chars, group_within.chars, chars, sum_by-take-le (λ (c : Block). c.chars) (drop (k * 256) bs) 256,
+            sum_by-take-drop (λ (c : Block). c.chars) bs (k * 256));
+      })
+
+-- a block is replaced, and its part of the sums
+module _ (k j : ℕ) (sums : List Counts) (bs : List Block) (b d : Block) (e all old new : Counts) (groups : AreSumsOf sums bs) (whole : all ≡ total bs)
+    (sum-is : e ≡ get_or sums k e) (old-is : old ≡ block_counts (get_or bs j d)) (new-is : new ≡ block_counts b) (here : k < length sums)
+    (from : k * 256 ≤ j) (to : j < k * 256 + 256) (lt : j < length bs) where
+  part : exchanged e old new ≡ exchanged (get_or sums k e) (block_counts (get_or bs j d)) (block_counts b)
+  part = ap (λ (a : Counts). exchanged a old new) sum-is ∙ ap (λ (a : Counts). exchanged (get_or sums k e) a new) old-is
+      ∙ ap (exchanged (get_or sums k e) (block_counts (get_or bs j d))) new-is
+
+  pub sum_within : AreWithin old e
+  sum_within = subst (λ (a : Counts). AreWithin a e) (sym old-is) (subst (λ (a : Counts). AreWithin (block_counts (get_or bs j d)) a) (sym sum-is)
+      (group_within k j sums bs d e groups here from to lt))
+
+  pub all_within : AreWithin old all
+  all_within = subst (λ (a : Counts). AreWithin a all) (sym old-is) (subst (λ (a : Counts). AreWithin (block_counts (get_or bs j d)) a) (sym whole)
+      (block_within bs j d lt))
+
+  pub sum_few : AreFew (total (set bs j b)) → AreFew (exchanged e old new)
+  sum_few f = subst AreFew (sym part) (group_few k j sums bs d e groups here from to lt b (subst AreFew (sym (exchanged_set bs j b d lt)) f))
+
+  pub all_is : exchanged all old new ≡ total (set bs j b)
+  all_is = ap (λ (a : Counts). exchanged a old new) whole ∙ ap (λ (a : Counts). exchanged (total bs) a new) old-is
+      ∙ ap (exchanged (total bs) (block_counts (get_or bs j d))) new-is ∙ exchanged_set bs j b d lt
+
+  pub summed : (s a : Counts) → s ≡ exchanged e old new → a ≡ exchanged all old new → AreSummed (set sums k s) a (set bs j b)
+  summed s a s-is a-is = record {
+    groups = subst (λ (c : Counts). AreSumsOf (set sums k c) (set bs j b)) (sym (s-is ∙ part)) (sums_set k j sums bs b d e groups from to lt);
+    all = a-is ∙ all_is;
+  }
 
 -- one more
 pub one_sum_more : (cs : List Counts) (i : ℕ) (d : Counts) → i < length cs → sum_of_all (take (i + 1) cs) ≡ plus (sum_of_all (take i cs)) (get_or cs i d)

@@ -2,7 +2,7 @@
 ghost use Rattle.std.specs.Prelude.{◌≡◌, ◌+◌, ◌-◌, ◌<◌, ◌≤◌, ◌^◌, ◌++◌, IfOk, OnOk, IsErr, IsOkUnless, [], length, take, drop, slice_set};
 ghost use Rattle.cord_io.specs.declared.CordError.TheVariants.{NoMemory};
 ghost use Rattle.cord_lines.specs.Counts.{plus, AreFew, AreNarrow};
-ghost use Rattle.cord_lines.specs.inner.Blocks.{amount, block_counts, total, AreSumsOf};
+ghost use Rattle.cord_lines.specs.inner.Blocks.{amount, block_counts, sum_of_all, total, AreSumsOf};
 
 use crate::counting::Counts;
 use cord_io::CordError;
@@ -71,33 +71,36 @@ pub(crate) struct Found {
     pub(crate) before: Counts,
 }
 
-/// The blocks of a text in order, with the sums of each `GROUP` of them.
+/// The blocks of a text in order, with the sums of each `GROUP` of them, and of all.
 #[derive(Drop)]
 pub(crate) struct Blocks {
     blocks: Vec<Block>,
     sums: Vec<Counts>,
+    all: Counts,
 }
 
 impl Model for Blocks {
     ghost use Rattle.std.specs.Prelude.{List};
     ghost use Rattle.cord_lines.specs.declared.blocks.Block.{Block};
-    ghost use Rattle.cord_lines.specs.inner.Blocks.{AreSumsOf};
+    ghost use Rattle.cord_lines.specs.inner.Blocks.{AreSummed};
 
     ghost Value = { List Block };
 
     ghost view = { λ b. b.blocks.items };
 
-    ghost invariant = { λ b. AreSumsOf b.sums.items b.blocks.items };
+    ghost invariant = { λ b. AreSummed b.sums.items b.all b.blocks.items };
 }
 
 impl Blocks {
     /// These blocks. Refused only when out of memory.
     pub(crate) fn of(alloc: Global, blocks: Vec<Block>) -> Result<Blocks, CordError>
+        requires { AreFew (total blocks.items) }
         ensures blocks { IfOk result (λ made. made ≡ blocks.items) }
         ensures refused { IsOkUnless result NoMemory }
     {
         let sums = sums_of(alloc, &blocks)?;
-        Ok(Blocks { blocks, sums })
+        let all = sum_of_sums(&sums);
+        Ok(Blocks { blocks, sums, all })
     }
 
     /// No blocks, which take no memory.
@@ -107,6 +110,7 @@ impl Blocks {
         Blocks {
             blocks: Vec::new(alloc),
             sums: Vec::new(alloc),
+            all: Counts::NONE,
         }
     }
 
@@ -127,14 +131,9 @@ impl Blocks {
 
     /// The counts of all blocks.
     pub(crate) fn counts(&self) -> Counts
-        requires { AreFew (total self.now) }
         ensures { result ≡ total self.now }
     {
-        let mut counts = Counts::NONE;
-        for sum in &self.sums {
-            counts = counts.plus(*sum);
-        }
-        counts
+        self.all
     }
 
     /// The last block with no more than `target` before it: of no blocks none.
@@ -186,13 +185,16 @@ impl Blocks {
 
     // Puts a block into the place of another one.
     fn set(&mut self, index: usize, block: Block)
-        requires { index < length self.old }
+        requires inside { index < length self.old }
+        requires few { AreFew (total (slice_set self.old index block)) }
         ensures { self.new ≡ slice_set self.old index block }
     {
-        self.blocks[index] = block;
+        let old = self.blocks[index].counts();
+        let new = block.counts();
         let group = index / GROUP;
-        let rest = &self.blocks[group * GROUP..];
-        self.sums[group] = sum_of(&rest[..rest.len().min(GROUP)]);
+        self.blocks[index] = block;
+        self.sums[group] = self.sums[group].exchanged(old, new);
+        self.all = self.all.exchanged(old, new);
     }
 
     /// Puts blocks into the place of `count` others. Refused only when out of memory, and then all is as it was.
@@ -203,7 +205,8 @@ impl Blocks {
         count: usize,
         fresh: &[Block],
     ) -> Result<(), CordError>
-        requires { start + count ≤ length self.old }
+        requires inside { start + count ≤ length self.old }
+        requires few { AreFew (total (take start self.old ++ fresh.now ++ drop (start + count) self.old)) }
         ensures blocks { OnOk result (self.new ≡ take start self.old ++ fresh.now ++ drop (start + count) self.old) }
         ensures unchanged { IsErr result → self.new ≡ self.old }
         ensures refused { IsOkUnless result NoMemory }
@@ -253,6 +256,18 @@ fn sum_of(blocks: &[Block]) -> Counts
         sum = sum.plus(block.counts());
     }
     sum
+}
+
+// The sum of the sums of groups.
+fn sum_of_sums(sums: &[Counts]) -> Counts
+    requires { AreFew (sum_of_all sums.now) }
+    ensures { result ≡ sum_of_all sums.now }
+{
+    let mut all = Counts::NONE;
+    for sum in sums {
+        all = all.plus(*sum);
+    }
+    all
 }
 
 // The sums of all groups.

@@ -2,6 +2,7 @@
 ghost use Rattle.std.specs.Prelude.{◌≡◌, ◌+◌, ◌<◌, ◌≤◌, ◌^◌, length, true, if◌then◌else◌, ◌||◌, nat_lt, nat_le};
 ghost use Rattle.cord.specs.Chunks.{chunk_bytes};
 ghost use Rattle.cord_lines.specs.Counts.{begins_char, chars_in, counts_of, ends_in, plus, AreFew};
+ghost use Rattle.cord_lines.specs.inner.Blocks.{exchanged, AreWithin};
 
 use cord::Chunk;
 
@@ -14,7 +15,7 @@ pub(crate) struct Counts {
 }
 
 /// The most bytes that are counted in numbers of one byte.
-const FEW: usize = 192;
+const FEW: usize = 224;
 
 impl Counts {
     /// The counts of no bytes.
@@ -33,6 +34,19 @@ impl Counts {
             bytes: self.bytes + other.bytes,
             ends: self.ends + other.ends,
             chars: self.chars + other.chars,
+        }
+    }
+
+    /// These counts with others in the place of a part of them.
+    pub(crate) fn exchanged(self, old: Counts, new: Counts) -> Counts
+        requires within { AreWithin old self }
+        requires few { AreFew (exchanged self old new) }
+        ensures { result ≡ exchanged self old new }
+    {
+        Counts {
+            bytes: self.bytes - old.bytes + new.bytes,
+            ends: self.ends - old.ends + new.ends,
+            chars: self.chars - old.chars + new.chars,
         }
     }
 }

@@ -64,7 +64,7 @@ impl LineIndex {
         })
     }
 
-    /// The number of lines. Constant time but for a pass over the sums.
+    /// The number of lines. Constant time.
     pub fn lines(&self) -> u64
         ensures { (x : List ℕ) → IsIndexOf self.now x → result ≡ length (lines x) }
     {

@@ -1,11 +1,10 @@
-use Rattle.std.proofs.Common.{◌≡◌, ◌∙◌, ℕ, List, ◌+◌, ◌-◌, refl, ◌++◌, length, take, drop, ap, sym, subst, arith, length-take}
+use Rattle.std.proofs.Common.{◌≡◌, ◌∙◌, ℕ, List, ◌+◌, ◌-◌, ◌≤◌, refl, ◌++◌, length, take, drop, ap, sym, subst, arith}
 use Rattle.std.proofs.lemmas.List.Sums.{sum_by-take-le}
-use Rattle.cord_lines.specs.declared.counting.Counts.{Counts}
+use Rattle.cord_io.specs.declared.TheConstants.{MAX_LEN}
 use Rattle.cord_lines.specs.declared.blocks.Block.{Block}
-use Rattle.cord_lines.specs.inner.Blocks.{total}
 use Rattle.cord_lines.specs.inner.Cuts.{IsCut, AreOfSomeText}
-use Rattle.cord_lines.proofs.Cuts.{total_is, modest_by}
-use Rattle.cord_lines.proofs.Edits.{of_some, renewed}
+use Rattle.cord_lines.proofs.Cuts.{few_by, modest_by}
+use Rattle.cord_lines.proofs.Edits.{renewed, replaced_some}
 use Rattle.cord_lines.proofs.renewing.renew.Goals as goal
 
 pub span_of-span-requires-clause-modest : goal.span_of-span-requires-clause-modest
@@ -26,36 +25,37 @@ cut-requires-clause-inside c =
       sum_by-take-le (λ (b : Block). b.bytes) c.args.blocks.now (span.first + span.count),
     )
 
+pub replace-requires-clause-few : goal.replace-requires-clause-few
+replace-requires-clause-few c =
+    let bs = c.args.blocks.now in
+    let after = c.args.after.now in
+    let span = c.span_of-span.result in
+    let edit = c.args.edit in
+    let news = c.in_ok-fresh.fresh.items in
+    let len : ℕ = span.bytes - edit.removed + edit.inserted in
+    let all : (span.start + len) - span.start ≡ len = omega arith in
+    let cut : IsCut news (take len (drop span.start after)) =
+    subst (λ (n : ℕ). IsCut news (take n (drop span.start after))) all c.in_ok-fresh.ensures.cut in
+    let le : length after ≤ MAX_LEN = omega (arith, c.len-len_after.ensures.value, c.len-len_after.ensures.limit) in
+    few_by (take span.first bs ++ c.deref.result.now ++ drop (span.first + span.count) bs)
+    (subst (λ (ys : List Block). AreOfSomeText (take span.first bs ++ ys ++ drop (span.first + span.count) bs)) (sym c.deref.ensures.value)
+    (replaced_some bs news c.requires.blocks span edit after c.span_of-span.ensures c.requires.edit le cut))
+
 pub returns-clause-blocks : goal.returns-clause-blocks
 returns-clause-blocks c =
     let bs = c.args.blocks.now in
     let after = c.args.after.now in
     let span = c.span_of-span.result in
     let edit = c.args.edit in
-    let covers = c.span_of-span.ensures in
-    let fits = c.requires.edit in
     let news = c.in_ok-fresh.fresh.items in
-    let some = c.requires.blocks in
     let len : ℕ = span.bytes - edit.removed + edit.inserted in
     let all : (span.start + len) - span.start ≡ len = omega arith in
     let cut : IsCut news (take len (drop span.start after)) =
     subst (λ (n : ℕ). IsCut news (take n (drop span.start after))) all c.in_ok-fresh.ensures.cut in
-    let whole : (total bs).bytes ≡ length some.text = ap (λ (a : Counts). a.bytes) (total_is bs some.text some.cut) in
+    let le : length after ≤ MAX_LEN = omega (arith, c.len-len_after.ensures.value, c.len-len_after.ensures.limit) in
     subst (λ (ys : List Block). AreOfSomeText ys)
     (sym (c.in_ok-replace.ensures.blocks ∙ ap (λ (ys : List Block). take span.first bs ++ ys ++ drop (span.first + span.count) bs) c.deref.ensures.value))
-    (of_some bs news some.text some.cut span.first span.count span.start span.bytes covers.span.start covers.span.end
-    (take len (drop span.start after)) cut (omega (
-      arith,
-      whole,
-      covers.span.end,
-      covers.from,
-      covers.to,
-      fits.len,
-      c.len-len_after.ensures.value,
-      c.len-len_after.ensures.limit,
-      length-take len (drop span.start after),
-      sum_by-take-le (λ (b : Block). b.bytes) bs (span.first + span.count),
-    )))
+    (replaced_some bs news c.requires.blocks span edit after c.span_of-span.ensures c.requires.edit le cut)
 
 pub returns-clause-cut : goal.returns-clause-cut
 returns-clause-cut c = λ before here edited.

@@ -2,15 +2,15 @@ use Rattle.std.proofs.Common.{◌≡◌, ◌∙◌, ◌*◌, ◌<◌, ◌≤◌,
 use Rattle.std.proofs.lemmas.List.{take_all}
 use Rattle.cord_lines.specs.declared.counting.Counts.{Counts}
 use Rattle.cord_lines.specs.declared.blocks.Block.{Block}
-use Rattle.cord_lines.specs.inner.Blocks.{total, AreSumsOf}
-use Rattle.cord_lines.proofs.Sums.{sum_of_all, few_sum_next, then_sum, sums_prefix, sums_all, sums_as, starts_inside}
+use Rattle.cord_lines.specs.inner.Blocks.{sum_of_all, total, AreSumsOf}
+use Rattle.cord_lines.proofs.Sums.{few_sum_next, then_sum, sums_prefix, sums_all, sums_as, starts_inside}
 use Rattle.cord_lines.proofs.blocks.Blocks.group_with.Goals as goal
 
 pub plus-after-requires : goal.plus-after-requires
 plus-after-requires c =
     let items = c.deref-sum-items.result.now in
     let sums : AreSumsOf items c.args.self.now =
-    sums_as items c.self.inside.sums.items c.self.inside.blocks.items c.args.self.now c.deref-sum-items.ensures.value c.self.view_is c.self.invariant in
+    sums_as items c.self.inside.sums.items c.self.inside.blocks.items c.args.self.now c.deref-sum-items.ensures.value c.self.view_is c.self.invariant.groups in
     few_sum_next c.loop-index.before items c.args.self.now c.loop-index.index _ sums c.requires c.loop-index-test.true
     c.loop-index.invariant.sum
 
@@ -24,7 +24,7 @@ pub overflow_mul-result : goal.overflow_mul-result
 overflow_mul-result c =
     let lt : c.loop-index.index < length c.self.inside.sums.items =
     omega (arith, c.loop-index-test.true, ap (λ (y : List Counts). length y) c.deref-sum-items.ensures.value) in
-    let start = starts_inside c.loop-index.index c.self.inside.sums.items c.self.inside.blocks.items c.self.invariant lt in
+    let start = starts_inside c.loop-index.index c.self.inside.sums.items c.self.inside.blocks.items c.self.invariant.groups lt in
     let same : length c.as_slice-blocks.result.now ≡ length c.self.inside.blocks.items = ap (λ (y : List Block). length y) c.as_slice-blocks.ensures.value in
     let fits : length c.as_slice-blocks.result.now < 2 ^ 64 = omega (arith, c.as_slice-blocks.type_inv) in
     record { fits = omega (arith, start, same, fits) }
@@ -33,11 +33,11 @@ pub returns-then-target-of : goal.returns-then-target-of
 returns-then-target-of c =
     let lt : c.loop-index.index < length c.self.inside.sums.items =
     omega (arith, c.loop-index-test.true, ap (λ (y : List Counts). length y) c.deref-sum-items.ensures.value) in
-    let start = starts_inside c.loop-index.index c.self.inside.sums.items c.self.inside.blocks.items c.self.invariant lt in
+    let start = starts_inside c.loop-index.index c.self.inside.sums.items c.self.inside.blocks.items c.self.invariant.groups lt in
     record {
       inside = omega (arith, start, ap (λ (y : List Block). length y) c.self.view_is);
       before = c.loop-index.invariant.sum ∙ ap (λ (y : List Counts). sum_of_all (take c.loop-index.index y)) c.deref-sum-items.ensures.value
-          ∙ sums_prefix c.loop-index.index c.self.inside.sums.items c.self.inside.blocks.items c.self.invariant
+          ∙ sums_prefix c.loop-index.index c.self.inside.sums.items c.self.inside.blocks.items c.self.invariant.groups
           ∙ ap (λ (y : List Block). total (take (c.loop-index.index * 256) y)) c.self.view_is;
       most = c.loop-index.invariant.most;
     }
@@ -52,7 +52,7 @@ returns c =
       inside = omega (arith, len);
       before = c.loop-index.invariant.sum ∙ ap (λ (y : List Counts). sum_of_all (take c.loop-index.index y)) c.deref-sum-items.ensures.value
           ∙ ap sum_of_all (take_all c.loop-index.index c.self.inside.sums.items few)
-          ∙ sums_all c.self.inside.sums.items c.self.inside.blocks.items c.self.invariant ∙ ap total c.self.view_is
+          ∙ sums_all c.self.inside.sums.items c.self.inside.blocks.items c.self.invariant.groups ∙ ap total c.self.view_is
           ∙ ap total (sym (take_all (length c.as_slice-blocks.result.now) c.args.self.now (omega (arith, len))));
       most = c.loop-index.invariant.most;
     }

@@ -1,6 +1,5 @@
 use Rattle.std.proofs.Common.{◌≡◌, ◌≤◌, take}
-use Rattle.cord_lines.specs.inner.Blocks.{amount}
-use Rattle.cord_lines.proofs.Sums.{sum_of_all}
+use Rattle.cord_lines.specs.inner.Blocks.{amount, sum_of_all}
 use Rattle.cord_lines.proofs.blocks.Blocks.group_with.Given as goal
 
 abbrev pub invariant-loop-index : goal.invariant-loop-index

@@ -1,8 +1,5 @@
-use Rattle.cord_lines.proofs.Cuts.{cut_from, index_from, few_by}
+use Rattle.cord_lines.proofs.Cuts.{cut_from, index_from}
 use Rattle.cord_lines.proofs.index.LineIndex.edited.Goals as goal
-
-pub counts-requires : goal.counts-requires
-counts-requires c = few_by c.self.inside.blocks c.self.invariant
 
 pub returns-clause-index : goal.returns-clause-index
 returns-clause-index c = λ before is edit.

@@ -4,7 +4,7 @@ use Rattle.cord_lines.specs.declared.counting.Counts.{Counts}
 use Rattle.cord_lines.specs.Counts.{ends_in}
 use Rattle.cord_lines.specs.Index.{Indexed}
 use Rattle.cord_lines.proofs.Linings.{line_count}
-use Rattle.cord_lines.proofs.Cuts.{few_by, modest_by, cut_from, total_is}
+use Rattle.cord_lines.proofs.Cuts.{modest_by, cut_from, total_is}
 use Rattle.cord_lines.proofs.index.LineIndex.lines.Goals as goal
 
 byte_is : (is : Bool) → bool_byte is ≡ cond is 1 0
@@ -19,9 +19,6 @@ pub overflow_add-result : goal.overflow_add-result
 overflow_add-result c =
     let ends = ap (λ (a : Counts). a.ends) c.counts.ensures in
     omega (arith, ends, (modest_by c.self.inside.blocks c.self.invariant).ends, c.from.ensures ∙ byte_is c.self.inside.lacks_end, unit_le c.self.inside.lacks_end)
-
-pub counts-requires : goal.counts-requires
-counts-requires c = few_by c.self.inside.blocks c.self.invariant
 
 pub returns : goal.returns
 returns c = λ x is.

@@ -1,8 +1,14 @@
 use Rattle.std.proofs.Common.{List, ℕ, sym, subst, arith}
 use Rattle.cord_lines.specs.declared.blocks.Block.{Block}
 use Rattle.cord_lines.specs.inner.Cuts.{IsCut}
-use Rattle.cord_lines.proofs.Cuts.{all_of, index_from}
+use Rattle.cord_lines.proofs.Cuts.{all_of, few, index_from, modest}
 use Rattle.cord_lines.proofs.index.LineIndex.of.Goals as goal
+
+pub of-requires : goal.of-requires
+of-requires c =
+    let all = all_of c.args.text.now c.len.result c.len.ensures.value in
+    few c.in_ok-blocks.blocks.items (modest c.in_ok-blocks.blocks.items c.args.text.now
+    (subst (λ (x : List ℕ). IsCut c.in_ok-blocks.blocks.items x) all c.in_ok-blocks.ensures.cut) (omega (arith, c.len.ensures.value, c.len.ensures.limit)))
 
 pub invariant_of-result : goal.invariant_of-result
 invariant_of-result c =
