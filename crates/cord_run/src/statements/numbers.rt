@@ -12,7 +12,6 @@ ghost use Rattle.cord_syntax.specs.declared.statements.Statement.{Statement};
 ghost use Rattle.cord_syntax.specs.declared.statements.Statement.TheVariants as statements;
 ghost use Rattle.cord_run.specs.inner.Numbers.{CountsFinding, FindsOver, HasRead, in_i64, number_or_stop};
 ghost use Rattle.cord_run.specs.inner.Entries.{content_in, cord_in, HasNumber, IsOver, length_in};
-ghost use Rattle.cord_run.specs.inner.Appends.{IsSum};
 ghost use Rattle.cord_run.specs.inner.Statements.{MeansOver, StaysOver};
 ghost use Rattle.cord_run.specs.inner.Outcomes.{CountsReads};
 
@@ -46,20 +45,14 @@ pub(crate) fn assign_found(
     }
 }
 
-/// The computation of a number that a statement is, where it looks at no text.
+/// The computation of a number that a statement is: it looks at no text.
 #[inline(always)]
-pub(crate) fn sum_of(statement: &Statement) -> Option<Computation<'_>>
-    ensures is { IfSome result (λ computation. statement_of (line_of statement.now) (families.Computation computation)
+pub(crate) fn computation_of(statement: &Statement) -> Option<Computation<'_>>
+    ensures { IfSome result (λ computation. statement_of (line_of statement.now) (families.Computation computation)
         ≡ statement.now) }
-    ensures sum { IfSome result (λ _. IsSum statement.now) }
 {
     match statement.family() {
-        Family::Computation(computation) => match computation {
-            Computation::Len { .. } => None,
-            Computation::Assign { .. } | Computation::Add { .. } | Computation::Sub { .. } => {
-                Some(computation)
-            }
-        },
+        Family::Computation(computation) => Some(computation),
         _ => None,
     }
 }
