@@ -10,6 +10,8 @@ pub mod Printing
 pub mod Lining
 pub mod Chunking
 pub mod Counting
+pub mod Hashing
+pub mod PassingLines
 pub mod LineNumbers
 pub mod Repeating
 pub mod Meanings

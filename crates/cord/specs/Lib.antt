@@ -3,6 +3,7 @@ pub mod Places
 pub mod Prints
 pub mod Lines
 pub mod Chunks
+pub mod Hashes
 pub mod Repeats
 pub mod Means
 pub mod inner

@@ -59,6 +59,7 @@ mod count;
 mod doubling;
 mod edit;
 mod editor;
+mod hash;
 mod join;
 mod lines;
 mod make;

@@ -3,6 +3,7 @@ ghost use Rattle.std.specs.Prelude.{◌≡◌, ◌-◌, ◌<◌, ◌≤◌, ◌�
 ghost use Rattle.cord.specs.Lines.{lines, bare_lines, lines_as};
 
 use crate::Text;
+use crate::count::{count_in, nth_in};
 use cord_io::CordError;
 use std::alloc::Global;
 use std::marker::Model;
@@ -75,12 +76,19 @@ impl Text {
         ensures line { bare_lines (drop result self.now) ≡ drop n (bare_lines self.now) }
         ensures inside { result ≤ length self.now }
     {
+        if n == 0 {
+            return 0;
+        }
+        let mut left = n - 1;
         let mut start = 0;
-        for _line in 0..n {
-            if start == self.len() {
-                return start;
+        let mut chunks = self.chunks();
+        while let Some(chunk) = chunks.next() {
+            let ends = count_in(chunk, b'\n');
+            if left < ends {
+                return start + nth_in(chunk, b'\n', left) + 1;
             }
-            start = self.line_end(start, false).1;
+            left -= ends;
+            start += chunk.len();
         }
         start
     }

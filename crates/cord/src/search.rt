@@ -7,7 +7,7 @@ ghost use Rattle.cord.specs.Places.{last_before, BeginsWith, EndsWith};
 
 use crate::{NoSource, Text};
 use cord_io::{CordError, MAX_LEN};
-use cord_search::{MOST_BYTES, chr, fetch, find_bytes, rchr, rstr, str, str_in};
+use cord_search::{MOST_BYTES, chr, fetch, find_bytes_in, rchr, rstr, str, str_in};
 use std::alloc::Global;
 
 impl Text {
@@ -88,17 +88,36 @@ impl Text {
         ensures short { length pattern.now ≤ MOST_BYTES → IsOk result }
         ensures refused { IsOkUnless result CordError.NoMemory }
     {
+        self.find_in(alloc, pattern, start, self.len())
+    }
+
+    /// As `find`, in the first `end` bytes: the first place from `start` on where `pattern` stands and ends at `end` or
+    /// before.
+    pub fn find_in(
+        &self,
+        alloc: Global,
+        pattern: &[u8],
+        start: u64,
+        end: u64,
+    ) -> Result<Option<u64>, CordError>
+        ensures first { IfOk result (λ found. found ≡ first (take end self.now) start pattern.now) }
+        ensures from { IfOk result (λ found. IfSome found (λ place. start ≤ place)) }
+        ensures before { IfOk result (λ found. IfSome found (λ place. place + length pattern.now ≤ end)) }
+        ensures inside { IfOk result (λ found. IfSome found (λ place. place + length pattern.now ≤ length self.now)) }
+        ensures short { length pattern.now ≤ MOST_BYTES → IsOk result }
+        ensures refused { IsOkUnless result CordError.NoMemory }
+    {
         if pattern.is_empty() {
-            return Ok(self.find_text(&Text::empty(), start));
+            return Ok(self.find_text_in(&Text::empty(), start, end));
         }
-        if pattern.len() as u64 > self.len() {
+        if pattern.len() as u64 > self.len().min(end) {
             return Ok(None);
         }
         if MOST_BYTES < pattern.len() {
             let pattern = Text::from_bytes(alloc, pattern)?;
-            return Ok(self.find_text(&pattern, start));
+            return Ok(self.find_text_in(&pattern, start, end));
         }
-        let Ok(place) = find_bytes(&self.cord, start, pattern, &mut NoSource) else {
+        let Ok(place) = find_bytes_in(&self.cord, start, end, pattern, &mut NoSource) else {
             unreachable!()
         };
         Ok(place)

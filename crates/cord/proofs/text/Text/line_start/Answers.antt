@@ -1,14 +1,18 @@
-use Rattle.std.proofs.Common.{◌-◌, take, drop, arith}
-use Rattle.cord.proofs.LineNumbers.{next_start, stays_at_end}
+use Rattle.std.proofs.Common.{◌-◌, arith}
+use Rattle.cord.specs.Chunks.{chunk_bytes}
+use Rattle.cord.proofs.PassingLines.{after_chunk, at_end}
 use Rattle.cord.proofs.text.Text.line_start.Goals as goal
 
-pub returns-then-start-len-clause-line : goal.returns-then-start-len-clause-line
-returns-then-start-len-clause-line c = (stays_at_end c.args.self.now c.loop-line._line c.loop-line.start c.loop-line.invariant c.args.n
-    (omega arith) (omega (arith, c.if-start-len.true, c.len.ensures.value))).rest
+pub returns-then-left-ends-clause-line : goal.returns-then-left-ends-clause-line
+returns-then-left-ends-clause-line c =
+    let l = c.loop-chunk in
+    let found = c.nth_in.ensures in
+    at_end c.args.self.now c.args.n l.chunks l.left l.start l.invariant (chunk_bytes c.in-Some.chunk) c.next.new.self c.in-Some.ensures.steps.1
+    c.nth_in.result found.inside found.here found.before
 
-pub loop-line-preserved : goal.loop-line-preserved
-loop-line-preserved c =
-    let start = c.loop-line.start in
-    let end = c.line_end-start.result in
-    next_start c.args.self.now c.loop-line._line start c.loop-line.invariant (take (end.0 - start) (drop start c.args.self.now)) end.1
-    c.line_end-start.ensures.inside c.line_end-start.ensures.line
+pub loop-chunk-preserved : goal.loop-chunk-preserved
+loop-chunk-preserved c =
+    let l = c.loop-chunk in
+    rw c.len-start.ensures (after_chunk c.args.self.now c.args.n l.chunks l.left l.start l.invariant (chunk_bytes c.in-Some.chunk)
+    c.next.new.self c.in-Some.ensures.steps.1 (l.left - c.count_in-ends.result)
+    (omega (arith, c.count_in-ends.ensures, c.if-left-ends.false)))
