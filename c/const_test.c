@@ -60,6 +60,8 @@ static void fill(void) {
     DO(zc_lazy_from_cord(&held->x, &held->lazy));
     DO(zc_edit_set(&held->x, &held->edit));
     DO(zc_lines_set(&held->x, &held->lines));
+    DO(zc_edit_bytes(&held->edit, 5, "b", 1));
+    DO(zc_edit_remove(&held->edit, 5, 1));
     DO(zc_ext_cord(&held->ext, &held->x));
     DO(zc_pos_set(&held->x, 5004, &held->position));
     DO(zc_share(&held->y, &held->args[0].text));
@@ -77,7 +79,7 @@ static void ask(int null) {
     EXPECT(zc_chr(&held->x, 0, 'o', &place) == ZC_OK && place == 5000);
     EXPECT(zc_rchr(&held->x, 12900, 'o', &place) == ZC_OK && place == 12891);
     EXPECT(zc_starts_with(&held->x, "aa", 2) == 1 && zc_ends_with(&held->x, "leaf\n", 5) == 1);
-    EXPECT(zc_count(&held->x, '\n') == 100);
+    EXPECT(zc_count(&held->x, '\n') == 100 && zc_hash(&held->x) != zc_hash(&held->none));
     EXPECT(zc_to_bytes(&held->x, 4990, bytes, 200) == ZC_OK && memcmp(bytes, "aaaaaaaaaaone", 13) == 0);
     EXPECT(zc_read(&held->x, 12890, bytes, 200, &got) == ZC_OK && got == 10);
     EXPECT(zc_edit_len(&held->edit) == 12900 && zc_ext_len(&held->ext) == 12900);
@@ -117,6 +119,7 @@ static void make(void) {
     DO(zc_splice(&out, 1, 2, &held->y));
     EXPECT(zc_str(&held->x, 0, &held->y, &at) == ZC_OK && at == 4000);
     EXPECT(zc_find(&held->x, 0, "\none", 4, &at) == ZC_OK && at == 5078);
+    EXPECT(zc_find_in(&held->x, 0, 5082, "\none", 4, &at) == ZC_OK && at == 5078);
     EXPECT(zc_str_in(&held->x, 0, 9000, &held->y, &at) == ZC_OK && at == 4000);
     EXPECT(zc_rstr(&held->x, 12900, &held->y, &at) == ZC_OK);
     EXPECT(zc_rfind(&held->x, 12900, "one", 3, &at) == ZC_OK && at > 5078);
@@ -127,6 +130,8 @@ static void make(void) {
     DO(zc_sprintf("%s", 2, held->args, 1, &out, &at));
     EXPECT(zc_equal(&out, &held->y, &order) == ZC_OK && order == 1);
     DO(zc_chunks_set(&held->x, 0, &chunks));
+    DO(zc_edit_to_cord(&held->edit, &out));
+    EXPECT(zc_equal(&out, &held->x, &order) == ZC_OK && order == 1);
     DO(zc_edit_set(&held->x, &edit));
     DO(zc_edit_cord(&edit, 1, 2, &held->y));
     DO(zc_lines_set(&held->x, &lines));

@@ -41,7 +41,7 @@ static text position_text;
 static uint64_t position_index = UINT64_MAX;
 static zc_chunks chunks;
 static text chunks_text;
-static size_t chunks_next;
+static size_t chunks_begin, chunks_next; /* of the chunk that was reached */
 static zc_files files;
 static unsigned char file_bytes[FILES][FILE_LENGTH];
 static uint32_t file_numbers[FILES];
@@ -380,14 +380,27 @@ static void search(size_t x, size_t y) {
     CHECK(zc_rchr(&cords[x], start, byte, &place) == ZC_OK && place == last_place(&texts[x], start, byte));
 }
 
+/* Searches that end before a place: each of them takes no memory, as the bytes are few. */
 static void search_before(size_t x, size_t y, uint64_t start, uint64_t end) {
     uint64_t place = 7;
     text whole = texts[x];
     whole.count = smaller(end, whole.count);
+    unsigned char *block = block_of(texts[y].bytes, texts[y].count);
+    refuse_in = 1;
+    CHECK(zc_find_in(&cords[x], start, end, block, texts[y].count, &place) == ZC_OK);
+    CHECK(place == first_place(&whole, start, texts[y].bytes, texts[y].count));
+    refuse_in = 0;
+    free(block);
     CHECK(zc_str_in(&cords[x], start, end, &cords[y], &place) == ZC_OK);
     CHECK(place == first_place(&whole, start, texts[y].bytes, texts[y].count));
     CHECK(zc_rstr(&cords[x], end, &cords[y], &place) == ZC_OK);
     CHECK(place == last_place_of(&texts[x], end, texts[y].bytes, texts[y].count));
+}
+
+static uint64_t hash_of(const text *x) {
+    uint64_t sum = UINT64_C(14695981039346656037);
+    for (size_t i = 0; i < x->count; i++) sum = (sum ^ x->bytes[i]) * UINT64_C(1099511628211);
+    return sum;
 }
 
 static void search_cord(size_t x, size_t y) {
@@ -399,7 +412,7 @@ static void search_cord(size_t x, size_t y) {
         CHECK(place == 7);
     search_before(x, y, start, place_in(&texts[x]));
     for (size_t i = 0; i < texts[x].count; i++) count += texts[x].bytes[i] == byte;
-    CHECK(zc_count(&cords[x], byte) == count);
+    CHECK(zc_count(&cords[x], byte) == count && zc_hash(&cords[x]) == hash_of(&texts[x]));
 }
 
 static void compare(size_t x, size_t y) {
@@ -588,21 +601,36 @@ static void step(size_t x) {
     CHECK(byte == (stands ? position_text.bytes[position_index] : 7));
 }
 
+/* To the next chunk or the one before, neither of which takes memory. */
+static void go_on(void) {
+    refuse_in = 1;
+    if (below(3) == 0) {
+        size_t count = zc_chunks_prev(&chunks);
+        CHECK(count <= chunks_begin && (count > 0 || chunks_begin == 0));
+        chunks_next = chunks_begin, chunks_begin -= count;
+    } else {
+        size_t count = zc_chunks_next(&chunks), left = chunks_text.count - chunks_next;
+        CHECK(count <= left && (count > 0 || left == 0));
+        chunks_begin = chunks_next, chunks_next += count;
+    }
+    refuse_in = 0;
+}
+
 static void go_over(size_t x) {
     uint64_t start = place_in(&texts[x]);
     if (below(4) == 0 && is_done(zc_chunks_set(&cords[x], start, &chunks))) {
         chunks_text = texts[x];
-        chunks_next = smaller(start, texts[x].count);
+        chunks_begin = chunks_next = smaller(start, texts[x].count);
+    } else if (below(4) == 0) {
+        zc_chunks_move(&chunks, start);
+        chunks_begin = chunks_next = smaller(start, chunks_text.count);
     }
-    refuse_in = 1;
-    size_t count = zc_chunks_next(&chunks), left = chunks_text.count - chunks_next;
-    refuse_in = 0;
-    CHECK(count == chunks.count && count <= left && (count > 0 || left == 0));
-    CHECK(memcmp(chunks.bytes, chunks_text.bytes + chunks_next, count) == 0);
-    chunks_next += count;
+    go_on();
+    CHECK(chunks.count == chunks_next - chunks_begin);
+    CHECK(memcmp(chunks.bytes, chunks_text.bytes + chunks_begin, chunks.count) == 0);
     if (below(50) == 0) {
         zc_chunks_free(&chunks);
-        chunks_text.count = chunks_next = 0;
+        chunks_text.count = chunks_begin = chunks_next = 0;
     }
 }
 

@@ -62,6 +62,12 @@ static uint64_t place_of_bytes(zc_cord *x, uint64_t start, const char *bytes) {
     return place;
 }
 
+static uint64_t place_of_bytes_before(zc_cord *x, uint64_t start, uint64_t end, const char *bytes) {
+    uint64_t place = 12345;
+    DO(zc_find_in(x, start, end, bytes, strlen(bytes), &place));
+    return place;
+}
+
 static int32_t order_of(zc_cord *x, zc_cord *y) {
     int32_t order = 12345;
     DO(zc_cmp(x, y, &order));
@@ -455,6 +461,9 @@ static void searches(void) {
     EXPECT(place_before(&a, 0, 9, &b) == 6);
     EXPECT(place_before(&a, 0, 8, &b) == ZC_NOT_FOUND);
     EXPECT(place_before(&a, 6, UINT64_MAX, &b) == 6);
+    EXPECT(place_of_bytes_before(&a, 0, 9, "abd") == 6 && place_of_bytes_before(&a, 0, 8, "abd") == ZC_NOT_FOUND);
+    EXPECT(place_of_bytes_before(&a, 1, UINT64_MAX, "abc") == 3 && place_of_bytes_before(&a, 4, 4, "") == 4);
+    EXPECT(place_of_bytes_before(&a, 5, 4, "") == ZC_NOT_FOUND && place_of_bytes_before(&a, 3, 5, "abc") == ZC_NOT_FOUND);
     EXPECT(last_place_of(&a, 9, &b) == 6);
     EXPECT(last_place_of(&a, 8, &b) == ZC_NOT_FOUND);
     EXPECT(last_place_of_bytes(&a, 9, "abc") == 3);
@@ -503,6 +512,44 @@ static void parts_in_order(void) {
     zc_free(&a);
     EXPECT(zc_count(&a, 'x') == 0);
     zc_free(&b);
+}
+
+/* The hashes of "", "a" and "foobar" are those that the inventors of FNV-1a list. */
+static void hashes(void) {
+    zc_cord a = ZC_EMPTY, b = ZC_EMPTY;
+    EXPECT(zc_hash(&a) == UINT64_C(0xcbf29ce484222325) && zc_hash(NULL) == zc_hash(&a));
+    DO(zc_from_bytes("a", 1, &a));
+    EXPECT(zc_hash(&a) == UINT64_C(0xaf63dc4c8601ec8c));
+    DO(zc_from_bytes("f", 1, &a));
+    DO(zc_chars('o', 2, &b));
+    DO(zc_append(&a, &b));
+    DO(zc_cat_bytes(&a, "bar", 3, &a));
+    EXPECT(zc_hash(&a) == UINT64_C(0x85944171f73967e8));
+    zc_free(&a);
+    zc_free(&b);
+}
+
+/* The last line is found after leaves without an end of a line, and after ends without a line. */
+static void lines_in_many_leaves(void) {
+    zc_cord a = ZC_EMPTY, part = ZC_EMPTY, line = ZC_EMPTY;
+    DO(zc_chars('-', 100, &part));
+    for (int i = 0; i < 300; i++) {
+        DO(zc_append(&a, &part));
+        DO(zc_cat_bytes(&a, i % 3 == 2 ? "\nx" : "yz", 2, &a));
+    }
+    DO(zc_nth_line(&a, 0, &line));
+    EXPECT(zc_len(&line) == 304);
+    DO(zc_nth_line(&a, 99, &line));
+    EXPECT(zc_len(&line) == 305);
+    DO(zc_nth_line(&a, 100, &line));
+    EXPECT_TEXT(&line, "x");
+    EXPECT(zc_nth_line(&a, 101, &line) == ZC_PAST_END && zc_nth_line(&a, UINT64_MAX, &line) == ZC_PAST_END);
+    DO(zc_chars('\n', ZC_MAX_LEN, &a));
+    DO(zc_nth_line(&a, ZC_MAX_LEN - 1, &line));
+    EXPECT(zc_len(&line) == 0 && zc_nth_line(&a, ZC_MAX_LEN, &line) == ZC_PAST_END);
+    zc_free(&a);
+    zc_free(&part);
+    zc_free(&line);
 }
 
 static void reads(void) {
@@ -611,6 +658,7 @@ static void nulls(void) {
     EXPECT(zc_rfind(none, 9, "a", 1, &place) == ZC_NULL && zc_rfind(&a, 9, "a", 1, no_place) == ZC_NULL);
     EXPECT(zc_find(none, 0, "a", 1, &place) == ZC_NULL);
     EXPECT(zc_find(&a, 0, "a", 1, no_place) == ZC_NULL);
+    EXPECT(zc_find_in(none, 0, 9, "a", 1, &place) == ZC_NULL && zc_find_in(&a, 0, 9, "a", 1, no_place) == ZC_NULL);
     EXPECT(zc_cmp(none, &a, &order) == ZC_NULL);
     EXPECT(zc_cmp(&a, none, &order) == ZC_NULL);
     EXPECT(zc_cmp(&a, &b, no_order) == ZC_NULL);
@@ -992,6 +1040,46 @@ static void chunks_in_order(void) {
     zc_free(&b);
 }
 
+/* Goes to the chunk before, which has to have these bytes. */
+static void expect_chunk_before(zc_chunks *chunks, const char *bytes, size_t count, int line) {
+    expect(zc_chunks_prev(chunks) == count, "the number that the call gives", line);
+    expect(chunks->count == count, "the number of the chunk's bytes", line);
+    expect(memcmp(chunks->bytes, bytes, count) == 0, "the chunk's bytes", line);
+}
+#define EXPECT_CHUNK_BEFORE(chunks, text) expect_chunk_before((chunks), (text), sizeof(text) - 1, __LINE__)
+
+static void chunks_from_the_back(void) {
+    zc_cord a = ZC_EMPTY, b = ZC_EMPTY;
+    zc_chunks chunks = ZC_CHUNKS_EMPTY;
+    EXPECT_CHUNK_BEFORE(&chunks, "");
+    zc_chunks_move(&chunks, 5);
+    EXPECT_CHUNK_BEFORE(&chunks, "");
+    DO(zc_from_bytes("abc", 3, &a));
+    DO(zc_chars('y', 5000, &b));
+    DO(zc_append(&a, &b));
+    DO(zc_chunks_set(&a, UINT64_MAX, &chunks));
+    EXPECT(zc_chunks_prev(&chunks) == 4096 && chunks.count == 4096);
+    EXPECT(chunks.bytes[0] == 'y' && chunks.bytes[4095] == 'y');
+    EXPECT(zc_chunks_prev(&chunks) == 907 && memcmp(chunks.bytes, "abcyy", 5) == 0 && chunks.bytes[906] == 'y');
+    EXPECT_CHUNK_BEFORE(&chunks, "");
+    EXPECT_CHUNK_BEFORE(&chunks, "");
+    EXPECT(zc_chunks_next(&chunks) == 4096 && memcmp(chunks.bytes, "abcy", 4) == 0);
+    EXPECT_CHUNK_BEFORE(&chunks, "");
+    zc_chunks_move(&chunks, 2);
+    EXPECT(chunks.count == 0);
+    EXPECT_CHUNK_BEFORE(&chunks, "ab");
+    zc_chunks_move(&chunks, 2);
+    EXPECT(zc_chunks_next(&chunks) == 4096 && memcmp(chunks.bytes, "cyy", 3) == 0);
+    EXPECT_CHUNK_BEFORE(&chunks, "ab");
+    zc_chunks_move(&chunks, UINT64_MAX);
+    EXPECT_CHUNK(&chunks, "");
+    EXPECT(zc_chunks_prev(&chunks) == 4096);
+    zc_chunks_free(&chunks);
+    EXPECT_CHUNK_BEFORE(&chunks, "");
+    zc_free(&a);
+    zc_free(&b);
+}
+
 /* Each chunk but the last one has 4,096 bytes. */
 static void long_chunks(void) {
     zc_cord a = ZC_EMPTY, b = ZC_EMPTY;
@@ -1136,7 +1224,8 @@ static void nulls_of_the_rest(void) {
     zc_pos_free(no_pos);
     EXPECT(zc_chunks_set(none, 0, &chunks) == ZC_NULL);
     EXPECT(zc_chunks_set(&a, 0, no_chunks) == ZC_NULL);
-    EXPECT(zc_chunks_next(no_chunks) == 0);
+    EXPECT(zc_chunks_next(no_chunks) == 0 && zc_chunks_prev(no_chunks) == 0);
+    zc_chunks_move(no_chunks, 1);
     zc_chunks_free(no_chunks);
     EXPECT(byte == 7);
 }
@@ -1746,6 +1835,8 @@ int main(int count, char **words) {
     limits();
     searches();
     parts_in_order();
+    hashes();
+    lines_in_many_leaves();
     copies();
     reads();
     grows();
@@ -1759,6 +1850,7 @@ int main(int count, char **words) {
     walks();
     walks_far();
     chunks_in_order();
+    chunks_from_the_back();
     long_chunks();
     files();
     paths();

@@ -24,7 +24,7 @@
  * Threads: cords that have parts in common count them together, and a comparison marks them. So a call is MT-Unsafe
  * race:cord (attributes(7)), where "cord" is all cords that have parts in common: one thread at a time uses them. MT-Safe
  * race:cord are the calls that only look at one cord: zc_len, zc_depth, zc_fetch, zc_chr, zc_rchr, zc_starts_with,
- * zc_ends_with, zc_count, zc_to_bytes, zc_read, zc_put, zc_put_range, zc_pos_index, zc_pos_fetch, zc_ext_len,
+ * zc_ends_with, zc_count, zc_hash, zc_to_bytes, zc_read, zc_put, zc_put_range, zc_pos_index, zc_pos_fetch, zc_ext_len,
  * zc_edit_len, zc_lines_count, zc_lines_start, zc_lines_of, zc_lines_utf8, zc_lazy_len, zc_lazy_depth and zc_lazy_part.
  * They write to nothing but their results, so many threads may make them at once, on one handle too, while none makes
  * another call.
@@ -135,7 +135,7 @@ int zc_splice(zc_cord *x, uint64_t start, uint64_t count, const zc_cord *y);
 int zc_repeat(const zc_cord *x, uint64_t times, zc_cord *out);
 
 /* Line number of x, from 0, without its end. A line ends with the byte 10, which the last one may lack.
-   ZC_PAST_END where x has no more lines than that, ZC_NO_MEMORY. O(n), and O(d) for each line before it. */
+   ZC_PAST_END where x has no more lines than that, ZC_NO_MEMORY. O(n) up to its end. */
 int zc_nth_line(const zc_cord *x, uint64_t number, zc_cord *out);
 
 /* The bytes of x in a tree no deeper than about 1.44 times the binary logarithm of their number. ZC_NO_MEMORY.
@@ -180,8 +180,9 @@ int zc_rstr(const zc_cord *x, uint64_t end, const zc_cord *y, uint64_t *place);
 /* As zc_rstr, of these bytes, which are copied unless x is shorter. ZC_NO_MEMORY: *place stays. */
 int zc_rfind(const zc_cord *x, uint64_t end, const void *bytes, size_t count, uint64_t *place);
 
-/* As zc_str, of these bytes. Up to 16,384 of them take no memory; of more, ZC_NO_MEMORY: *place stays. */
+/* As zc_str, and as zc_str_in, of these bytes. Up to 16,384 of them take no memory; of more, ZC_NO_MEMORY: *place stays. */
 int zc_find(const zc_cord *x, uint64_t start, const void *bytes, size_t count, uint64_t *place);
+int zc_find_in(const zc_cord *x, uint64_t start, uint64_t end, const void *bytes, size_t count, uint64_t *place);
 
 /* Writes the order of x and y to *order: -1 where x comes first, 0 where both have the same bytes, 1 where y comes
    first: by the first bytes that differ, and a text that another one begins with comes first. It takes no memory.
@@ -203,6 +204,10 @@ int32_t zc_ends_with(const zc_cord *x, const void *bytes, size_t count);
 
 /* How many bytes of x are this one; 0 of null. O(n). */
 uint64_t zc_count(const zc_cord *x, unsigned char byte);
+
+/* A hash of the bytes of x, and of null that of no bytes: FNV-1a of 64 bits, so it is the same in each run and on each
+   machine, whatever the tree. It doesn't help against those who choose texts of one hash. It takes no memory. O(n). */
+uint64_t zc_hash(const zc_cord *x);
 
 /* Copies count bytes of x from start on to bytes. ZC_PAST_END where x has fewer: then bytes stays. It takes no memory.
    O(count + d). */
@@ -275,7 +280,7 @@ int zc_edit_remove(zc_edit *edit, uint64_t start, uint64_t count);
 
 /* The bytes as a cord, whose tree is shared. They may be edited further. ZC_NO_MEMORY. O(d) after an edit, else
    O(1). */
-int zc_edit_to_cord(zc_edit *edit, zc_cord *out);
+int zc_edit_to_cord(const zc_edit *edit, zc_cord *out);
 
 /* The number of bytes; 0 of null. O(1). */
 uint64_t zc_edit_len(const zc_edit *edit);
@@ -389,9 +394,9 @@ static inline void zc_pos_prev_here(zc_pos *position) {
 
 /* ---- chunks ---- */
 
-/* A cord that is gone over from the front, and the chunk of it that was reached: count bytes at bytes, which are a copy
-   and stay until the next call. It owns a share of the cord, so it is never copied, and the cord may be freed before it.
-   Begin with ZC_CHUNKS_EMPTY or zeros, end with zc_chunks_free:
+/* A cord that is gone over, and the chunk of it that was reached: count bytes at bytes, which are a copy and stay until
+   the next call; they are only read. It owns a share of the cord, so it is never copied, and the cord may be freed before
+   it. Begin with ZC_CHUNKS_EMPTY or zeros, end with zc_chunks_free:
 
        if (zc_chunks_set(&x, 0, &chunks) == ZC_OK)
            while (zc_chunks_next(&chunks) != 0) fwrite(chunks.bytes, 1, chunks.count, stdout);
@@ -413,6 +418,14 @@ int zc_chunks_set(const zc_cord *x, uint64_t start, zc_chunks *chunks);
 /* Goes to the next chunk, of at most 4,096 bytes, and gives its count: 0 at the end, and of null. It takes no memory.
    O(count + d). */
 size_t zc_chunks_next(zc_chunks *chunks);
+
+/* Goes to the chunk of at most 4,096 bytes that ends where the present one begins, and gives its count: 0 at the
+   beginning, and of null. It takes no memory. O(count + d). */
+size_t zc_chunks_prev(zc_chunks *chunks);
+
+/* Goes to a place, or to the end where that is less: there the next chunk begins, and the one before ends. There is no
+   chunk yet. Null is fine. O(1). */
+void zc_chunks_move(zc_chunks *chunks, uint64_t place);
 
 /* Frees what it owns; no bytes are left in it, and it may be set or freed again. Null is fine. */
 void zc_chunks_free(zc_chunks *chunks);

@@ -693,11 +693,8 @@ inline lazy_cord file_set::open(const std::string &path, bool is_short_read) {
 
 template <> struct std::hash<zomtsje::cord> {
     // Of the bytes alone, so that equal cords have one hash, however their trees are.
-    std::size_t operator()(const zomtsje::cord &text) const {
-        std::uint64_t sum = UINT64_C(14695981039346656037); // FNV-1a
-        for (const std::string_view chunk : text.chunks())
-            for (const char byte : chunk) sum = (sum ^ static_cast<unsigned char>(byte)) * UINT64_C(1099511628211);
-        return static_cast<std::size_t>(sum);
+    std::size_t operator()(const zomtsje::cord &text) const noexcept {
+        return static_cast<std::size_t>(zc_hash(text.raw()));
     }
 };
 

@@ -250,15 +250,13 @@ class Cord:
         if within.start > within.stop:
             return -1
         place = c_uint64()
-        if within.stop < self._length:
-            wanted = bytes([self._byte(sub)]) if isinstance(sub, int) else sub
-            zc.zc_str_in(self._handle, within.start, within.stop, as_cord(wanted)._handle, byref(place))
-        elif isinstance(sub, int):
+        if isinstance(sub, Cord):
+            zc.zc_str_in(self._handle, within.start, within.stop, sub._handle, byref(place))
+        elif isinstance(sub, int) and within.stop == self._length:
             zc.zc_chr(self._handle, within.start, self._byte(sub), byref(place))
-        elif isinstance(sub, Cord):
-            zc.zc_str(self._handle, within.start, sub._handle, byref(place))
         else:
-            zc.zc_find(self._handle, within.start, bytes(sub), len(sub), byref(place))
+            wanted = bytes([self._byte(sub)]) if isinstance(sub, int) else bytes(sub)
+            zc.zc_find_in(self._handle, within.start, within.stop, wanted, len(wanted), byref(place))
         return -1 if place.value == NOT_FOUND else place.value
 
     def rfind(self, sub: Cord | Bytes | int, start: int | None = None, end: int | None = None) -> int:

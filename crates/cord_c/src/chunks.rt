@@ -1,5 +1,5 @@
 //! What a `zc_chunks` of C is: a cord that is gone over, and a copy of the chunk of it that C looks at.
-ghost use Rattle.std.specs.Prelude.{◌≡◌, ◌≤◌, length};
+ghost use Rattle.std.specs.Prelude.{◌≡◌, ◌-◌, ◌≤◌, length, take, drop};
 ghost use Rattle.cord_c.specs.declared.chunks.TheConstants.{CHUNK};
 
 use crate::Handle;
@@ -20,4 +20,6 @@ pub struct Chunks {
     ghost within: { next ≤ len },
     ghost room: { length bytes ≡ CHUNK },
     ghost filled: { count ≤ CHUNK },
+    ghost reached: { count ≤ next },
+    ghost copied: { take count bytes ≡ take count (drop (next - count) text.text) },
 }

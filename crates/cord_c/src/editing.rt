@@ -141,11 +141,10 @@ pub extern "C" fn zc_edit_to_cord(alloc: Global, edit: &mut Editor, out: &mut Ha
     if either_missing(edit, out) {
         return NULL_POINTER;
     }
-    let Ok(mut taken) = edit.take(alloc) else {
-        return NO_MEMORY;
+    let made = match edit.handle.lent() {
+        Some(referent) => referent.edited_text(alloc),
+        None => Ok(Text::empty()),
     };
-    let made = taken.text.to_text(alloc);
-    edit.put_back(alloc, taken);
     out.hold_within(alloc, made)
 }
 

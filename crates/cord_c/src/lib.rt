@@ -12,6 +12,7 @@ mod extend;
 mod extensible;
 mod find;
 mod handle;
+mod hash;
 mod lazy;
 mod lazy_make;
 mod lazy_part;

@@ -1,10 +1,11 @@
-// Texts that are gone over a chunk at a time.
-ghost use Rattle.std.specs.Prelude.{◌≡◌, ◌⊎◌, ◌++◌, [], length, drop};
+// Texts that are gone over a chunk at a time, from the front, from the back, and from any place.
+ghost use Rattle.std.specs.Prelude.{◌≡◌, ◌⊎◌, ◌++◌, [], length, take, drop};
 ghost use Rattle.cord_c.specs.Codes.{MayLackMemory};
-ghost use Rattle.cord_c.specs.Chunks.{chunk_of, left_of};
+ghost use Rattle.cord_c.specs.Chunks.{before_of, chunk_of, left_of};
 ghost use denote.RawPtr.{Testable};
 ghost use Rattle.core.specs.Ptr.{as_mut_ptr};
 
+use crate::chunks::CHUNK;
 use crate::code::{NO_MEMORY, NULL_POINTER, OK};
 use crate::pointer::{either_missing, missing};
 use crate::referent::Referent;
@@ -20,8 +21,10 @@ pub extern "C" fn zc_chunks_set(
     chunks: &mut Chunks,
 ) -> i32
     requires places { Testable (as_mut_ptr x) × Testable (as_mut_ptr chunks) }
+    ensures before { result ≡ OK → before_of chunks.new ≡ take start x.old.text }
     ensures left { result ≡ OK → left_of chunks.new ≡ drop start x.old.text }
     ensures none { result ≡ OK → chunk_of chunks.new ≡ [] }
+    ensures before_kept { (result ≡ OK) ⊎ (before_of chunks.new ≡ before_of chunks.old) }
     ensures left_kept { (result ≡ OK) ⊎ (left_of chunks.new ≡ left_of chunks.old) }
     ensures chunk_kept { (result ≡ OK) ⊎ (chunk_of chunks.new ≡ chunk_of chunks.old) }
     ensures code { MayLackMemory result }
@@ -47,6 +50,7 @@ pub extern "C" fn zc_chunks_set(
 #[unsafe(no_mangle)]
 pub extern "C" fn zc_chunks_next(chunks: &mut Chunks) -> usize
     requires places { Testable (as_mut_ptr chunks) }
+    ensures before { before_of chunks.new ≡ before_of chunks.old ++ chunk_of chunks.old }
     ensures chunk { chunk_of chunks.new ++ left_of chunks.new ≡ left_of chunks.old }
     ensures count { result ≡ length (chunk_of chunks.new) }
     ensures end { result ≡ 0 → left_of chunks.old ≡ [] }
@@ -60,10 +64,46 @@ pub extern "C" fn zc_chunks_next(chunks: &mut Chunks) -> usize
     count
 }
 
+/// Goes to the chunk before the one that is looked at, and answers how many bytes it has: 0 where no bytes are before it.
+#[unsafe(no_mangle)]
+pub extern "C" fn zc_chunks_prev(chunks: &mut Chunks) -> usize
+    requires places { Testable (as_mut_ptr chunks) }
+    ensures left { left_of chunks.new ≡ chunk_of chunks.old ++ left_of chunks.old }
+    ensures chunk { before_of chunks.new ++ chunk_of chunks.new ≡ before_of chunks.old }
+    ensures count { result ≡ length (chunk_of chunks.new) }
+    ensures end { result ≡ 0 → before_of chunks.old ≡ [] }
+{
+    if missing(chunks) {
+        return 0;
+    }
+    let end = chunks.next - chunks.count as u64;
+    let start = end.saturating_sub(CHUNK as u64);
+    chunks.text.copy_to(start, &mut chunks.bytes);
+    chunks.next = end;
+    chunks.count = (end - start) as usize;
+    chunks.count
+}
+
+/// Goes to the place in front of the byte `place`, or to the end where there is no such byte. There is no chunk yet.
+#[unsafe(no_mangle)]
+pub extern "C" fn zc_chunks_move(chunks: &mut Chunks, place: u64)
+    requires places { Testable (as_mut_ptr chunks) }
+    ensures before { before_of chunks.new ≡ take place (before_of chunks.old ++ chunk_of chunks.old ++ left_of chunks.old) }
+    ensures left { left_of chunks.new ≡ drop place (before_of chunks.old ++ chunk_of chunks.old ++ left_of chunks.old) }
+    ensures none { chunk_of chunks.new ≡ [] }
+{
+    if missing(chunks) {
+        return;
+    }
+    chunks.next = place.min(chunks.len);
+    chunks.count = 0;
+}
+
 /// Frees what `chunks` owns, of which then no bytes are left.
 #[unsafe(no_mangle)]
 pub extern "C" fn zc_chunks_free(alloc: Global, chunks: &mut Chunks)
     requires places { Testable (as_mut_ptr chunks) }
+    ensures before { before_of chunks.new ≡ [] }
     ensures left { left_of chunks.new ≡ [] }
     ensures none { chunk_of chunks.new ≡ [] }
 {
@@ -76,6 +116,7 @@ pub extern "C" fn zc_chunks_free(alloc: Global, chunks: &mut Chunks)
 impl Chunks {
     // Frees the text, and forgets the chunk.
     fn clear(&mut self, alloc: Global)
+        ensures before { before_of self.new ≡ [] }
         ensures left { left_of self.new ≡ [] }
         ensures none { chunk_of self.new ≡ [] }
     {

@@ -124,7 +124,14 @@ extern "C" {
     pub fn zc_fetch(x: *const zc_cord, place: u64, byte: *mut u8) -> c_int;
     pub fn zc_chr(x: *const zc_cord, start: u64, byte: u8, place: *mut u64) -> c_int;
     pub fn zc_rchr(x: *const zc_cord, end: u64, byte: u8, place: *mut u64) -> c_int;
-    pub fn zc_find(x: *const zc_cord, start: u64, bytes: *const c_void, count: usize, place: *mut u64) -> c_int;
+    pub fn zc_find_in(
+        x: *const zc_cord,
+        start: u64,
+        end: u64,
+        bytes: *const c_void,
+        count: usize,
+        place: *mut u64,
+    ) -> c_int;
     pub fn zc_rfind(x: *const zc_cord, end: u64, bytes: *const c_void, count: usize, place: *mut u64) -> c_int;
     pub fn zc_equal(x: *const zc_cord, y: *const zc_cord, equal: *mut i32) -> c_int;
     pub fn zc_cmp(x: *const zc_cord, y: *const zc_cord, order: *mut i32) -> c_int;

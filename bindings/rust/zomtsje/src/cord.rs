@@ -164,13 +164,26 @@ impl Cord {
 
     /// The first place where some bytes stand.
     pub fn find(&self, bytes: impl AsRef<[u8]>) -> Option<u64> {
-        self.find_from(0, bytes)
+        self.find_in(.., bytes)
     }
 
     /// The first place from `start` on where some bytes stand. No bytes stand at each place up to the end.
     pub fn find_from(&self, start: u64, bytes: impl AsRef<[u8]>) -> Option<u64> {
-        let (bytes, mut place) = (bytes.as_ref(), sys::ZC_NOT_FOUND);
-        let code = unsafe { sys::zc_find(self.raw(), start, bytes.as_ptr().cast(), bytes.len(), &mut place) };
+        self.find_before(start, self.len(), bytes.as_ref())
+    }
+
+    /// The first place where some bytes stand inside a range.
+    ///
+    /// # Panics
+    /// Where the range isn't inside the cord.
+    pub fn find_in(&self, range: impl RangeBounds<u64>, bytes: impl AsRef<[u8]>) -> Option<u64> {
+        let (start, end) = bounds(range, self.len());
+        self.find_before(start, end, bytes.as_ref())
+    }
+
+    fn find_before(&self, start: u64, end: u64, bytes: &[u8]) -> Option<u64> {
+        let mut place = sys::ZC_NOT_FOUND;
+        let code = unsafe { sys::zc_find_in(self.raw(), start, end, bytes.as_ptr().cast(), bytes.len(), &mut place) };
         infallible(checked(code));
         found(place)
     }

@@ -110,6 +110,7 @@ fn slices_by_any_range() {
 fn searches() {
     let x = joined(b"abcabcabd");
     assert_eq!((x.find("abd"), x.find_from(1, "abc"), x.find("x"), x.find(b"")), (Some(6), Some(3), None, Some(0)));
+    assert_eq!((x.find_in(1..6, "abc"), x.find_in(1..=4, "abc"), x.find_in(4..5, "")), (Some(3), None, Some(4)));
     assert_eq!((x.rfind("c"), x.rfind_before(5, "c"), x.rfind_before(2, "c")), (x.rfind_byte(x.len(), b'c'), Some(2), None));
     assert_eq!((x.rfind(""), x.rfind_before(2, "")), (Some(x.len()), Some(2)));
     assert_eq!((x.find_byte(3, b'c'), x.rfind_byte(5, b'c'), x.rfind_byte(2, b'c')), (Some(5), Some(2), None));
