@@ -4,7 +4,6 @@ use Rattle.std.specs.Prelude.{nat_le, nat_lt}
 use Rattle.std.proofs.lemmas.Bool.Decides.{nat_tests}
 use Rattle.std.proofs.Math.ListN.{set, length-set}
 use Rattle.std.proofs.Math.Seq.{take-add, take-set-lt}
-use Rattle.std.specs.List.{sum_by}
 use Rattle.std.proofs.lemmas.List.{get_or-drop, get_or-take, take_all, drop_all, take-append-drop, drop-drop, drop-set, drop-set-lt, drop-set-add, take-set, take-set-le}
 use Rattle.std.proofs.lemmas.List.Sums.{fold_more, sum_by-cons, sum_by-append, sum_by-set, sum_by-take-drop, sum_by-take-le}
 use Rattle.cord_lines.specs.declared.counting.Counts.{Counts}
