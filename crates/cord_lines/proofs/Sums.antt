@@ -133,12 +133,30 @@ module _ (k j : ℕ) (sums : List Counts) (bs : List Block) (d : Block) (e : Cou
       let ends = ap (λ (a : Counts). a.ends) sum in
       let chars = ap (λ (a : Counts). a.chars) sum in
       record {
-        bytes = omega (arith, f.bytes, group_within.bytes, bytes, sum_by-take-le (λ (c : Block). c.bytes) (drop (k * 256) bs) 256,
-            sum_by-take-drop (λ (c : Block). c.bytes) bs (k * 256));
-        ends = omega (arith, f.ends, group_within.ends, ends, sum_by-take-le (λ (c : Block). c.ends) (drop (k * 256) bs) 256,
-            sum_by-take-drop (λ (c : Block). c.ends) bs (k * 256));
-        chars = omega (arith, f.chars, group_within.chars, chars, sum_by-take-le (λ (c : Block). c.chars) (drop (k * 256) bs) 256,
-            sum_by-take-drop (λ (c : Block). c.chars) bs (k * 256));
+        bytes = omega (
+          arith,
+          f.bytes,
+          group_within.bytes,
+          bytes,
+          sum_by-take-le (λ (c : Block). c.bytes) (drop (k * 256) bs) 256,
+          sum_by-take-drop (λ (c : Block). c.bytes) bs (k * 256),
+        );
+        ends = omega (
+          arith,
+          f.ends,
+          group_within.ends,
+          ends,
+          sum_by-take-le (λ (c : Block). c.ends) (drop (k * 256) bs) 256,
+          sum_by-take-drop (λ (c : Block). c.ends) bs (k * 256),
+        );
+        chars = omega (
+          arith,
+          f.chars,
+          group_within.chars,
+          chars,
+          sum_by-take-le (λ (c : Block). c.chars) (drop (k * 256) bs) 256,
+          sum_by-take-drop (λ (c : Block). c.chars) bs (k * 256),
+        );
       })
 
 -- a block is replaced, and its part of the sums

@@ -12,12 +12,20 @@ here : (sums : List Counts) (bs ys : List Block) (i : ℕ) → AreSumsOf sums bs
 here sums bs ys i s same lt = omega (arith, enough sums bs s, ap (λ (y : List Block). length y) same, lt)
 
 pub index-requires-2 : goal.index-requires-2
-index-requires-2 c = omega (arith, here c.self.inside.sums.items c.self.inside.blocks.items c.args.self.now c.args.index c.self.invariant.groups c.self.view_is
-    c.requires.inside, c.self.inside.sums.ok)
+index-requires-2 c = omega (
+  arith,
+  here c.self.inside.sums.items c.self.inside.blocks.items c.args.self.now c.args.index c.self.invariant.groups c.self.view_is
+      c.requires.inside,
+  c.self.inside.sums.ok,
+)
 
 pub index_mut-requires-2 : goal.index_mut-requires-2
-index_mut-requires-2 c = omega (arith, here c.self.inside.sums.items c.self.inside.blocks.items c.args.self.now c.args.index c.self.invariant.groups c.self.view_is
-    c.requires.inside, c.self.inside.sums.ok)
+index_mut-requires-2 c = omega (
+  arith,
+  here c.self.inside.sums.items c.self.inside.blocks.items c.args.self.now c.args.index c.self.invariant.groups c.self.view_is
+      c.requires.inside,
+  c.self.inside.sums.ok,
+)
 
 pub exchanged-requires-clause-within : goal.exchanged-requires-clause-within
 exchanged-requires-clause-within c =
