@@ -16,7 +16,7 @@
 #include <sys/mman.h>
 #include <unistd.h>
 
-enum { CORDS = 6, LAZIES = 4, FILES = 3, LONGEST = 9000, FILE_LENGTH = 40000, LINED_ROOM = 100000 };
+enum { CORDS = 6, LAZIES = 4, FILES = 3, LONGEST = 9000, FILE_LENGTH = 40000, LINED_ROOM = 30000 };
 
 /* A text as the model has it. */
 typedef struct text {
