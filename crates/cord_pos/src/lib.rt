@@ -83,6 +83,8 @@ impl<'a> Model for Position<'a> {
 
 impl<'a> Position<'a> {
     /// The position at this index of the cord: invalid where the index is at or past the end.
+    // It stands apart: where it is part of its caller, that clears and copies the path twice more.
+    #[inline(never)]
     pub fn set(cord: &'a Cord, index: u64) -> Position<'a>
         ensures cord { result.cord ≡ cord.now }
         ensures index { result.index ≡ index_at cord.now index }
