@@ -1,5 +1,5 @@
 // The byte at a position.
-ghost use Rattle.std.specs.Prelude.{◌≡◌, ◌<◌, is_err, IfOk, IfErr, IsOk, IsSome};
+ghost use Rattle.std.specs.Prelude.{◌≡◌, is_err, IfOk, IfErr, IsSome};
 ghost use Rattle.cord_io.specs.Device.{FileSystem, count_after};
 ghost use Rattle.cord_io.specs.Frames.{LeavesSource};
 ghost use Rattle.cord_core.specs.Cord.{CordFitsIn};
@@ -20,7 +20,6 @@ impl<'a> Position<'a> {
             IfOk result (λ b. IsByteAt (S.table src.old file_system) self.old.cord self.old.index b) }
         ensures refused { IfErr result (λ e. e ≡ CordError.ReadFailed) }
         ensures count { S.failures src.new ≡ count_after (is_err result) (S.failures src.old) }
-        ensures steady { S.failures src.old < u64.MAX → S.failures src.new ≡ S.failures src.old → IsOk result }
         ensures source { LeavesSource ⟦<S as Source>⟧ src.old src.new }
     {
         let Some(spot) = self.spot else {
