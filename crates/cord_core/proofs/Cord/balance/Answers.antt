@@ -1,4 +1,4 @@
-use Rattle.std.proofs.Common.{◌≡◌, arith}
+use Rattle.std.proofs.Common.{◌≡◌, arith, rules}
 use Rattle.std.specs.Prelude.{Some}
 use Rattle.std.proofs.lemmas.Grind.{common_steps}
 use Rattle.cord_core.specs.Cord.{text, text_len}
@@ -13,3 +13,12 @@ returns-clause-len c = let e : text_len (Some c.in_ok-node.node.value) ≡ text_
 
 pub returns-clause-over : goal.returns-clause-over
 returns-clause-over c = same_over c.args.self.now (Some c.in_ok-node.node.value) c.in_ok-node.ensures.sound (returns-clause-text c)
+
+pub returns-clause-slot : goal.returns-clause-slot
+returns-clause-slot c = search rules
+
+pub returns-clause-part_slot : goal.returns-clause-part_slot
+returns-clause-part_slot c = search rules
+
+pub returns-clause-parts_from : goal.returns-clause-parts_from
+returns-clause-parts_from c = search rules

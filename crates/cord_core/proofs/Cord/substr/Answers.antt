@@ -1,4 +1,4 @@
-use Rattle.std.proofs.Common.{◌≡◌, ◌+◌, ◌≤◌, arith}
+use Rattle.std.proofs.Common.{◌≡◌, ◌+◌, ◌≤◌, arith, rules}
 use Rattle.std.specs.Prelude.{Some}
 use Rattle.std.proofs.lemmas.Grind.{common_steps}
 use Rattle.cord_node.specs.PartsFrom.{parts}
@@ -31,3 +31,6 @@ returns-clause-few c =
     let longer : touched c.args.i (c.args.i + c.min.result) (parts c.in-Some.node.value)
     ≤ touched c.args.i (c.args.i + c.args.n) (parts c.in-Some.node.value) = touched_longer _ _ _ _ k in
     rw same (omega (arith, longer, c.in_ok-part.ensures.few))
+
+pub returns-clause-parts_from : goal.returns-clause-parts_from
+returns-clause-parts_from c = search rules
