@@ -1,6 +1,7 @@
 -- Blocks of a text that is edited.
-use Rattle.std.proofs.Common.{◌≡◌, ℕ, ◌+◌, ◌-◌, ◌≤◌, List, [], ◌∷◌, ◌++◌, length, take, drop, sym, ap, ◌∙◌, arith, append_assoc, subst, length-append, length-take, length-drop, min, suc, zero}
-use Rattle.std.proofs.lemmas.List.{drop_all, drop-drop, take-append-le, drop-append-le}
+use Rattle.std.proofs.Common.{◌≡◌, ℕ, ◌+◌, ◌-◌, ◌<◌, ◌≤◌, List, [], ◌∷◌, ◌++◌, length, take, drop, refl, sym, ap, ◌∙◌, arith, append_assoc, subst, length-append, length-take, length-drop, min, suc, zero}
+use Rattle.std.proofs.Math.ListN.{set}
+use Rattle.std.proofs.lemmas.List.{append-nil, take-append-drop, drop_all, drop-drop, take-append-le, drop-append-le}
 use Rattle.std.proofs.lemmas.List.Sums.{sum_by-take-le}
 use Rattle.std.proofs.Math.Seq.{take-add, take-append_seam, drop-append_seam}
 use Rattle.cord_node.proofs.Ranges.{take-append_right, drop-append_right}
@@ -9,12 +10,14 @@ use Rattle.cord_lines.specs.declared.counting.Counts.{Counts}
 use Rattle.cord_lines.specs.declared.blocks.Block.{Block}
 use Rattle.cord_lines.specs.declared.renewing.Edit.{Edit}
 use Rattle.cord_lines.specs.declared.renewing.Span.{Span}
+use Rattle.cord_lines.specs.Counts.{counts_of, plus, AreFew, AreNarrow}
 use Rattle.cord_lines.specs.Lines.{IsEditOf}
-use Rattle.cord_lines.specs.inner.Blocks.{total}
+use Rattle.cord_lines.specs.inner.Blocks.{block_counts, total}
 use Rattle.cord_lines.specs.inner.Cuts.{IsCut, AreOfSomeText}
-use Rattle.cord_lines.specs.inner.Edits.{Covers, Fits}
+use Rattle.cord_lines.specs.inner.Edits.{Covers, Fits, FollowEdit}
+use Rattle.cord_lines.proofs.Countings.{chars-le, counts-append, ends-le, same_counts}
 use Rattle.cord_lines.proofs.Cuts.{Split, split, joined, total_is}
-use Rattle.cord_lines.proofs.Sums.{min_prefix}
+use Rattle.cord_lines.proofs.Sums.{min_prefix, set_one}
 
 regroup : (a b c d e : List ℕ) → ((a ++ b) ++ c) ++ (d ++ e) ≡ a ++ (((b ++ c) ++ d) ++ e)
 regroup a b c d e = simp append_assoc
@@ -67,6 +70,24 @@ capped x after fresh start count from removed inserted text from-is removed-is l
       text = text ∙ ap (λ (y : List ℕ). y ++ fresh ++ drop (start + count) x) (sym (min_prefix x start from (omega (arith, from-is))))
           ∙ ap (λ (y : List ℕ). take from x ++ fresh ++ y) (sym (ap (λ (n : ℕ). drop n x) end ∙ drop_min (start + count) x));
     }
+
+-- bytes are inserted into others
+inserted_counts : (m fresh : List ℕ) (k : ℕ) → counts_of ((take k m ++ fresh) ++ drop (k + 0) m) ≡ plus (counts_of m) (counts_of fresh)
+inserted_counts m fresh k =
+    let same : k + 0 ≡ k = omega arith in
+    let swap : plus (plus (counts_of (take k m)) (counts_of fresh)) (counts_of (drop k m)) ≡ plus (plus (counts_of (take k m)) (counts_of (drop k m))) (counts_of fresh) =
+    same_counts (plus (plus (counts_of (take k m)) (counts_of fresh)) (counts_of (drop k m)))
+        (plus (plus (counts_of (take k m)) (counts_of (drop k m))) (counts_of fresh)) (omega arith) (omega arith) (omega arith) in
+    ap (λ (n : ℕ). counts_of ((take k m ++ fresh) ++ drop n m)) same ∙ counts-append (take k m ++ fresh) (drop k m)
+    ∙ ap (λ (c : Counts). plus c (counts_of (drop k m))) (counts-append (take k m) fresh) ∙ swap
+    ∙ ap (λ (c : Counts). plus c (counts_of fresh)) (sym (counts-append (take k m) (drop k m)) ∙ ap counts_of (take-append-drop k m))
+
+narrow_more : (m fresh : List ℕ) → length m + length fresh < 65536 → AreNarrow (plus (counts_of m) (counts_of fresh))
+narrow_more m fresh lt = record {
+  bytes = lt;
+  ends = omega (arith, lt, ends-le m, ends-le fresh);
+  chars = omega (arith, lt, chars-le m, chars-le fresh);
+}
 
 -- blocks of a text, some of which are replaced
 module _ (bs news : List Block) (x : List ℕ) (c : IsCut bs x) (first count start bytes : ℕ)
@@ -131,6 +152,37 @@ module _ (bs news : List Block) (x : List ℕ) (c : IsCut bs x) (first count sta
       (sym (after_is s.prefix r.prefix r.back after e.fresh st rem a-from a-to edited))
       (replaced (middle s.prefix r.prefix r.back after e.fresh st rem a-from a-to edited) (subst (λ (y : List ℕ). IsCut news y) there n))
 
+  -- what they hold
+  own_is : (own : Counts) → total (take (first + count) bs) ≡ plus (total (take first bs)) own → own ≡ counts_of r.prefix
+  own_is own e = (let sum : plus (counts_of s.prefix) own ≡ plus (counts_of s.prefix) (counts_of r.prefix) =
+      ap (λ (a : Counts). plus a own) (sym (total_is (take first bs) s.prefix s.first)) ∙ sym e
+      ∙ total_is (take (first + count) bs) (s.prefix ++ r.prefix) both ∙ counts-append s.prefix r.prefix in
+      let same-bytes = ap (λ (a : Counts). a.bytes) sum in
+      let same-ends = ap (λ (a : Counts). a.ends) sum in
+      let same-chars = ap (λ (a : Counts). a.chars) sum in
+      same_counts own (counts_of r.prefix) (omega (arith, same-bytes)) (omega (arith, same-ends)) (omega (arith, same-chars)))
+
+  pub narrow_with : (own : Counts) (fresh : List ℕ) → total (take (first + count) bs) ≡ plus (total (take first bs)) own →
+      bytes + length fresh < 65536 → AreNarrow (plus own (counts_of fresh))
+  narrow_with own fresh e lt = subst (λ (a : Counts). AreNarrow (plus a (counts_of fresh))) (sym (own_is own e))
+      (narrow_more r.prefix fresh (omega (arith, middle-is, lt)))
+
+  -- one block with what is inserted into it
+  pub inserted : (b : Block) (own : Counts) (after : List ℕ) (st ins : ℕ) (e : IsEditOf x after st 0 ins) → start ≤ st → st + 0 ≤ start + bytes →
+      total (take (first + count) bs) ≡ plus (total (take first bs)) own → block_counts b ≡ plus own (counts_of e.fresh) → news ≡ b ∷ [] →
+      IsCut (take first bs ++ news ++ drop (first + count) bs) after
+  inserted b own after st ins e from to is counted one =
+      let edited : after ≡ take st (s.prefix ++ (r.prefix ++ r.back)) ++ e.fresh ++ drop (st + 0) (s.prefix ++ (r.prefix ++ r.back)) =
+      subst (λ (y : List ℕ). after ≡ take st y ++ e.fresh ++ drop (st + 0) y) text e.text in
+      let a-from : length s.prefix ≤ st = omega (arith, prefix-len, from) in
+      let a-to : st + 0 ≤ length s.prefix + length r.prefix = omega (arith, prefix-len, middle-is, to) in
+      let m : List ℕ = middle s.prefix r.prefix r.back after e.fresh st 0 a-from a-to edited in
+      let counts : block_counts b ≡ counts_of m = counted ∙ ap (λ (a : Counts). plus a (counts_of e.fresh)) (own_is own is)
+          ∙ sym (inserted_counts r.prefix e.fresh (st - length s.prefix)) in
+      subst (λ (y : List ℕ). IsCut (take first bs ++ news ++ drop (first + count) bs) y)
+      (sym (after_is s.prefix r.prefix r.back after e.fresh st 0 a-from a-to edited))
+      (replaced m (subst (λ (ys : List Block). IsCut ys m) (sym one) (m, [], sym (append-nil m), counts, refl)))
+
 -- the blocks that an edit meets are replaced by those of as many bytes as there are then
 pub replaced_some : (bs news : List Block) (some : AreOfSomeText bs) (span : Span) (edit : Edit) (after : List ℕ) → Covers bs span edit →
     Fits edit (total bs).bytes (length after) → length after ≤ MAX_LEN →
@@ -151,3 +203,78 @@ replaced_some bs news some span edit after covers fits le cut =
       length-take len (drop span.start after),
       sum_by-take-le (λ (b : Block). b.bytes) bs (span.first + span.count),
     ))
+
+-- what an edit puts there
+fresh_at : (x after : List ℕ) (st rem ins n : ℕ) (e : IsEditOf x after st rem ins) → n ≡ ins → take n (drop st after) ≡ e.fresh
+fresh_at x after st rem ins n e is =
+    let back : List ℕ = drop (st + rem) x in
+    let len : st ≡ length (take st x) = omega (arith, e.inside, length-take st x) in
+    ap (λ (y : List ℕ). take n (drop st y)) (e.text ∙ append_assoc (take st x) e.fresh back)
+    ∙ ap (λ (k : ℕ). take n (drop k (take st x ++ (e.fresh ++ back)))) len
+    ∙ ap (take n) (drop-append_seam (take st x) (e.fresh ++ back))
+    ∙ ap (λ (k : ℕ). take k (e.fresh ++ back)) (is ∙ sym e.count) ∙ take-append_seam e.fresh back
+
+-- an insertion into one block
+module _ (bs : List Block) (some : AreOfSomeText bs) (span : Span) (edit : Edit) (after : List ℕ) (covers : Covers bs span edit)
+    (fits : Fits edit (total bs).bytes (length after)) (short : length after ≤ MAX_LEN) (one : span.count ≡ 1) (none : edit.removed ≡ 0)
+    (own more : Counts) (own-is : total (take (span.first + 1) bs) ≡ plus (total (take span.first bs)) own)
+    (more-is : more ≡ counts_of (take ((edit.start + edit.inserted) - edit.start) (drop edit.start after))) where
+  abbrev fresh : List ℕ
+  fresh = take ((edit.start + edit.inserted) - edit.start) (drop edit.start after)
+
+  fresh-len : length fresh ≡ edit.inserted
+  fresh-len = omega (arith, fits.inside, fits.len, none, length-take ((edit.start + edit.inserted) - edit.start) (drop edit.start after), length-drop edit.start after)
+
+  both-is : total (take (span.first + span.count) bs) ≡ plus (total (take span.first bs)) own
+  both-is = ap (λ (n : ℕ). total (take (span.first + n) bs)) one ∙ own-is
+
+  set-is : (b : Block) → take span.first bs ++ (b ∷ []) ++ drop (span.first + span.count) bs ≡ set bs span.first b
+  set-is b = (let lt : span.first < length bs = omega (arith, covers.span.inside, one) in
+      ap (λ (n : ℕ). take span.first bs ++ (b ∷ []) ++ drop (span.first + n) bs) one ∙ sym (set_one bs span.first b lt))
+
+  to : edit.start + 0 ≤ span.start + span.bytes
+  to = omega (arith, covers.to)
+
+  pub narrow_then : span.bytes + edit.inserted < 65536 → AreNarrow (plus own more)
+  narrow_then lt = subst (λ (a : Counts). AreNarrow (plus own a)) (sym more-is)
+      (narrow_with bs [] some.text some.cut span.first span.count span.start span.bytes covers.span.start covers.span.end own fresh both-is
+      (omega (arith, lt, fresh-len)))
+
+  pub few_then : span.bytes + edit.inserted < 65536 → AreFew (plus own more)
+  few_then lt = (let n = narrow_then lt in
+      record { bytes = omega (arith, n.bytes); ends = omega (arith, n.ends); chars = omega (arith, n.chars) })
+
+  pub inserted_some : (b : Block) → block_counts b ≡ plus own more → AreOfSomeText (set bs span.first b)
+  inserted_some b counted =
+      let x = some.text in
+      let y : List ℕ = take edit.start x ++ fresh ++ drop (edit.start + 0) x in
+      let whole : (total bs).bytes ≡ length x = ap (λ (a : Counts). a.bytes) (total_is bs x some.cut) in
+      let e : IsEditOf x y edit.start 0 edit.inserted = record { fresh = fresh; count = fresh-len; inside = omega (arith, fits.inside, whole); text = refl } in
+      record {
+        text = y;
+        cut = subst (λ (ys : List Block). IsCut ys y) (set-is b)
+            (inserted bs (b ∷ []) x some.cut span.first span.count span.start span.bytes covers.span.start covers.span.end b own y edit.start
+            edit.inserted e covers.from to both-is (counted ∙ ap (plus own) more-is) refl);
+        limit = omega (
+          arith,
+          short,
+          whole,
+          fits.inside,
+          fits.len,
+          none,
+          fresh-len,
+          length-append (take edit.start x ++ fresh) (drop (edit.start + 0) x),
+          length-append (take edit.start x) fresh,
+          length-take edit.start x,
+          length-drop (edit.start + 0) x,
+        );
+      }
+
+  pub inserted_follows : (b : Block) → block_counts b ≡ plus own more → FollowEdit bs (set bs span.first b) after edit
+  inserted_follows b counted = λ before cut edited.
+      let e : IsEditOf before after edit.start 0 edit.inserted = subst (λ (n : ℕ). IsEditOf before after edit.start n edit.inserted) none edited in
+      let n : (edit.start + edit.inserted) - edit.start ≡ edit.inserted = omega arith in
+      let same : more ≡ counts_of e.fresh = more-is ∙ ap counts_of (fresh_at before after edit.start 0 edit.inserted ((edit.start + edit.inserted) - edit.start) e n) in
+      subst (λ (ys : List Block). IsCut ys after) (set-is b)
+      (inserted bs (b ∷ []) before cut span.first span.count span.start span.bytes covers.span.start covers.span.end b own after edit.start
+      edit.inserted e covers.from to both-is (counted ∙ ap (plus own) same) refl)

@@ -1,15 +1,17 @@
 -- Sums of groups of blocks.
-use Rattle.std.proofs.Common.{◌≡◌, ℕ, suc, zero, ◌+◌, ◌*◌, ◌-◌, ◌<◌, ◌≤◌, List, [], ◌∷◌, ◌++◌, length, get_or, take, drop, refl, sym, ap, ◌∙◌, arith, append_assoc, length-drop, length-take, subst, min, Bool, true, false}
+use Rattle.std.proofs.Common.{◌≡◌, ℕ, suc, zero, ◌+◌, ◌*◌, ◌-◌, ◌<◌, ◌≤◌, List, [], ◌∷◌, ◌++◌, length, get_or, take, drop, refl, sym, ap, ◌∙◌, arith, append_assoc, length-append, length-drop, length-take, subst, min, Bool, true, false}
 use Rattle.std.specs.Prelude.{nat_le, nat_lt}
+use Rattle.std.specs.List.{sum_by}
 use Rattle.std.proofs.lemmas.Bool.Decides.{nat_tests}
 use Rattle.std.proofs.Math.ListN.{set, length-set}
 use Rattle.std.proofs.Math.Seq.{take-add, take-set-lt}
-use Rattle.std.proofs.lemmas.List.{get_or-drop, get_or-take, take_all, drop_all, take-append-drop, drop-drop, drop-set, drop-set-lt, drop-set-add, take-set, take-set-le}
+use Rattle.std.proofs.lemmas.List.{append-nil, get_or-drop, get_or-take, take_all, take_more, drop_all, take-append-drop, drop-drop, drop-set, drop-set-lt, drop-set-add, set-append_right, take-set, take-set-le}
 use Rattle.std.proofs.lemmas.List.Sums.{fold_more, sum_by-cons, sum_by-append, sum_by-set, sum_by-take-drop, sum_by-take-le}
 use Rattle.cord_lines.specs.declared.counting.Counts.{Counts}
 use Rattle.cord_lines.specs.declared.blocks.Block.{Block}
 use Rattle.cord_lines.specs.Counts.{plus, AreFew}
 use Rattle.cord_lines.specs.inner.Blocks.{block_counts, exchanged, sum_of_all, total, AreSummed, AreSumsOf, AreWithin}
+use Rattle.cord_lines.specs.inner.Cuts.{AreModest}
 use Rattle.cord_lines.proofs.Countings.{plus_assoc, same_counts}
 
 pub total-append : (x y : List Block) → total (x ++ y) ≡ plus (total x) (total y)
@@ -283,14 +285,52 @@ module _ (bs ys : List Block) (s m : ℕ) (rest : ys ≡ drop s bs) where
   few_part f = rw then_some (few_blocks bs (s + m) f)
 
 -- one block in the place of another one
-pub set_one : (xs fresh : List Block) (i : ℕ) (d : Block) → i < length xs → length fresh ≡ 1 →
-    set xs i (get_or fresh 0 d) ≡ take i xs ++ fresh ++ drop (i + 1) xs
-set_one xs [] i d lt one = absurd (omega (arith, one))
-set_one xs (y ∷ []) i d lt one =
-    let first : get_or (y ∷ []) 0 d ≡ y = refl in
-    ap (λ (w : Block). set xs i w) first ∙ sym (take-append-drop i (set xs i y)) ∙ ap (λ (w : List Block). w ++ drop i (set xs i y)) (take-set xs i y)
+pub set_one : (xs : List Block) (i : ℕ) (y : Block) → i < length xs → set xs i y ≡ take i xs ++ (y ∷ []) ++ drop (i + 1) xs
+set_one xs i y lt =
+    sym (take-append-drop i (set xs i y)) ∙ ap (λ (w : List Block). w ++ drop i (set xs i y)) (take-set xs i y)
     ∙ ap (λ (w : List Block). take i xs ++ w) (drop-set xs i y lt) ∙ sym (append_assoc (take i xs) (y ∷ []) (drop (i + 1) xs))
-set_one xs (y ∷ z ∷ fresh) i d lt one = absurd (omega (arith, one))
+
+-- some blocks, of which the first ones are replaced
+module _ (xs fresh : List Block) (s : ℕ) where
+  abbrev pub replaced : ℕ → List Block
+  replaced i = take s xs ++ take i fresh ++ drop (s + i) xs
+
+  -- one more is replaced
+  pub one_replaced : (now : List Block) (i : ℕ) (d : Block) → now ≡ replaced i → i < length fresh → s + length fresh ≤ length xs →
+      set now (s + i) (get_or fresh i d) ≡ replaced (i + 1)
+  one_replaced now i d is lt le =
+      let front : List Block = take s xs ++ take i fresh in
+      let len : length front ≡ s + i = omega (arith, lt, le, length-append (take s xs) (take i fresh), length-take s xs, length-take i fresh) in
+      let some : 0 < length (drop (s + i) xs) = omega (arith, lt, le, length-drop (s + i) xs) in
+      let here : (s + i) - (s + i) ≡ 0 = omega arith in
+      let next : (s + i) + 1 ≡ s + (i + 1) = omega arith in
+      ap (λ (w : List Block). set w (s + i) (get_or fresh i d)) is
+      ∙ set-append_right front (drop (s + i) xs) (s + i) (s + i) (get_or fresh i d) len (omega arith)
+      ∙ ap (λ (n : ℕ). front ++ set (drop (s + i) xs) n (get_or fresh i d)) here
+      ∙ ap (λ (w : List Block). front ++ w) (set_one (drop (s + i) xs) 0 (get_or fresh i d) some)
+      ∙ ap (λ (w : List Block). front ++ ((get_or fresh i d ∷ []) ++ w)) (drop-drop 1 (s + i) xs ∙ ap (λ (n : ℕ). drop n xs) next)
+      ∙ sym (append_assoc front (get_or fresh i d ∷ []) (drop (s + (i + 1)) xs))
+      ∙ ap (λ (w : List Block). w ++ drop (s + (i + 1)) xs) (append_assoc (take s xs) (take i fresh) (get_or fresh i d ∷ [])
+          ∙ ap (λ (w : List Block). take s xs ++ w) (sym (take_more fresh i d lt)))
+
+  -- they hold no more than those before and after do together
+  sum_between : (f : Block → ℕ) (n i : ℕ) → sum_by f (replaced i) ≤ sum_by f xs + sum_by f (take s xs ++ fresh ++ drop n xs)
+  sum_between f n i = omega (
+    arith,
+    sum_by-append f (take s xs ++ take i fresh) (drop (s + i) xs),
+    sum_by-append f (take s xs) (take i fresh),
+    sum_by-append f (take s xs ++ fresh) (drop n xs),
+    sum_by-append f (take s xs) fresh,
+    sum_by-take-le f fresh i,
+    sum_by-take-drop f xs (s + i),
+  )
+
+  pub replaced_few : (n i : ℕ) → AreModest xs → AreModest (take s xs ++ fresh ++ drop n xs) → AreFew (total (replaced i))
+  replaced_few n i old new = record {
+    bytes = omega (arith, old.bytes, new.bytes, sum_between (λ (b : Block). b.bytes) n i);
+    ends = omega (arith, old.ends, new.ends, sum_between (λ (b : Block). b.ends) n i);
+    chars = omega (arith, old.chars, new.chars, sum_between (λ (b : Block). b.chars) n i);
+  }
 
 module _ (bs : List Block) (n p : ℕ) (here : p ≡ (total (take n bs)).bytes) (le : n ≤ length bs) (less : p < (total bs).bytes) where
   room_cases : (is : Bool) → nat_lt n (length bs) ≡ is → n < length bs

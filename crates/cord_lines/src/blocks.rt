@@ -3,6 +3,7 @@ ghost use Rattle.std.specs.Prelude.{◌≡◌, ◌+◌, ◌-◌, ◌<◌, ◌≤
 ghost use Rattle.cord_io.specs.declared.CordError.TheVariants.{NoMemory};
 ghost use Rattle.cord_lines.specs.Counts.{plus, AreFew, AreNarrow};
 ghost use Rattle.cord_lines.specs.inner.Blocks.{amount, block_counts, sum_of_all, total, AreSumsOf};
+ghost use Rattle.cord_lines.specs.inner.Cuts.{AreModest};
 
 use crate::counting::Counts;
 use cord_io::CordError;
@@ -183,8 +184,8 @@ impl Blocks {
         }
     }
 
-    // Puts a block into the place of another one.
-    fn set(&mut self, index: usize, block: Block)
+    /// Puts a block into the place of another one.
+    pub(crate) fn set(&mut self, index: usize, block: Block)
         requires inside { index < length self.old }
         requires few { AreFew (total (slice_set self.old index block)) }
         ensures { self.new ≡ slice_set self.old index block }
@@ -197,7 +198,21 @@ impl Blocks {
         self.all = self.all.exchanged(old, new);
     }
 
-    /// Puts blocks into the place of `count` others. Refused only when out of memory, and then all is as it was.
+    // Puts blocks into the place of as many others.
+    fn set_each(&mut self, start: usize, fresh: &[Block])
+        requires inside { start + length fresh.now ≤ length self.old }
+        requires short { length self.old < 2 ^ 64 }
+        requires old { AreModest self.old }
+        requires new { AreModest (take start self.old ++ fresh.now ++ drop (start + length fresh.now) self.old) }
+        ensures { self.new ≡ take start self.old ++ fresh.now ++ drop (start + length fresh.now) self.old }
+    {
+        for (offset, block) in fresh.iter().enumerate() {
+            self.set(start + offset, *block);
+        }
+    }
+
+    /// Puts blocks into the place of `count` others: of as many without a pass over the rest. Refused only when out of
+    /// memory, and then all is as it was.
     pub(crate) fn replace(
         &mut self,
         alloc: Global,
@@ -206,16 +221,18 @@ impl Blocks {
         fresh: &[Block],
     ) -> Result<(), CordError>
         requires inside { start + count ≤ length self.old }
-        requires few { AreFew (total (take start self.old ++ fresh.now ++ drop (start + count) self.old)) }
+        requires old { AreModest self.old }
+        requires new { AreModest (take start self.old ++ fresh.now ++ drop (start + count) self.old) }
         ensures blocks { OnOk result (self.new ≡ take start self.old ++ fresh.now ++ drop (start + count) self.old) }
         ensures unchanged { IsErr result → self.new ≡ self.old }
         ensures refused { IsOkUnless result NoMemory }
     {
-        if count == 1 && fresh.len() == 1 {
-            self.set(start, fresh[0]);
+        let len = self.blocks.len() - count + fresh.len();
+        if count == fresh.len() {
+            self.set_each(start, fresh);
             return Ok(());
         }
-        let mut blocks = Vec::with_capacity(alloc, self.blocks.len() - count + fresh.len())?;
+        let mut blocks = Vec::with_capacity(alloc, len)?;
         blocks.extend_from_slice(&self.blocks[..start])?;
         blocks.extend_from_slice(fresh)?;
         blocks.extend_from_slice(&self.blocks[start + count..])?;

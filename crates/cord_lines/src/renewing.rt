@@ -6,8 +6,9 @@ ghost use Rattle.cord_lines.specs.inner.Blocks.{total};
 ghost use Rattle.cord_lines.specs.inner.Cuts.{AreModest, AreOfSomeText};
 ghost use Rattle.cord_lines.specs.inner.Edits.{Covers, Fits, FollowEdit, IsSpan};
 
-use crate::blocks::{Blocks, Measure};
+use crate::blocks::{Block, Blocks, Measure};
 use crate::cutting::{BLOCK, LARGEST, cut};
+use crate::reading::count_range;
 use cord::{CordError, Text};
 use std::alloc::Global;
 
@@ -43,8 +44,8 @@ struct Span {
     bytes: u64,
 }
 
-/// The blocks of the text after an edit: those that the edit meets are counted once more. Refused only when out of
-/// memory, and then all is as it was.
+/// The blocks of the text after an edit: those that the edit meets are counted once more, but of an insertion into one
+/// block only what is new. Refused only when out of memory, and then all is as it was.
 pub(crate) fn renew(
     blocks: &mut Blocks,
     alloc: Global,
@@ -62,6 +63,12 @@ pub(crate) fn renew(
     prove!(edit.inserted <= len_after);
     let span = span_of(blocks, edit);
     let len = span.bytes - edit.removed + edit.inserted;
+    if edit.removed == 0 && span.count == 1 && len <= LARGEST {
+        let more = count_range(after, edit.start, edit.start + edit.inserted);
+        let counts = blocks.get(span.first).plus(more);
+        blocks.set(span.first, Block::of(counts));
+        return Ok(());
+    }
     let size = size_of(len, span.count);
     let fresh = cut(alloc, after, span.start, span.start + len, size)?;
     blocks.replace(alloc, span.first, span.count, &fresh)?;

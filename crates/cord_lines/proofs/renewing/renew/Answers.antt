@@ -1,14 +1,49 @@
 use Rattle.std.proofs.Common.{◌≡◌, ◌∙◌, ℕ, List, ◌+◌, ◌-◌, ◌≤◌, refl, ◌++◌, length, take, drop, ap, sym, subst, arith}
 use Rattle.std.proofs.lemmas.List.Sums.{sum_by-take-le}
 use Rattle.cord_io.specs.declared.TheConstants.{MAX_LEN}
+use Rattle.std.proofs.Math.ListN.{set}
+use Rattle.cord_lines.specs.Counts.{AreNarrow}
 use Rattle.cord_lines.specs.declared.blocks.Block.{Block}
 use Rattle.cord_lines.specs.inner.Cuts.{IsCut, AreOfSomeText}
 use Rattle.cord_lines.proofs.Cuts.{few_by, modest_by}
-use Rattle.cord_lines.proofs.Edits.{renewed, replaced_some}
+use Rattle.cord_lines.proofs.Edits.{few_then, inserted_follows, inserted_some, narrow_then, renewed, replaced_some}
 use Rattle.cord_lines.proofs.renewing.renew.Goals as goal
 
 pub span_of-span-requires-clause-modest : goal.span_of-span-requires-clause-modest
 span_of-span-requires-clause-modest c = modest_by c.args.blocks.now c.requires.blocks
+
+pub plus-counts-requires : goal.plus-counts-requires
+plus-counts-requires c =
+    few_then c.args.blocks.now c.requires.blocks c.span_of-span.result c.args.edit c.args.after.now c.span_of-span.ensures c.requires.edit
+    (omega (arith, c.len-len_after.ensures.value, c.len-len_after.ensures.limit)) (omega arith) (omega arith)
+    c.get.result c.count_range-more.result c.get.ensures c.count_range-more.ensures (omega arith)
+
+pub of-requires : goal.of-requires
+of-requires c = subst AreNarrow (sym c.plus-counts.ensures)
+    (narrow_then c.args.blocks.now c.requires.blocks c.span_of-span.result c.args.edit c.args.after.now c.span_of-span.ensures c.requires.edit
+    (omega (arith, c.len-len_after.ensures.value, c.len-len_after.ensures.limit)) (omega arith) (omega arith)
+    c.get.result c.count_range-more.result c.get.ensures c.count_range-more.ensures (omega arith))
+
+pub set-requires-clause-few : goal.set-requires-clause-few
+set-requires-clause-few c = few_by (set c.args.blocks.now c.span_of-span.result.first c.of.result)
+    (inserted_some c.args.blocks.now c.requires.blocks c.span_of-span.result c.args.edit c.args.after.now c.span_of-span.ensures c.requires.edit
+    (omega (arith, c.len-len_after.ensures.value, c.len-len_after.ensures.limit)) (omega arith) (omega arith)
+    c.get.result c.count_range-more.result c.get.ensures c.count_range-more.ensures
+    c.of.result (c.of.ensures ∙ c.plus-counts.ensures))
+
+pub returns-then-len-le-LARGEST-clause-blocks : goal.returns-then-len-le-LARGEST-clause-blocks
+returns-then-len-le-LARGEST-clause-blocks c = subst AreOfSomeText (sym c.set.ensures)
+    (inserted_some c.args.blocks.now c.requires.blocks c.span_of-span.result c.args.edit c.args.after.now c.span_of-span.ensures c.requires.edit
+    (omega (arith, c.len-len_after.ensures.value, c.len-len_after.ensures.limit)) (omega arith) (omega arith)
+    c.get.result c.count_range-more.result c.get.ensures c.count_range-more.ensures
+    c.of.result (c.of.ensures ∙ c.plus-counts.ensures))
+
+pub returns-then-len-le-LARGEST-clause-cut : goal.returns-then-len-le-LARGEST-clause-cut
+returns-then-len-le-LARGEST-clause-cut c = λ before here edited. subst (λ (ys : List Block). IsCut ys c.args.after.now) (sym c.set.ensures)
+    (inserted_follows c.args.blocks.now c.requires.blocks c.span_of-span.result c.args.edit c.args.after.now c.span_of-span.ensures c.requires.edit
+    (omega (arith, c.len-len_after.ensures.value, c.len-len_after.ensures.limit)) (omega arith) (omega arith)
+    c.get.result c.count_range-more.result c.get.ensures c.count_range-more.ensures
+    c.of.result (c.of.ensures ∙ c.plus-counts.ensures) before here edited)
 
 pub cut-requires-clause-inside : goal.cut-requires-clause-inside
 cut-requires-clause-inside c =
@@ -25,8 +60,11 @@ cut-requires-clause-inside c =
       sum_by-take-le (λ (b : Block). b.bytes) c.args.blocks.now (span.first + span.count),
     )
 
-pub replace-requires-clause-few : goal.replace-requires-clause-few
-replace-requires-clause-few c =
+pub replace-requires-clause-old : goal.replace-requires-clause-old
+replace-requires-clause-old c = modest_by c.args.blocks.now c.requires.blocks
+
+pub replace-requires-clause-new : goal.replace-requires-clause-new
+replace-requires-clause-new c =
     let bs = c.args.blocks.now in
     let after = c.args.after.now in
     let span = c.span_of-span.result in
@@ -37,7 +75,7 @@ replace-requires-clause-few c =
     let cut : IsCut news (take len (drop span.start after)) =
     subst (λ (n : ℕ). IsCut news (take n (drop span.start after))) all c.in_ok-fresh.ensures.cut in
     let le : length after ≤ MAX_LEN = omega (arith, c.len-len_after.ensures.value, c.len-len_after.ensures.limit) in
-    few_by (take span.first bs ++ c.deref.result.now ++ drop (span.first + span.count) bs)
+    modest_by (take span.first bs ++ c.deref.result.now ++ drop (span.first + span.count) bs)
     (subst (λ (ys : List Block). AreOfSomeText (take span.first bs ++ ys ++ drop (span.first + span.count) bs)) (sym c.deref.ensures.value)
     (replaced_some bs news c.requires.blocks span edit after c.span_of-span.ensures c.requires.edit le cut))
 
