@@ -77,7 +77,7 @@ inserted_counts m fresh k =
     let same : k + 0 ≡ k = omega arith in
     let swap : plus (plus (counts_of (take k m)) (counts_of fresh)) (counts_of (drop k m)) ≡ plus (plus (counts_of (take k m)) (counts_of (drop k m))) (counts_of fresh) =
     same_counts (plus (plus (counts_of (take k m)) (counts_of fresh)) (counts_of (drop k m)))
-        (plus (plus (counts_of (take k m)) (counts_of (drop k m))) (counts_of fresh)) (omega arith) (omega arith) (omega arith) in
+    (plus (plus (counts_of (take k m)) (counts_of (drop k m))) (counts_of fresh)) (omega arith) (omega arith) (omega arith) in
     ap (λ (n : ℕ). counts_of ((take k m ++ fresh) ++ drop n m)) same ∙ counts-append (take k m ++ fresh) (drop k m)
     ∙ ap (λ (c : Counts). plus c (counts_of (drop k m))) (counts-append (take k m) fresh) ∙ swap
     ∙ ap (λ (c : Counts). plus c (counts_of fresh)) (sym (counts-append (take k m) (drop k m)) ∙ ap counts_of (take-append-drop k m))
@@ -178,7 +178,7 @@ module _ (bs news : List Block) (x : List ℕ) (c : IsCut bs x) (first count sta
       let a-to : st + 0 ≤ length s.prefix + length r.prefix = omega (arith, prefix-len, middle-is, to) in
       let m : List ℕ = middle s.prefix r.prefix r.back after e.fresh st 0 a-from a-to edited in
       let counts : block_counts b ≡ counts_of m = counted ∙ ap (λ (a : Counts). plus a (counts_of e.fresh)) (own_is own is)
-          ∙ sym (inserted_counts r.prefix e.fresh (st - length s.prefix)) in
+      ∙ sym (inserted_counts r.prefix e.fresh (st - length s.prefix)) in
       subst (λ (y : List ℕ). IsCut (take first bs ++ news ++ drop (first + count) bs) y)
       (sym (after_is s.prefix r.prefix r.back after e.fresh st 0 a-from a-to edited))
       (replaced m (subst (λ (ys : List Block). IsCut ys m) (sym one) (m, [], sym (append-nil m), counts, refl)))

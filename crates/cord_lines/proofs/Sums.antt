@@ -5,7 +5,7 @@ use Rattle.std.specs.List.{sum_by}
 use Rattle.std.proofs.lemmas.Bool.Decides.{nat_tests}
 use Rattle.std.proofs.Math.ListN.{set, length-set}
 use Rattle.std.proofs.Math.Seq.{take-add, take-set-lt}
-use Rattle.std.proofs.lemmas.List.{append-nil, get_or-drop, get_or-take, take_all, take_more, drop_all, take-append-drop, drop-drop, drop-set, drop-set-lt, drop-set-add, set-append_right, take-set, take-set-le}
+use Rattle.std.proofs.lemmas.List.{get_or-drop, get_or-take, take_all, take_more, drop_all, take-append-drop, drop-drop, drop-set, drop-set-lt, drop-set-add, set-append_right, take-set, take-set-le}
 use Rattle.std.proofs.lemmas.List.Sums.{fold_more, sum_by-cons, sum_by-append, sum_by-set, sum_by-take-drop, sum_by-take-le}
 use Rattle.cord_lines.specs.declared.counting.Counts.{Counts}
 use Rattle.cord_lines.specs.declared.blocks.Block.{Block}
@@ -311,7 +311,7 @@ module _ (xs fresh : List Block) (s : ℕ) where
       ∙ ap (λ (w : List Block). front ++ ((get_or fresh i d ∷ []) ++ w)) (drop-drop 1 (s + i) xs ∙ ap (λ (n : ℕ). drop n xs) next)
       ∙ sym (append_assoc front (get_or fresh i d ∷ []) (drop (s + (i + 1)) xs))
       ∙ ap (λ (w : List Block). w ++ drop (s + (i + 1)) xs) (append_assoc (take s xs) (take i fresh) (get_or fresh i d ∷ [])
-          ∙ ap (λ (w : List Block). take s xs ++ w) (sym (take_more fresh i d lt)))
+      ∙ ap (λ (w : List Block). take s xs ++ w) (sym (take_more fresh i d lt)))
 
   -- they hold no more than those before and after do together
   sum_between : (f : Block → ℕ) (n i : ℕ) → sum_by f (replaced i) ≤ sum_by f xs + sum_by f (take s xs ++ fresh ++ drop n xs)

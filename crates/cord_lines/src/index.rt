@@ -156,10 +156,10 @@ impl LineIndex {
     }
 
     /// Makes it the index of the text after an edit: `inserted` bytes stand from `start` on in the place of `removed`
-    /// others of the text before. Only the blocks that the edit meets are counted once more, and the new bytes; where
-    /// the number of blocks changes, the list of them is copied, which takes O(n) in blocks of some 8 KiB. If no such
-    /// edit makes a text of this length, all of it is counted. Refused only when out of memory, and then the index is as
-    /// it was.
+    /// others of the text before. Only the blocks that the edit meets are counted once more, and the new bytes: of an
+    /// insertion into one block the new bytes alone. Where the number of blocks changes, the list of them is copied,
+    /// which takes O(n) in blocks of some 8 KiB. If no such edit makes a text of this length, all of it is counted.
+    /// Refused only when out of memory, and then the index is as it was.
     pub fn edited(
         &mut self,
         alloc: Global,

@@ -1,7 +1,7 @@
 use Rattle.std.proofs.Common.{◌≡◌, ◌∙◌, ℕ, List, ◌+◌, ◌-◌, ◌≤◌, refl, ◌++◌, length, take, drop, ap, sym, subst, arith}
+use Rattle.std.proofs.Math.ListN.{set}
 use Rattle.std.proofs.lemmas.List.Sums.{sum_by-take-le}
 use Rattle.cord_io.specs.declared.TheConstants.{MAX_LEN}
-use Rattle.std.proofs.Math.ListN.{set}
 use Rattle.cord_lines.specs.Counts.{AreNarrow}
 use Rattle.cord_lines.specs.declared.blocks.Block.{Block}
 use Rattle.cord_lines.specs.inner.Cuts.{IsCut, AreOfSomeText}
