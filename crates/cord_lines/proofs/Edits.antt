@@ -1,5 +1,5 @@
 -- Blocks of a text that is edited.
-use Rattle.std.proofs.Common.{◌≡◌, ℕ, ◌+◌, ◌-◌, ◌<◌, ◌≤◌, List, [], ◌∷◌, ◌++◌, length, take, drop, refl, sym, ap, ◌∙◌, arith, append_assoc, subst, length-append, length-take, length-drop, min, suc, zero}
+use Rattle.std.proofs.Common.{◌≡◌, ℕ, ◌+◌, ◌-◌, ◌<◌, ◌≤◌, List, [], ◌∷◌, ◌++◌, length, take, drop, refl, sym, ap, ◌∙◌, arith, append_assoc, subst, length-append, length-take, length-drop, min, suc, zero, Some}
 use Rattle.std.proofs.Math.ListN.{set}
 use Rattle.std.proofs.lemmas.List.{append-nil, take-append-drop, drop_all, drop-drop, take-append-le, drop-append-le}
 use Rattle.std.proofs.lemmas.List.Sums.{sum_by-take-le}
@@ -12,11 +12,11 @@ use Rattle.cord_lines.specs.declared.renewing.Edit.{Edit}
 use Rattle.cord_lines.specs.declared.renewing.Span.{Span}
 use Rattle.cord_lines.specs.Counts.{counts_of, plus, AreFew, AreNarrow}
 use Rattle.cord_lines.specs.Lines.{IsEditOf}
-use Rattle.cord_lines.specs.inner.Blocks.{block_counts, total}
+use Rattle.cord_lines.specs.inner.Blocks.{block_counts, exchanged, total, AreWithin}
 use Rattle.cord_lines.specs.inner.Cuts.{IsCut, AreOfSomeText}
-use Rattle.cord_lines.specs.inner.Edits.{Covers, Fits, FollowEdit}
-use Rattle.cord_lines.proofs.Countings.{chars-le, counts-append, ends-le, same_counts}
-use Rattle.cord_lines.proofs.Cuts.{Split, split, joined, total_is}
+use Rattle.cord_lines.specs.inner.Edits.{AreBefore, Covers, Fits, FollowEdit}
+use Rattle.cord_lines.proofs.Countings.{counts-append, plus_assoc, same_counts}
+use Rattle.cord_lines.proofs.Cuts.{Split, split, joined, narrow, total_is}
 use Rattle.cord_lines.proofs.Sums.{min_prefix, set_one}
 
 regroup : (a b c d e : List ℕ) → ((a ++ b) ++ c) ++ (d ++ e) ≡ a ++ (((b ++ c) ++ d) ++ e)
@@ -71,23 +71,44 @@ capped x after fresh start count from removed inserted text from-is removed-is l
           ∙ ap (λ (y : List ℕ). take from x ++ fresh ++ y) (sym (ap (λ (n : ℕ). drop n x) end ∙ drop_min (start + count) x));
     }
 
--- bytes are inserted into others
-inserted_counts : (m fresh : List ℕ) (k : ℕ) → counts_of ((take k m ++ fresh) ++ drop (k + 0) m) ≡ plus (counts_of m) (counts_of fresh)
-inserted_counts m fresh k =
-    let same : k + 0 ≡ k = omega arith in
-    let swap : plus (plus (counts_of (take k m)) (counts_of fresh)) (counts_of (drop k m)) ≡ plus (plus (counts_of (take k m)) (counts_of (drop k m))) (counts_of fresh) =
-    same_counts (plus (plus (counts_of (take k m)) (counts_of fresh)) (counts_of (drop k m)))
-    (plus (plus (counts_of (take k m)) (counts_of (drop k m))) (counts_of fresh)) (omega arith) (omega arith) (omega arith) in
-    ap (λ (n : ℕ). counts_of ((take k m ++ fresh) ++ drop n m)) same ∙ counts-append (take k m ++ fresh) (drop k m)
-    ∙ ap (λ (c : Counts). plus c (counts_of (drop k m))) (counts-append (take k m) fresh) ∙ swap
-    ∙ ap (λ (c : Counts). plus c (counts_of fresh)) (sym (counts-append (take k m) (drop k m)) ∙ ap counts_of (take-append-drop k m))
+-- what an edit takes out of the middle one
+removed_at : (a m z : List ℕ) (st rem : ℕ) → length a ≤ st → st + rem ≤ length a + length m →
+    take rem (drop st (a ++ (m ++ z))) ≡ take rem (drop (st - length a) m)
+removed_at a m z st rem from to =
+    let k : ℕ = st - length a in
+    let rest : drop st (a ++ (m ++ z)) ≡ drop k m ++ z = drop-append_right a (m ++ z) st from ∙ drop-append-le k m z (omega (arith, from, to)) in
+    ap (take rem) rest ∙ take-append-le rem (drop k m) z (omega (arith, from, to, length-drop k m))
 
-narrow_more : (m fresh : List ℕ) → length m + length fresh < 65536 → AreNarrow (plus (counts_of m) (counts_of fresh))
-narrow_more m fresh lt = record {
-  bytes = lt;
-  ends = omega (arith, lt, ends-le m, ends-le fresh);
-  chars = omega (arith, lt, chars-le m, chars-le fresh);
-}
+-- a part of some bytes is replaced
+in_three : (m : List ℕ) (k rem : ℕ) →
+    counts_of m ≡ plus (plus (counts_of (take k m)) (counts_of (take rem (drop k m)))) (counts_of (drop (k + rem) m))
+in_three m k rem =
+    let here = counts_of (take k m) in
+    let out = counts_of (take rem (drop k m)) in
+    ap counts_of (sym (take-append-drop k m)) ∙ counts-append (take k m) (drop k m)
+    ∙ ap (plus here) (ap counts_of (sym (take-append-drop rem (drop k m))) ∙ counts-append (take rem (drop k m)) (drop rem (drop k m))
+    ∙ ap (λ (y : List ℕ). plus out (counts_of y)) (drop-drop rem k m))
+    ∙ sym (plus_assoc here out (counts_of (drop (k + rem) m)))
+
+part_within : (m : List ℕ) (k rem : ℕ) → AreWithin (counts_of (take rem (drop k m))) (counts_of m)
+part_within m k rem =
+    let all = in_three m k rem in
+    let bytes = ap (λ (a : Counts). a.bytes) all in
+    let ends = ap (λ (a : Counts). a.ends) all in
+    let chars = ap (λ (a : Counts). a.chars) all in
+    record { bytes = omega (arith, bytes); ends = omega (arith, ends); chars = omega (arith, chars) }
+
+exchanged_part : (m fresh : List ℕ) (k rem : ℕ) →
+    exchanged (counts_of m) (counts_of (take rem (drop k m))) (counts_of fresh) ≡ counts_of ((take k m ++ fresh) ++ drop (k + rem) m)
+exchanged_part m fresh k rem =
+    let all = in_three m k rem in
+    let bytes = ap (λ (a : Counts). a.bytes) all in
+    let ends = ap (λ (a : Counts). a.ends) all in
+    let chars = ap (λ (a : Counts). a.chars) all in
+    let out = counts_of (take rem (drop k m)) in
+    let then = plus (plus (counts_of (take k m)) (counts_of fresh)) (counts_of (drop (k + rem) m)) in
+    same_counts (exchanged (counts_of m) out (counts_of fresh)) then (omega (arith, bytes)) (omega (arith, ends)) (omega (arith, chars))
+    ∙ sym (counts-append (take k m ++ fresh) (drop (k + rem) m) ∙ ap (λ (c : Counts). plus c (counts_of (drop (k + rem) m))) (counts-append (take k m) fresh))
 
 -- blocks of a text, some of which are replaced
 module _ (bs news : List Block) (x : List ℕ) (c : IsCut bs x) (first count start bytes : ℕ)
@@ -162,26 +183,48 @@ module _ (bs news : List Block) (x : List ℕ) (c : IsCut bs x) (first count sta
       let same-chars = ap (λ (a : Counts). a.chars) sum in
       same_counts own (counts_of r.prefix) (omega (arith, same-bytes)) (omega (arith, same-ends)) (omega (arith, same-chars)))
 
-  pub narrow_with : (own : Counts) (fresh : List ℕ) → total (take (first + count) bs) ≡ plus (total (take first bs)) own →
-      bytes + length fresh < 65536 → AreNarrow (plus own (counts_of fresh))
-  narrow_with own fresh e lt = subst (λ (a : Counts). AreNarrow (plus a (counts_of fresh))) (sym (own_is own e))
-      (narrow_more r.prefix fresh (omega (arith, middle-is, lt)))
+  -- one block, of which a part is replaced
+  module _ (own removed : Counts) (after : List ℕ) (st rem ins : ℕ) (e : IsEditOf x after st rem ins) (from : start ≤ st) (to : st + rem ≤ start + bytes)
+      (own-is : total (take (first + count) bs) ≡ plus (total (take first bs)) own) (removed-is : removed ≡ counts_of (take rem (drop st x))) where
+    a-from : length s.prefix ≤ st
+    a-from = omega (arith, prefix-len, from)
 
-  -- one block with what is inserted into it
-  pub inserted : (b : Block) (own : Counts) (after : List ℕ) (st ins : ℕ) (e : IsEditOf x after st 0 ins) → start ≤ st → st + 0 ≤ start + bytes →
-      total (take (first + count) bs) ≡ plus (total (take first bs)) own → block_counts b ≡ plus own (counts_of e.fresh) → news ≡ b ∷ [] →
-      IsCut (take first bs ++ news ++ drop (first + count) bs) after
-  inserted b own after st ins e from to is counted one =
-      let edited : after ≡ take st (s.prefix ++ (r.prefix ++ r.back)) ++ e.fresh ++ drop (st + 0) (s.prefix ++ (r.prefix ++ r.back)) =
-      subst (λ (y : List ℕ). after ≡ take st y ++ e.fresh ++ drop (st + 0) y) text e.text in
-      let a-from : length s.prefix ≤ st = omega (arith, prefix-len, from) in
-      let a-to : st + 0 ≤ length s.prefix + length r.prefix = omega (arith, prefix-len, middle-is, to) in
-      let m : List ℕ = middle s.prefix r.prefix r.back after e.fresh st 0 a-from a-to edited in
-      let counts : block_counts b ≡ counts_of m = counted ∙ ap (λ (a : Counts). plus a (counts_of e.fresh)) (own_is own is)
-      ∙ sym (inserted_counts r.prefix e.fresh (st - length s.prefix)) in
-      subst (λ (y : List ℕ). IsCut (take first bs ++ news ++ drop (first + count) bs) y)
-      (sym (after_is s.prefix r.prefix r.back after e.fresh st 0 a-from a-to edited))
-      (replaced m (subst (λ (ys : List Block). IsCut ys m) (sym one) (m, [], sym (append-nil m), counts, refl)))
+    a-to : st + rem ≤ length s.prefix + length r.prefix
+    a-to = omega (arith, prefix-len, middle-is, to)
+
+    edited : after ≡ take st (s.prefix ++ (r.prefix ++ r.back)) ++ e.fresh ++ drop (st + rem) (s.prefix ++ (r.prefix ++ r.back))
+    edited = subst (λ (y : List ℕ). after ≡ take st y ++ e.fresh ++ drop (st + rem) y) text e.text
+
+    abbrev m : List ℕ
+    m = middle s.prefix r.prefix r.back after e.fresh st rem a-from a-to edited
+
+    part-is : removed ≡ counts_of (take rem (drop (st - length s.prefix) r.prefix))
+    part-is = removed-is ∙ ap (λ (y : List ℕ). counts_of (take rem (drop st y))) text
+        ∙ ap counts_of (removed_at s.prefix r.prefix r.back st rem a-from a-to)
+
+    pub removed_within : AreWithin removed own
+    removed_within = subst (λ (a : Counts). AreWithin removed a) (sym (own_is own own-is))
+        (subst (λ (a : Counts). AreWithin a (counts_of r.prefix)) (sym part-is) (part_within r.prefix (st - length s.prefix) rem))
+
+    counts_then : exchanged own removed (counts_of e.fresh) ≡ counts_of m
+    counts_then = ap (λ (a : Counts). exchanged a removed (counts_of e.fresh)) (own_is own own-is)
+        ∙ ap (λ (a : Counts). exchanged (counts_of r.prefix) a (counts_of e.fresh)) part-is
+        ∙ exchanged_part r.prefix e.fresh (st - length s.prefix) rem
+
+    pub narrow_with : bytes - rem + ins < 65536 → AreNarrow (exchanged own removed (counts_of e.fresh))
+    narrow_with lt = subst AreNarrow (sym counts_then) (narrow m (omega (
+      arith,
+      lt,
+      middle-is,
+      e.count,
+      middle-len s.prefix r.prefix r.back after e.fresh st rem a-from a-to edited,
+    )))
+
+    pub exchanged_in : (b : Block) → block_counts b ≡ exchanged own removed (counts_of e.fresh) → news ≡ b ∷ [] →
+        IsCut (take first bs ++ news ++ drop (first + count) bs) after
+    exchanged_in b counted one = subst (λ (y : List ℕ). IsCut (take first bs ++ news ++ drop (first + count) bs) y)
+        (sym (after_is s.prefix r.prefix r.back after e.fresh st rem a-from a-to edited))
+        (replaced m (subst (λ (ys : List Block). IsCut ys m) (sym one) (m, [], sym (append-nil m), counted ∙ counts_then, refl)))
 
 -- the blocks that an edit meets are replaced by those of as many bytes as there are then
 pub replaced_some : (bs news : List Block) (some : AreOfSomeText bs) (span : Span) (edit : Edit) (after : List ℕ) → Covers bs span edit →
@@ -214,16 +257,31 @@ fresh_at x after st rem ins n e is =
     ∙ ap (take n) (drop-append_seam (take st x) (e.fresh ++ back))
     ∙ ap (λ (k : ℕ). take k (e.fresh ++ back)) (is ∙ sym e.count) ∙ take-append_seam e.fresh back
 
--- an insertion into one block
-module _ (bs : List Block) (some : AreOfSomeText bs) (span : Span) (edit : Edit) (after : List ℕ) (covers : Covers bs span edit)
-    (fits : Fits edit (total bs).bytes (length after)) (short : length after ≤ MAX_LEN) (one : span.count ≡ 1) (none : edit.removed ≡ 0)
-    (own more : Counts) (own-is : total (take (span.first + 1) bs) ≡ plus (total (take span.first bs)) own)
-    (more-is : more ≡ counts_of (take ((edit.start + edit.inserted) - edit.start) (drop edit.start after))) where
+-- an edit within one block
+module _ (bs : List Block) (edit : Edit) (removed own inserted : Counts) (before : AreBefore bs edit (Some removed)) (span : Span) (after : List ℕ)
+    (covers : Covers bs span edit) (fits : Fits edit (total bs).bytes (length after)) (short : length after ≤ MAX_LEN) (one : span.count ≡ 1)
+    (own-is : total (take (span.first + 1) bs) ≡ plus (total (take span.first bs)) own)
+    (inserted-is : inserted ≡ counts_of (take ((edit.start + edit.inserted) - edit.start) (drop edit.start after))) where
+  abbrev x : List ℕ
+  x = before.some.text
+
   abbrev fresh : List ℕ
   fresh = take ((edit.start + edit.inserted) - edit.start) (drop edit.start after)
 
-  fresh-len : length fresh ≡ edit.inserted
-  fresh-len = omega (arith, fits.inside, fits.len, none, length-take ((edit.start + edit.inserted) - edit.start) (drop edit.start after), length-drop edit.start after)
+  abbrev y : List ℕ
+  y = take edit.start x ++ fresh ++ drop (edit.start + edit.removed) x
+
+  whole : (total bs).bytes ≡ length x
+  whole = ap (λ (a : Counts). a.bytes) (total_is bs x before.some.cut)
+
+  -- with a text that they are of
+  abbrev e : IsEditOf x y edit.start edit.removed edit.inserted
+  e = record {
+    fresh = fresh;
+    count = omega (arith, fits.inside, fits.len, length-take ((edit.start + edit.inserted) - edit.start) (drop edit.start after), length-drop edit.start after);
+    inside = omega (arith, fits.inside, whole);
+    text = refl;
+  }
 
   both-is : total (take (span.first + span.count) bs) ≡ plus (total (take span.first bs)) own
   both-is = ap (λ (n : ℕ). total (take (span.first + n) bs)) one ∙ own-is
@@ -232,49 +290,44 @@ module _ (bs : List Block) (some : AreOfSomeText bs) (span : Span) (edit : Edit)
   set-is b = (let lt : span.first < length bs = omega (arith, covers.span.inside, one) in
       ap (λ (n : ℕ). take span.first bs ++ (b ∷ []) ++ drop (span.first + n) bs) one ∙ sym (set_one bs span.first b lt))
 
-  to : edit.start + 0 ≤ span.start + span.bytes
-  to = omega (arith, covers.to)
+  pub within_own : AreWithin removed own
+  within_own = removed_within bs [] x before.some.cut span.first span.count span.start span.bytes covers.span.start covers.span.end own removed y
+      edit.start edit.removed edit.inserted e covers.from covers.to both-is before.known
 
-  pub narrow_then : span.bytes + edit.inserted < 65536 → AreNarrow (plus own more)
-  narrow_then lt = subst (λ (a : Counts). AreNarrow (plus own a)) (sym more-is)
-      (narrow_with bs [] some.text some.cut span.first span.count span.start span.bytes covers.span.start covers.span.end own fresh both-is
-      (omega (arith, lt, fresh-len)))
+  pub narrow_then : span.bytes - edit.removed + edit.inserted < 65536 → AreNarrow (exchanged own removed inserted)
+  narrow_then lt = subst (λ (a : Counts). AreNarrow (exchanged own removed a)) (sym inserted-is)
+      (narrow_with bs [] x before.some.cut span.first span.count span.start span.bytes covers.span.start covers.span.end own removed y
+      edit.start edit.removed edit.inserted e covers.from covers.to both-is before.known lt)
 
-  pub few_then : span.bytes + edit.inserted < 65536 → AreFew (plus own more)
+  pub few_then : span.bytes - edit.removed + edit.inserted < 65536 → AreFew (exchanged own removed inserted)
   few_then lt = (let n = narrow_then lt in
       record { bytes = omega (arith, n.bytes); ends = omega (arith, n.ends); chars = omega (arith, n.chars) })
 
-  pub inserted_some : (b : Block) → block_counts b ≡ plus own more → AreOfSomeText (set bs span.first b)
-  inserted_some b counted =
-      let x = some.text in
-      let y : List ℕ = take edit.start x ++ fresh ++ drop (edit.start + 0) x in
-      let whole : (total bs).bytes ≡ length x = ap (λ (a : Counts). a.bytes) (total_is bs x some.cut) in
-      let e : IsEditOf x y edit.start 0 edit.inserted = record { fresh = fresh; count = fresh-len; inside = omega (arith, fits.inside, whole); text = refl } in
-      record {
-        text = y;
-        cut = subst (λ (ys : List Block). IsCut ys y) (set-is b)
-            (inserted bs (b ∷ []) x some.cut span.first span.count span.start span.bytes covers.span.start covers.span.end b own y edit.start
-            edit.inserted e covers.from to both-is (counted ∙ ap (plus own) more-is) refl);
-        limit = omega (
-          arith,
-          short,
-          whole,
-          fits.inside,
-          fits.len,
-          none,
-          fresh-len,
-          length-append (take edit.start x ++ fresh) (drop (edit.start + 0) x),
-          length-append (take edit.start x) fresh,
-          length-take edit.start x,
-          length-drop (edit.start + 0) x,
-        );
-      }
+  pub edited_some : (b : Block) → block_counts b ≡ exchanged own removed inserted → AreOfSomeText (set bs span.first b)
+  edited_some b counted = record {
+    text = y;
+    cut = subst (λ (ys : List Block). IsCut ys y) (set-is b)
+        (exchanged_in bs (b ∷ []) x before.some.cut span.first span.count span.start span.bytes covers.span.start covers.span.end own removed y
+        edit.start edit.removed edit.inserted e covers.from covers.to both-is before.known b (counted ∙ ap (exchanged own removed) inserted-is) refl);
+    limit = omega (
+      arith,
+      short,
+      whole,
+      fits.inside,
+      fits.len,
+      e.count,
+      length-append (take edit.start x ++ fresh) (drop (edit.start + edit.removed) x),
+      length-append (take edit.start x) fresh,
+      length-take edit.start x,
+      length-drop (edit.start + edit.removed) x,
+    );
+  }
 
-  pub inserted_follows : (b : Block) → block_counts b ≡ plus own more → FollowEdit bs (set bs span.first b) after edit
-  inserted_follows b counted = λ before cut edited.
-      let e : IsEditOf before after edit.start 0 edit.inserted = subst (λ (n : ℕ). IsEditOf before after edit.start n edit.inserted) none edited in
+  pub edited_follows : (b : Block) → block_counts b ≡ exchanged own removed inserted → FollowEdit bs (set bs span.first b) after edit (Some removed)
+  edited_follows b counted = λ old cut known edited.
       let n : (edit.start + edit.inserted) - edit.start ≡ edit.inserted = omega arith in
-      let same : more ≡ counts_of e.fresh = more-is ∙ ap counts_of (fresh_at before after edit.start 0 edit.inserted ((edit.start + edit.inserted) - edit.start) e n) in
+      let same : inserted ≡ counts_of edited.fresh =
+      inserted-is ∙ ap counts_of (fresh_at old after edit.start edit.removed edit.inserted ((edit.start + edit.inserted) - edit.start) edited n) in
       subst (λ (ys : List Block). IsCut ys after) (set-is b)
-      (inserted bs (b ∷ []) before cut span.first span.count span.start span.bytes covers.span.start covers.span.end b own after edit.start
-      edit.inserted e covers.from to both-is (counted ∙ ap (plus own) same) refl)
+      (exchanged_in bs (b ∷ []) old cut span.first span.count span.start span.bytes covers.span.start covers.span.end own removed after
+      edit.start edit.removed edit.inserted edited covers.from covers.to both-is known b (counted ∙ ap (exchanged own removed) same) refl)

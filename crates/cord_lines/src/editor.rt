@@ -8,6 +8,7 @@ ghost use Rattle.cord_lines.specs.Counts.{chars_in, ends_in};
 ghost use Rattle.cord_lines.specs.Lines.{after_ends};
 
 use crate::index::LineIndex;
+use crate::renewing::Edit;
 use cord::{CordError, MAX_LEN, Text};
 use std::alloc::Global;
 use std::marker::Model;
@@ -94,7 +95,8 @@ impl LineEditor {
     }
 
     /// Puts the bytes of `text`, whose tree is shared, in the place of at most `count` bytes from `start` on: at the end
-    /// where `start` is at or past the end. It costs what `Text::replace_range` and `LineIndex::edited` do.
+    /// where `start` is at or past the end. It costs what `Text::replace_range` does and then, within one block, a count
+    /// of what is removed and what is new, or else what `LineIndex::edited` does.
     /// `TooLong` where the bytes would be more than `MAX_LEN`, `NoMemory` where memory was refused.
     pub fn replace_range(
         &mut self,
@@ -115,8 +117,12 @@ impl LineEditor {
         let len = self.text.len();
         let from = start.min(len);
         let removed = count.min(len - from);
-        let inserted = text.len();
-        self.index.edited(alloc, &after, from, removed, inserted)?;
+        let edit = Edit {
+            start: from,
+            removed,
+            inserted: text.len(),
+        };
+        self.index.edited_from(alloc, &self.text, &after, edit)?;
         self.text = after;
         Ok(())
     }

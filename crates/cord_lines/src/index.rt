@@ -4,7 +4,7 @@ ghost use Rattle.std.specs.Prelude.{Some, length, take, drop, min, slice_get};
 ghost use Rattle.cord_io.specs.declared.CordError.TheVariants.{NoMemory};
 ghost use Rattle.cord.specs.Lines.{lines, bare_lines, lines_as};
 ghost use Rattle.cord_lines.specs.Counts.{chars_in, counts_of, ends_in};
-ghost use Rattle.cord_lines.specs.Lines.{after_ends, is_inside_line, lacks_end};
+ghost use Rattle.cord_lines.specs.Lines.{after_ends, is_inside_line, lacks_end, IsEditOf};
 ghost use Rattle.cord_lines.specs.Index.{FollowsEdit, IsIndexOf, of_no_bytes};
 
 use crate::blocks::{Blocks, Measure};
@@ -181,7 +181,28 @@ impl LineIndex {
             *self = LineIndex::of(alloc, after)?;
             return Ok(());
         }
-        renew(&mut self.blocks, alloc, after, edit)?;
+        renew(&mut self.blocks, alloc, after, edit, edit.known_removed())?;
+        self.lacks_end = lacks_end_of(after);
+        Ok(())
+    }
+
+    /// As `edited`, with the text before the edit: of an edit within one block only what is removed and what is new is
+    /// counted.
+    pub(crate) fn edited_from(
+        &mut self,
+        alloc: Global,
+        before: &Text,
+        after: &Text,
+        edit: Edit,
+    ) -> Result<(), CordError>
+        requires index { IsIndexOf self.old before.now }
+        requires edit { IsEditOf before.now after.now edit.start edit.removed edit.inserted }
+        ensures index { OnOk result (IsIndexOf self.new after.now) }
+        ensures unchanged { IsErr result → self.new ≡ self.old }
+        ensures refused { IsOkUnless result NoMemory }
+    {
+        let removed = edit.removed_from(before);
+        renew(&mut self.blocks, alloc, after, edit, removed)?;
         self.lacks_end = lacks_end_of(after);
         Ok(())
     }

@@ -1,12 +1,13 @@
 // Blocks of a text that was edited.
-ghost use Rattle.std.specs.Prelude.{◌≡◌, ◌↔◌, ◌+◌, ◌<◌, ◌≤◌, ◌^◌, IsTrue, OnOk, IsErr, IsOkUnless, length};
+ghost use Rattle.std.specs.Prelude.{◌≡◌, ◌↔◌, ◌+◌, ◌<◌, ◌≤◌, ◌^◌, List, ℕ, IsTrue, OnOk, IsErr, IsOkUnless, length};
 ghost use Rattle.cord_io.specs.declared.CordError.TheVariants.{NoMemory};
 ghost use Rattle.cord_lines.specs.Counts.{AreFew};
 ghost use Rattle.cord_lines.specs.inner.Blocks.{total};
 ghost use Rattle.cord_lines.specs.inner.Cuts.{AreModest, AreOfSomeText};
-ghost use Rattle.cord_lines.specs.inner.Edits.{Covers, Fits, FollowEdit, IsSpan};
+ghost use Rattle.cord_lines.specs.inner.Edits.{AreBefore, AreRemoved, Covers, Fits, FollowEdit, IsSpan};
 
 use crate::blocks::{Block, Blocks, Measure};
+use crate::counting::Counts;
 use crate::cutting::{BLOCK, LARGEST, cut};
 use crate::reading::count_range;
 use cord::{CordError, Text};
@@ -33,6 +34,31 @@ impl Edit {
             && before - self.removed <= after
             && after - (before - self.removed) == self.inserted
     }
+
+    /// The counts of what it removes, where they are known without the text: of nothing.
+    pub(crate) fn known_removed(self) -> Option<Counts>
+        ensures { (x : List ℕ) → AreRemoved result self x }
+    {
+        if self.removed == 0 {
+            Some(Counts::NONE)
+        } else {
+            None
+        }
+    }
+
+    /// The counts of what it removes from a text, if that is little.
+    pub(crate) fn removed_from(self, before: &Text) -> Option<Counts>
+        requires { self.start + self.removed ≤ length before.now }
+        ensures { AreRemoved result self before.now }
+    {
+        let len = before.len();
+        prove!(self.start <= len);
+        if self.removed <= LARGEST {
+            Some(count_range(before, self.start, self.start + self.removed))
+        } else {
+            None
+        }
+    }
 }
 
 /// Blocks beside each other: `count` of them from the index `first` on, which hold `bytes` bytes from `start` on.
@@ -44,18 +70,19 @@ struct Span {
     bytes: u64,
 }
 
-/// The blocks of the text after an edit: those that the edit meets are counted once more, but of an insertion into one
-/// block only what is new. Refused only when out of memory, and then all is as it was.
+/// The blocks of the text after an edit: those that the edit meets are counted once more, but within one block only what
+/// is new, where the counts of what was removed are known. Refused only when out of memory, and then all is as it was.
 pub(crate) fn renew(
     blocks: &mut Blocks,
     alloc: Global,
     after: &Text,
     edit: Edit,
+    removed: Option<Counts>,
 ) -> Result<(), CordError>
-    requires blocks { AreOfSomeText blocks.old }
+    requires blocks { AreBefore blocks.old edit removed }
     requires edit { Fits edit (total blocks.old).bytes (length after.now) }
     ensures blocks { AreOfSomeText blocks.new }
-    ensures cut { OnOk result (FollowEdit blocks.old blocks.new after.now edit) }
+    ensures cut { OnOk result (FollowEdit blocks.old blocks.new after.now edit removed) }
     ensures unchanged { IsErr result → blocks.new ≡ blocks.old }
     ensures refused { IsOkUnless result NoMemory }
 {
@@ -63,11 +90,13 @@ pub(crate) fn renew(
     prove!(edit.inserted <= len_after);
     let span = span_of(blocks, edit);
     let len = span.bytes - edit.removed + edit.inserted;
-    if edit.removed == 0 && span.count == 1 && len <= LARGEST {
-        let more = count_range(after, edit.start, edit.start + edit.inserted);
-        let counts = blocks.get(span.first).plus(more);
-        blocks.set(span.first, Block::of(counts));
-        return Ok(());
+    if span.count == 1 && len <= LARGEST {
+        if let Some(removed) = removed {
+            let inserted = count_range(after, edit.start, edit.start + edit.inserted);
+            let counts = blocks.get(span.first).exchanged(removed, inserted);
+            blocks.set(span.first, Block::of(counts));
+            return Ok(());
+        }
     }
     let size = size_of(len, span.count);
     let fresh = cut(alloc, after, span.start, span.start + len, size)?;

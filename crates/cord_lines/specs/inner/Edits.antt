@@ -1,20 +1,32 @@
 -- Blocks of a text that is edited.
-use Rattle.std.specs.Prelude.{◌≡◌, ℕ, ◌+◌, ◌-◌, ◌≤◌, List, length, take}
+use Rattle.std.specs.Prelude.{◌≡◌, ℕ, ◌+◌, ◌-◌, ◌≤◌, List, length, take, drop, Option, IfSome}
+use Rattle.cord_lines.specs.Counts.{counts_of}
 use Rattle.cord_lines.specs.Lines.{IsEditOf}
+use Rattle.cord_lines.specs.declared.counting.Counts.{Counts}
 use Rattle.cord_lines.specs.declared.blocks.Block.{Block}
 use Rattle.cord_lines.specs.declared.renewing.Edit.{Edit}
 use Rattle.cord_lines.specs.declared.renewing.Span.{Span}
 use Rattle.cord_lines.specs.inner.Blocks.{total}
-use Rattle.cord_lines.specs.inner.Cuts.{IsCut}
+use Rattle.cord_lines.specs.inner.Cuts.{IsCut, AreOfSomeText}
 
 -- the edit may make a text of one length of a text of another one
 pub record Fits (edit : Edit) (before after : ℕ) : Type 0 where
   pub inside : edit.start + edit.removed ≤ before
   pub len : before - edit.removed + edit.inserted ≡ after
 
+-- these counts, if there are any, are those of what an edit takes out of a text
+abbrev pub AreRemoved : Option Counts → Edit → List ℕ → Type 0
+AreRemoved removed edit x = IfSome removed (λ counts. counts ≡ counts_of (take edit.removed (drop edit.start x)))
+
+-- the blocks are those of some text with as much to take out
+pub record AreBefore (bs : List Block) (edit : Edit) (removed : Option Counts) : Type 0 where
+  pub some : AreOfSomeText bs
+  pub known : AreRemoved removed edit some.text
+
 -- where the old blocks are those of a text before an edit, the new ones are those of the text after it
-abbrev pub FollowEdit : List Block → List Block → List ℕ → Edit → Type 0
-FollowEdit old new after edit = (before : List ℕ) → IsCut old before → IsEditOf before after edit.start edit.removed edit.inserted → IsCut new after
+abbrev pub FollowEdit : List Block → List Block → List ℕ → Edit → Option Counts → Type 0
+FollowEdit old new after edit removed = (before : List ℕ) → IsCut old before → AreRemoved removed edit before →
+    IsEditOf before after edit.start edit.removed edit.inserted → IsCut new after
 
 -- these blocks hold these bytes
 pub record IsSpan (bs : List Block) (s : Span) : Type 0 where
