@@ -136,6 +136,7 @@ static void make(void) {
     DO(zc_edit_cord(&edit, 1, 2, &held->y));
     DO(zc_lines_set(&held->x, &lines));
     DO(zc_lines_edited(&lines, &held->x, 1, 2, 2));
+    DO(zc_lines_edited_from(&lines, &held->x, &held->x, 1, 2, 2));
     DO(zc_lines_line(&held->lines, &held->x, 1, &out));
     DO(zc_lazy_from_cord(&held->x, &lazy));
     DO(zc_lazy_cat(&held->lazy, &held->lazy, &lazy));

@@ -558,17 +558,20 @@ static void edit_lines(size_t x, size_t out) {
     for (int turn = 0; turn < 3; turn++) {
         size_t start = below(lined_count + 1), most = below(50) == 0 ? sizeof block : 40 + x;
         size_t removed = smaller(below(most), lined_count - start), inserted = below(most);
-        zc_cord piece = ZC_EMPTY;
+        zc_cord before = ZC_EMPTY, piece = ZC_EMPTY;
         if (lined_count - removed + inserted > LINED_ROOM) inserted = 0;
         for (size_t i = 0; i < inserted; i++) block[i] = (unsigned char)"ab\n\303\251"[below(5)];
         refuse_in = 0;
-        CHECK(zc_from_bytes(block, inserted, &piece) == ZC_OK && zc_splice(&lined, start, removed, &piece) == ZC_OK);
+        CHECK(zc_share(&lined, &before) == ZC_OK && zc_from_bytes(block, inserted, &piece) == ZC_OK);
+        CHECK(zc_splice(&lined, start, removed, &piece) == ZC_OK);
+        refuse_in = refused;
+        if (below(2) == 0) while (!is_done(zc_lines_edited(&lines, &lined, start, removed, inserted))) {}
+        else while (!is_done(zc_lines_edited_from(&lines, &before, &lined, start, removed, inserted))) {}
+        zc_free(&before);
         zc_free(&piece);
         memmove(lined_bytes + start + inserted, lined_bytes + start + removed, lined_count - start - removed);
         memcpy(lined_bytes + start, block, inserted);
         lined_count += inserted - removed;
-        refuse_in = refused;
-        while (!is_done(zc_lines_edited(&lines, &lined, start, removed, inserted))) {}
         if (below(100) == 0 && is_done(zc_lines_set(&lined, &lines))) refuse_in = refused;
         ask_lines(out);
     }

@@ -872,7 +872,7 @@ static void lines_by_number(void) {
 
 /* An index stays that of a text along its edits. */
 static void lines_along_edits(void) {
-    zc_cord x = ZC_EMPTY, line = ZC_EMPTY;
+    zc_cord x = ZC_EMPTY, line = ZC_EMPTY, after = ZC_EMPTY;
     zc_lines lines = ZC_LINES_EMPTY;
     uint64_t at = 7;
     DO(zc_from_bytes("nine more\n", 10, &line));
@@ -883,6 +883,14 @@ static void lines_along_edits(void) {
     DO(zc_lines_edited(&lines, &x, 50005, 0, 10));
     EXPECT(zc_lines_count(&lines) == 10001);
     EXPECT(zc_lines_start(&lines, &x, 5001, &at) == ZC_OK && at == 50015);
+    DO(zc_replace(&x, 50000, 20, &line, &after)); /* back to lines of "nine more" alone */
+    DO(zc_lines_edited_from(&lines, &x, &after, 50000, 20, 10));
+    EXPECT(zc_lines_count(&lines) == 10000);
+    EXPECT(zc_lines_of(&lines, &after, 50010, &at) == ZC_OK && at == 5001);
+    DO(zc_lines_edited_from(&lines, &after, &x, 50000, 10, 20));
+    EXPECT(zc_lines_count(&lines) == 10001);
+    DO(zc_lines_edited_from(&lines, &line, &after, 50000, 20, 10)); /* of another text its answers mean nothing */
+    DO(zc_lines_set(&x, &lines));
     DO(zc_remove(&x, 9, 90001, &x));
     DO(zc_lines_edited(&lines, &x, 9, 90001, 0));
     EXPECT(zc_lines_count(&lines) == 1000);
@@ -892,6 +900,7 @@ static void lines_along_edits(void) {
     zc_lines_free(&lines);
     zc_free(&x);
     zc_free(&line);
+    zc_free(&after);
 }
 
 static void nulls_of_lines(void) {
@@ -912,6 +921,9 @@ static void nulls_of_lines(void) {
     EXPECT(zc_lines_line(no_lines, &a, 0, &a) == ZC_NULL && zc_lines_line(&lines, none, 0, &a) == ZC_NULL);
     EXPECT(zc_lines_line(&lines, &a, 0, none) == ZC_NULL);
     EXPECT(zc_lines_edited(no_lines, &a, 0, 0, 0) == ZC_NULL && zc_lines_edited(&lines, none, 0, 0, 0) == ZC_NULL);
+    EXPECT(zc_lines_edited_from(no_lines, &a, &a, 0, 0, 0) == ZC_NULL);
+    EXPECT(zc_lines_edited_from(&lines, none, &a, 0, 0, 0) == ZC_NULL);
+    EXPECT(zc_lines_edited_from(&lines, &a, none, 0, 0, 0) == ZC_NULL);
     EXPECT(at == 7);
     zc_lines_free(no_lines);
 }

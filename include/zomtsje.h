@@ -326,6 +326,10 @@ int zc_lines_line(const zc_lines *lines, const zc_cord *x, uint64_t number, zc_c
    KiB; O(n) in blocks of 8 KiB where their number changes. */
 int zc_lines_edited(zc_lines *lines, const zc_cord *after, uint64_t start, uint64_t removed, uint64_t inserted);
 
+/* As zc_lines_edited, where lines was the index of before. Inside a block it counts only what goes and what comes. */
+int zc_lines_edited_from(zc_lines *lines, const zc_cord *before, const zc_cord *after, uint64_t start, uint64_t removed,
+                         uint64_t inserted);
+
 /* Frees what lines owns; it is then ZC_LINES_EMPTY, and may be used or freed again. Null is fine. */
 void zc_lines_free(zc_lines *lines);
 

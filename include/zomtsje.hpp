@@ -543,7 +543,7 @@ private:
     friend class cord_editor;
     // It is the index of the text after an edit from now on.
     void become(cord after, size_type place, size_type removed, size_type inserted) {
-        detail::check(zc_lines_edited(&handle_, after.raw(), place, removed, inserted));
+        detail::check(zc_lines_edited_from(&handle_, text_.raw(), after.raw(), place, removed, inserted));
         text_ = std::move(after);
     }
     cord text_;

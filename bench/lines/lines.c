@@ -67,19 +67,21 @@ static void edit(zc_cord *x, zc_lines *lines, double *kept, double *asked) {
     for (size_t i = 0; i < EDITS; i++) {
         uint64_t len = zc_len(x), start = below(len + 1), removed = below(LONGEST), inserted = below(LONGEST);
         uint64_t number, place;
-        zc_cord piece = ZC_EMPTY;
+        zc_cord piece = ZC_EMPTY, before = ZC_EMPTY;
         if (removed > len - start) removed = len - start;
         for (size_t j = 0; j < inserted; j++) bytes[j] = below(40) == 0 ? '\n' : 'y';
-        MUST(zc_from_bytes(bytes, inserted, &piece) == ZC_OK && zc_splice(x, start, removed, &piece) == ZC_OK);
+        MUST(zc_share(x, &before) == ZC_OK && zc_from_bytes(bytes, inserted, &piece) == ZC_OK);
+        MUST(zc_splice(x, start, removed, &piece) == ZC_OK);
         zc_free(&piece);
         double begin = nanoseconds();
-        MUST(zc_lines_edited(lines, x, start, removed, inserted) == ZC_OK);
+        MUST(zc_lines_edited_from(lines, &before, x, start, removed, inserted) == ZC_OK);
         double edited = nanoseconds();
         MUST(zc_lines_of(lines, x, start, &number) == ZC_OK);
         int code = zc_lines_start(lines, x, number, &place); /* no line begins at the end, after the last line's */
         MUST(code == ZC_OK || code == ZC_PAST_END);
         *kept += edited - begin;
         *asked += nanoseconds() - edited;
+        zc_free(&before);
         if (i % (EDITS / 10) == 0) {
             place = below(zc_len(x));
             MUST(zc_lines_of(lines, x, place, &number) == ZC_OK && number == lines_before(x, place));

@@ -76,7 +76,7 @@ CODED: dict[str, list[type]] = {
     "zc_lines_of": [LINES, CORD, U64, PLACE],
     "zc_lines_utf8": [LINES, CORD, U64, U64, PLACE],
     "zc_lines_line": [LINES, CORD, U64, CORD],
-    "zc_lines_edited": [LINES, CORD, U64, U64, U64],
+    "zc_lines_edited_from": [LINES, CORD, CORD, U64, U64, U64],
     "zc_lazy_from_path": [FILES, c_char_p, LAZY],
     "zc_lazy_from_cord": [CORD, LAZY],
     "zc_lazy_cat": [LAZY, LAZY, LAZY],

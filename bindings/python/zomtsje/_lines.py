@@ -64,5 +64,5 @@ class LineIndex(Sequence[Cord]):
 
     def _become(self, after: Cord, start: int, removed: int, inserted: int) -> None:
         """It is the index of the text after an edit from now on."""
-        zc.zc_lines_edited(self._handle, after._handle, start, removed, inserted)
+        zc.zc_lines_edited_from(self._handle, self.text._handle, after._handle, start, removed, inserted)
         self.text = after

@@ -5,7 +5,7 @@ ghost use Rattle.core.specs.Ptr.{as_mut_ptr};
 ghost use Rattle.cord.specs.Lines.{lines, bare_lines};
 ghost use Rattle.cord_lines.specs.Counts.{chars_in, ends_in};
 ghost use Rattle.cord_lines.specs.Index.{FollowsEdit, IsIndexOf, of_no_bytes};
-ghost use Rattle.cord_lines.specs.Lines.{after_ends};
+ghost use Rattle.cord_lines.specs.Lines.{after_ends, IsEditOf};
 ghost use Rattle.cord_c.specs.Codes.{MayLackMemory};
 ghost use Rattle.cord_c.specs.LineIndexes.{index_in};
 
@@ -190,6 +190,45 @@ pub extern "C" fn zc_lines_edited(
     };
     let done = taken.index.edited(alloc, after.text(&Text::empty()), start, removed, inserted);
     index.put_back(taken);
+    match done {
+        Ok(()) => OK,
+        Err(_) => NO_MEMORY,
+    }
+}
+
+/// `index` is that of `after` from now on, where it was that of `before`, in which `removed` others stand from `start` on
+/// in the place of `inserted` bytes of `after`.
+#[unsafe(no_mangle)]
+pub extern "C" fn zc_lines_edited_from(
+    alloc: Global,
+    index: &mut Lines,
+    before: &mut Handle,
+    after: &mut Handle,
+    start: u64,
+    removed: u64,
+    inserted: u64,
+) -> i32
+    requires places { Testable (as_mut_ptr index) × Testable (as_mut_ptr before) × Testable (as_mut_ptr after) }
+    ensures index { result ≡ OK → IsIndexOf (index_in index.old) before.old.text →
+        IsEditOf before.old.text after.old.text start removed inserted → IsIndexOf (index_in index.new) after.old.text }
+    ensures kept { (result ≡ OK) ⊎ (index_in index.new ≡ index_in index.old) }
+    ensures code { MayLackMemory result }
+    ensures before { before.new.text ≡ before.old.text }
+    ensures after { after.new.text ≡ after.old.text }
+{
+    if any_missing(index, before, after) {
+        return NULL_POINTER;
+    }
+    let Ok(mut held) = index.take(alloc) else {
+        return NO_MEMORY;
+    };
+    let none = Text::empty();
+    let old = before.text(&none);
+    let new = after.text(&none);
+    let done = held
+        .index
+        .edited_from(alloc, old, new, start, removed, inserted);
+    index.put_back(held);
     match done {
         Ok(()) => OK,
         Err(_) => NO_MEMORY,

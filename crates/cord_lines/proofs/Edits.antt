@@ -1,8 +1,9 @@
 -- Blocks of a text that is edited.
-use Rattle.std.proofs.Common.{◌≡◌, ℕ, ◌+◌, ◌-◌, ◌<◌, ◌≤◌, List, [], ◌∷◌, ◌++◌, length, take, drop, refl, sym, ap, ◌∙◌, arith, append_assoc, subst, length-append, length-take, length-drop, min, suc, zero, Some}
-use Rattle.std.proofs.Math.ListN.{set}
-use Rattle.std.proofs.lemmas.List.{append-nil, take-append-drop, drop_all, drop-drop, take-append-le, drop-append-le}
+use Rattle.std.proofs.Common.{◌≡◌, ℕ, ◌+◌, ◌-◌, ◌<◌, ◌≤◌, List, [], ◌∷◌, ◌++◌, length, take, drop, refl, sym, ap, ◌∙◌, arith, append_assoc, subst, length-append, length-take, length-drop, min, suc, zero, Some, cond, ◌*◌}
+use Rattle.std.proofs.Math.ListN.{replicate, set}
+use Rattle.std.proofs.lemmas.List.{append-nil, length-replicate, take-append-drop, drop_all, drop-drop, take-append-le, drop-append-le}
 use Rattle.std.proofs.lemmas.List.Sums.{sum_by-take-le}
+use Rattle.std.proofs.lemmas.List.Folds.{sum_by-replicate}
 use Rattle.std.proofs.Math.Seq.{take-add, take-append_seam, drop-append_seam}
 use Rattle.cord_node.proofs.Ranges.{take-append_right, drop-append_right}
 use Rattle.cord_io.specs.declared.TheConstants.{MAX_LEN}
@@ -10,13 +11,14 @@ use Rattle.cord_lines.specs.declared.counting.Counts.{Counts}
 use Rattle.cord_lines.specs.declared.blocks.Block.{Block}
 use Rattle.cord_lines.specs.declared.renewing.Edit.{Edit}
 use Rattle.cord_lines.specs.declared.renewing.Span.{Span}
-use Rattle.cord_lines.specs.Counts.{counts_of, plus, AreFew, AreNarrow}
+use Rattle.cord_lines.specs.Counts.{begins_char, chars_in, counts_of, ends_in, is_end, plus, AreFew}
 use Rattle.cord_lines.specs.Lines.{IsEditOf}
-use Rattle.cord_lines.specs.inner.Blocks.{block_counts, exchanged, total, AreWithin}
-use Rattle.cord_lines.specs.inner.Cuts.{IsCut, AreOfSomeText}
-use Rattle.cord_lines.specs.inner.Edits.{AreBefore, Covers, Fits, FollowEdit}
-use Rattle.cord_lines.proofs.Countings.{counts-append, plus_assoc, same_counts}
-use Rattle.cord_lines.proofs.Cuts.{Split, split, joined, narrow, total_is}
+use Rattle.cord_lines.specs.inner.Blocks.{block_counts, exchanged, total}
+use Rattle.cord_lines.specs.inner.Cuts.{IsCut, AreModest, AreOfSomeText}
+use Rattle.cord_lines.specs.inner.Edits.{AreOfBytes, Covers, Fits, FollowEdit}
+use Rattle.cord_lines.proofs.Countings.{chars-append, chars-le, counts-append, ends-le, plus_assoc, same_counts}
+use Rattle.cord_lines.proofs.Ends.{ends-append}
+use Rattle.cord_lines.proofs.Cuts.{Split, split, joined, total_is}
 use Rattle.cord_lines.proofs.Sums.{min_prefix, set_one}
 
 regroup : (a b c d e : List ℕ) → ((a ++ b) ++ c) ++ (d ++ e) ≡ a ++ (((b ++ c) ++ d) ++ e)
@@ -89,14 +91,6 @@ in_three m k rem =
     ∙ ap (plus here) (ap counts_of (sym (take-append-drop rem (drop k m))) ∙ counts-append (take rem (drop k m)) (drop rem (drop k m))
     ∙ ap (λ (y : List ℕ). plus out (counts_of y)) (drop-drop rem k m))
     ∙ sym (plus_assoc here out (counts_of (drop (k + rem) m)))
-
-part_within : (m : List ℕ) (k rem : ℕ) → AreWithin (counts_of (take rem (drop k m))) (counts_of m)
-part_within m k rem =
-    let all = in_three m k rem in
-    let bytes = ap (λ (a : Counts). a.bytes) all in
-    let ends = ap (λ (a : Counts). a.ends) all in
-    let chars = ap (λ (a : Counts). a.chars) all in
-    record { bytes = omega (arith, bytes); ends = omega (arith, ends); chars = omega (arith, chars) }
 
 exchanged_part : (m fresh : List ℕ) (k rem : ℕ) →
     exchanged (counts_of m) (counts_of (take rem (drop k m))) (counts_of fresh) ≡ counts_of ((take k m ++ fresh) ++ drop (k + rem) m)
@@ -202,23 +196,10 @@ module _ (bs news : List Block) (x : List ℕ) (c : IsCut bs x) (first count sta
     part-is = removed-is ∙ ap (λ (y : List ℕ). counts_of (take rem (drop st y))) text
         ∙ ap counts_of (removed_at s.prefix r.prefix r.back st rem a-from a-to)
 
-    pub removed_within : AreWithin removed own
-    removed_within = subst (λ (a : Counts). AreWithin removed a) (sym (own_is own own-is))
-        (subst (λ (a : Counts). AreWithin a (counts_of r.prefix)) (sym part-is) (part_within r.prefix (st - length s.prefix) rem))
-
     counts_then : exchanged own removed (counts_of e.fresh) ≡ counts_of m
     counts_then = ap (λ (a : Counts). exchanged a removed (counts_of e.fresh)) (own_is own own-is)
         ∙ ap (λ (a : Counts). exchanged (counts_of r.prefix) a (counts_of e.fresh)) part-is
         ∙ exchanged_part r.prefix e.fresh (st - length s.prefix) rem
-
-    pub narrow_with : bytes - rem + ins < 65536 → AreNarrow (exchanged own removed (counts_of e.fresh))
-    narrow_with lt = subst AreNarrow (sym counts_then) (narrow m (omega (
-      arith,
-      lt,
-      middle-is,
-      e.count,
-      middle-len s.prefix r.prefix r.back after e.fresh st rem a-from a-to edited,
-    )))
 
     pub exchanged_in : (b : Block) → block_counts b ≡ exchanged own removed (counts_of e.fresh) → news ≡ b ∷ [] →
         IsCut (take first bs ++ news ++ drop (first + count) bs) after
@@ -227,25 +208,71 @@ module _ (bs news : List Block) (x : List ℕ) (c : IsCut bs x) (first count sta
         (replaced m (subst (λ (ys : List Block). IsCut ys m) (sym one) (m, [], sym (append-nil m), counted ∙ counts_then, refl)))
 
 -- the blocks that an edit meets are replaced by those of as many bytes as there are then
+pub replaced_by : (bs news : List Block) (some : AreOfSomeText bs) (span : Span) (edit : Edit) (len : ℕ) → Covers bs span edit →
+    Fits edit (total bs).bytes len → len ≤ MAX_LEN →
+    (piece : List ℕ) → length piece ≤ span.bytes - edit.removed + edit.inserted → IsCut news piece →
+    AreOfSomeText (take span.first bs ++ news ++ drop (span.first + span.count) bs)
+replaced_by bs news some span edit len covers fits le piece fewer cut =
+    let whole : (total bs).bytes ≡ length some.text = ap (λ (a : Counts). a.bytes) (total_is bs some.text some.cut) in
+    of_some bs news some.text some.cut span.first span.count span.start span.bytes covers.span.start covers.span.end piece cut (omega (
+      arith,
+      whole,
+      le,
+      fewer,
+      covers.span.end,
+      covers.from,
+      covers.to,
+      fits.len,
+      sum_by-take-le (λ (b : Block). b.bytes) bs (span.first + span.count),
+    ))
+
 pub replaced_some : (bs news : List Block) (some : AreOfSomeText bs) (span : Span) (edit : Edit) (after : List ℕ) → Covers bs span edit →
     Fits edit (total bs).bytes (length after) → length after ≤ MAX_LEN →
     IsCut news (take (span.bytes - edit.removed + edit.inserted) (drop span.start after)) →
     AreOfSomeText (take span.first bs ++ news ++ drop (span.first + span.count) bs)
 replaced_some bs news some span edit after covers fits le cut =
-    let whole : (total bs).bytes ≡ length some.text = ap (λ (a : Counts). a.bytes) (total_is bs some.text some.cut) in
     let len : ℕ = span.bytes - edit.removed + edit.inserted in
-    of_some bs news some.text some.cut span.first span.count span.start span.bytes covers.span.start covers.span.end
-    (take len (drop span.start after)) cut (omega (
+    replaced_by bs news some span edit (length after) covers fits le (take len (drop span.start after))
+    (omega (arith, length-take len (drop span.start after))) cut
+
+-- some bytes with given counts
+abbrev bytes_with : ℕ → ℕ → ℕ → List ℕ
+bytes_with n e c = replicate e 10 ++ (replicate (c - e) 97 ++ replicate (n - c) 128)
+
+times_ends : (n b one : ℕ) → cond (is_end b) 1 0 ≡ one → ends_in (replicate n b) ≡ n * one
+times_ends n b one is = sum_by-replicate (λ (i : ℕ). cond (is_end i) 1 0) n b ∙ ap (λ (i : ℕ). n * i) is
+
+times_chars : (n b one : ℕ) → cond (begins_char b) 1 0 ≡ one → chars_in (replicate n b) ≡ n * one
+times_chars n b one is = sum_by-replicate (λ (i : ℕ). cond (begins_char i) 1 0) n b ∙ ap (λ (i : ℕ). n * i) is
+
+some_counts : (n e c : ℕ) → e ≤ c → c ≤ n → record { bytes = n; ends = e; chars = c } ≡ counts_of (bytes_with n e c)
+some_counts n e c le le2 =
+    let x : List ℕ = replicate e 10 in
+    let y : List ℕ = replicate (c - e) 97 in
+    let z : List ℕ = replicate (n - c) 128 in
+    let bytes : n ≡ length (x ++ (y ++ z)) = omega (
       arith,
-      whole,
       le,
-      covers.span.end,
-      covers.from,
-      covers.to,
-      fits.len,
-      length-take len (drop span.start after),
-      sum_by-take-le (λ (b : Block). b.bytes) bs (span.first + span.count),
-    ))
+      le2,
+      length-append x (y ++ z),
+      length-append y z,
+      length-replicate {A = ℕ} e 10,
+      length-replicate {A = ℕ} (c - e) 97,
+      length-replicate {A = ℕ} (n - c) 128,
+    ) in
+    let ends1 : ends_in x ≡ e * 1 = times_ends e 10 1 refl in
+    let ends2 : ends_in y ≡ (c - e) * 0 = times_ends (c - e) 97 0 refl in
+    let ends3 : ends_in z ≡ (n - c) * 0 = times_ends (n - c) 128 0 refl in
+    let ends4 : ends_in (x ++ (y ++ z)) ≡ ends_in x + ends_in (y ++ z) = ends-append x (y ++ z) in
+    let ends5 : ends_in (y ++ z) ≡ ends_in y + ends_in z = ends-append y z in
+    let ends : e ≡ ends_in (x ++ (y ++ z)) = omega (arith, ends1, ends2, ends3, ends4, ends5) in
+    let chars1 : chars_in x ≡ e * 1 = times_chars e 10 1 refl in
+    let chars2 : chars_in y ≡ (c - e) * 1 = times_chars (c - e) 97 1 refl in
+    let chars3 : chars_in z ≡ (n - c) * 0 = times_chars (n - c) 128 0 refl in
+    let chars4 : chars_in (x ++ (y ++ z)) ≡ chars_in x + chars_in (y ++ z) = chars-append x (y ++ z) in
+    let chars5 : chars_in (y ++ z) ≡ chars_in y + chars_in z = chars-append y z in
+    let chars : c ≡ chars_in (x ++ (y ++ z)) = omega (arith, le, chars1, chars2, chars3, chars4, chars5) in
+    same_counts (record { bytes = n; ends = e; chars = c }) (counts_of (bytes_with n e c)) bytes ends chars
 
 -- what an edit puts there
 fresh_at : (x after : List ℕ) (st rem ins n : ℕ) (e : IsEditOf x after st rem ins) → n ≡ ins → take n (drop st after) ≡ e.fresh
@@ -257,77 +284,47 @@ fresh_at x after st rem ins n e is =
     ∙ ap (take n) (drop-append_seam (take st x) (e.fresh ++ back))
     ∙ ap (λ (k : ℕ). take k (e.fresh ++ back)) (is ∙ sym e.count) ∙ take-append_seam e.fresh back
 
+-- what a block holds, and some bytes of a text
+pub few_with : (bs : List Block) (i : ℕ) (own inserted : Counts) (y : List ℕ) (n : ℕ) → AreModest bs →
+    total (take (i + 1) bs) ≡ plus (total (take i bs)) own → inserted ≡ counts_of (take n y) → length y ≤ MAX_LEN → AreFew (plus own inserted)
+few_with bs i own inserted y n modest own-is inserted-is le =
+    let fresh : List ℕ = take n y in
+    let short : length fresh ≤ MAX_LEN = omega (arith, le, length-take n y) in
+    record {
+      bytes = (let a = ap (λ (a : Counts). a.bytes) own-is in
+          let b = ap (λ (a : Counts). a.bytes) inserted-is in
+          omega (arith, a, b, short, modest.bytes, sum_by-take-le (λ (b : Block). b.bytes) bs (i + 1)));
+      ends = (let a = ap (λ (a : Counts). a.ends) own-is in
+          let b = ap (λ (a : Counts). a.ends) inserted-is in
+          omega (arith, a, b, short, ends-le fresh, modest.ends, sum_by-take-le (λ (b : Block). b.ends) bs (i + 1)));
+      chars = (let a = ap (λ (a : Counts). a.chars) own-is in
+          let b = ap (λ (a : Counts). a.chars) inserted-is in
+          omega (arith, a, b, short, chars-le fresh, modest.chars, sum_by-take-le (λ (b : Block). b.chars) bs (i + 1)));
+    }
+
 -- an edit within one block
-module _ (bs : List Block) (edit : Edit) (removed own inserted : Counts) (before : AreBefore bs edit (Some removed)) (span : Span) (after : List ℕ)
-    (covers : Covers bs span edit) (fits : Fits edit (total bs).bytes (length after)) (short : length after ≤ MAX_LEN) (one : span.count ≡ 1)
-    (own-is : total (take (span.first + 1) bs) ≡ plus (total (take span.first bs)) own)
-    (inserted-is : inserted ≡ counts_of (take ((edit.start + edit.inserted) - edit.start) (drop edit.start after))) where
-  abbrev x : List ℕ
-  x = before.some.text
-
-  abbrev fresh : List ℕ
-  fresh = take ((edit.start + edit.inserted) - edit.start) (drop edit.start after)
-
-  abbrev y : List ℕ
-  y = take edit.start x ++ fresh ++ drop (edit.start + edit.removed) x
-
-  whole : (total bs).bytes ≡ length x
-  whole = ap (λ (a : Counts). a.bytes) (total_is bs x before.some.cut)
-
-  -- with a text that they are of
-  abbrev e : IsEditOf x y edit.start edit.removed edit.inserted
-  e = record {
-    fresh = fresh;
-    count = omega (arith, fits.inside, fits.len, length-take ((edit.start + edit.inserted) - edit.start) (drop edit.start after), length-drop edit.start after);
-    inside = omega (arith, fits.inside, whole);
-    text = refl;
-  }
-
-  both-is : total (take (span.first + span.count) bs) ≡ plus (total (take span.first bs)) own
-  both-is = ap (λ (n : ℕ). total (take (span.first + n) bs)) one ∙ own-is
-
-  set-is : (b : Block) → take span.first bs ++ (b ∷ []) ++ drop (span.first + span.count) bs ≡ set bs span.first b
-  set-is b = (let lt : span.first < length bs = omega (arith, covers.span.inside, one) in
+module _ (bs : List Block) (edit : Edit) (own removed inserted : Counts) (b : Block) (span : Span) (after : List ℕ)
+    (covers : Covers bs span edit) (one : span.count ≡ 1) (counted : block_counts b ≡ exchanged own removed inserted) where
+  set-is : take span.first bs ++ (b ∷ []) ++ drop (span.first + span.count) bs ≡ set bs span.first b
+  set-is = (let lt : span.first < length bs = omega (arith, covers.span.inside, one) in
       ap (λ (n : ℕ). take span.first bs ++ (b ∷ []) ++ drop (span.first + n) bs) one ∙ sym (set_one bs span.first b lt))
 
-  pub within_own : AreWithin removed own
-  within_own = removed_within bs [] x before.some.cut span.first span.count span.start span.bytes covers.span.start covers.span.end own removed y
-      edit.start edit.removed edit.inserted e covers.from covers.to both-is before.known
+  pub set_some : AreOfSomeText bs → Fits edit (total bs).bytes (length after) → length after ≤ MAX_LEN → AreOfBytes b →
+      b.bytes ≡ span.bytes - edit.removed + edit.inserted → AreOfSomeText (set bs span.first b)
+  set_some some fits le of len = (let y : List ℕ = bytes_with b.bytes b.ends b.chars in
+      let is : block_counts b ≡ counts_of y = some_counts b.bytes b.ends b.chars of.ends of.chars in
+      let same : b.bytes ≡ length y = ap (λ (a : Counts). a.bytes) is in
+      subst AreOfSomeText set-is
+      (replaced_by bs (b ∷ []) some span edit (length after) covers fits le y (omega (arith, len, same)) (y, [], sym (append-nil y), is, refl)))
 
-  pub narrow_then : span.bytes - edit.removed + edit.inserted < 65536 → AreNarrow (exchanged own removed inserted)
-  narrow_then lt = subst (λ (a : Counts). AreNarrow (exchanged own removed a)) (sym inserted-is)
-      (narrow_with bs [] x before.some.cut span.first span.count span.start span.bytes covers.span.start covers.span.end own removed y
-      edit.start edit.removed edit.inserted e covers.from covers.to both-is before.known lt)
-
-  pub few_then : span.bytes - edit.removed + edit.inserted < 65536 → AreFew (exchanged own removed inserted)
-  few_then lt = (let n = narrow_then lt in
-      record { bytes = omega (arith, n.bytes); ends = omega (arith, n.ends); chars = omega (arith, n.chars) })
-
-  pub edited_some : (b : Block) → block_counts b ≡ exchanged own removed inserted → AreOfSomeText (set bs span.first b)
-  edited_some b counted = record {
-    text = y;
-    cut = subst (λ (ys : List Block). IsCut ys y) (set-is b)
-        (exchanged_in bs (b ∷ []) x before.some.cut span.first span.count span.start span.bytes covers.span.start covers.span.end own removed y
-        edit.start edit.removed edit.inserted e covers.from covers.to both-is before.known b (counted ∙ ap (exchanged own removed) inserted-is) refl);
-    limit = omega (
-      arith,
-      short,
-      whole,
-      fits.inside,
-      fits.len,
-      e.count,
-      length-append (take edit.start x ++ fresh) (drop (edit.start + edit.removed) x),
-      length-append (take edit.start x) fresh,
-      length-take edit.start x,
-      length-drop (edit.start + edit.removed) x,
-    );
-  }
-
-  pub edited_follows : (b : Block) → block_counts b ≡ exchanged own removed inserted → FollowEdit bs (set bs span.first b) after edit (Some removed)
-  edited_follows b counted = λ old cut known edited.
+  pub set_follows : total (take (span.first + 1) bs) ≡ plus (total (take span.first bs)) own →
+      inserted ≡ counts_of (take ((edit.start + edit.inserted) - edit.start) (drop edit.start after)) →
+      FollowEdit bs (set bs span.first b) after edit (Some removed)
+  set_follows own-is inserted-is = λ old cut known edited.
       let n : (edit.start + edit.inserted) - edit.start ≡ edit.inserted = omega arith in
+      let both-is = ap (λ (n : ℕ). total (take (span.first + n) bs)) one ∙ own-is in
       let same : inserted ≡ counts_of edited.fresh =
       inserted-is ∙ ap counts_of (fresh_at old after edit.start edit.removed edit.inserted ((edit.start + edit.inserted) - edit.start) edited n) in
-      subst (λ (ys : List Block). IsCut ys after) (set-is b)
+      subst (λ (ys : List Block). IsCut ys after) set-is
       (exchanged_in bs (b ∷ []) old cut span.first span.count span.start span.bytes covers.span.start covers.span.end own removed after
       edit.start edit.removed edit.inserted edited covers.from covers.to both-is known b (counted ∙ ap (exchanged own removed) same) refl)

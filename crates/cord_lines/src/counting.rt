@@ -1,5 +1,5 @@
 // What is counted in some bytes.
-ghost use Rattle.std.specs.Prelude.{◌≡◌, ◌+◌, ◌<◌, ◌≤◌, ◌^◌, length, true, if◌then◌else◌, ◌||◌, nat_lt, nat_le};
+ghost use Rattle.std.specs.Prelude.{◌≡◌, ◌↔◌, ◌+◌, ◌<◌, ◌≤◌, ◌^◌, IsTrue, length, true, if◌then◌else◌, ◌||◌, nat_lt, nat_le};
 ghost use Rattle.cord.specs.Chunks.{chunk_bytes};
 ghost use Rattle.cord_lines.specs.Counts.{begins_char, chars_in, counts_of, ends_in, plus, AreFew};
 ghost use Rattle.cord_lines.specs.inner.Blocks.{exchanged, AreWithin};
@@ -35,6 +35,13 @@ impl Counts {
             ends: self.ends + other.ends,
             chars: self.chars + other.chars,
         }
+    }
+
+    /// Whether they are a part of others.
+    pub(crate) fn are_within(self, all: Counts) -> bool
+        ensures { IsTrue result ↔ AreWithin self all }
+    {
+        self.bytes <= all.bytes && self.ends <= all.ends && self.chars <= all.chars
     }
 
     /// These counts with others in the place of a part of them.

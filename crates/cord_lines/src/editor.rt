@@ -8,7 +8,6 @@ ghost use Rattle.cord_lines.specs.Counts.{chars_in, ends_in};
 ghost use Rattle.cord_lines.specs.Lines.{after_ends};
 
 use crate::index::LineIndex;
-use crate::renewing::Edit;
 use cord::{CordError, MAX_LEN, Text};
 use std::alloc::Global;
 use std::marker::Model;
@@ -117,12 +116,8 @@ impl LineEditor {
         let len = self.text.len();
         let from = start.min(len);
         let removed = count.min(len - from);
-        let edit = Edit {
-            start: from,
-            removed,
-            inserted: text.len(),
-        };
-        self.index.edited_from(alloc, &self.text, &after, edit)?;
+        self.index
+            .edited_from(alloc, &self.text, &after, from, removed, text.len())?;
         self.text = after;
         Ok(())
     }

@@ -6,6 +6,7 @@ ghost use Rattle.cord.specs.Lines.{lines, bare_lines, lines_as};
 ghost use Rattle.cord_lines.specs.Counts.{chars_in, counts_of, ends_in};
 ghost use Rattle.cord_lines.specs.Lines.{after_ends, is_inside_line, lacks_end, IsEditOf};
 ghost use Rattle.cord_lines.specs.Index.{FollowsEdit, IsIndexOf, of_no_bytes};
+ghost use Rattle.cord_lines.specs.inner.Edits.{AreRemoved};
 
 use crate::blocks::{Blocks, Measure};
 use crate::counting::Counts;
@@ -177,31 +178,49 @@ impl LineIndex {
             removed,
             inserted,
         };
-        if !edit.fits(self.blocks.counts().bytes, after.len()) {
-            *self = LineIndex::of(alloc, after)?;
-            return Ok(());
-        }
-        renew(&mut self.blocks, alloc, after, edit, edit.known_removed())?;
-        self.lacks_end = lacks_end_of(after);
-        Ok(())
+        self.follow(alloc, after, edit, edit.known_removed())
     }
 
-    /// As `edited`, with the text before the edit: of an edit within one block only what is removed and what is new is
-    /// counted.
-    pub(crate) fn edited_from(
+    /// As `edited`, but of an edit of the text `before` within one block only what is removed and what is new is counted.
+    pub fn edited_from(
         &mut self,
         alloc: Global,
         before: &Text,
         after: &Text,
-        edit: Edit,
+        start: u64,
+        removed: u64,
+        inserted: u64,
     ) -> Result<(), CordError>
-        requires index { IsIndexOf self.old before.now }
-        requires edit { IsEditOf before.now after.now edit.start edit.removed edit.inserted }
-        ensures index { OnOk result (IsIndexOf self.new after.now) }
+        ensures index { OnOk result (IsIndexOf self.old before.now →
+            IsEditOf before.now after.now start removed inserted → IsIndexOf self.new after.now) }
         ensures unchanged { IsErr result → self.new ≡ self.old }
         ensures refused { IsOkUnless result NoMemory }
     {
-        let removed = edit.removed_from(before);
+        let edit = Edit {
+            start,
+            removed,
+            inserted,
+        };
+        self.follow(alloc, after, edit, edit.removed_from(before))
+    }
+
+    // Makes it the index of the text after an edit, of which the counts of what was removed may be known.
+    fn follow(
+        &mut self,
+        alloc: Global,
+        after: &Text,
+        edit: Edit,
+        removed: Option<Counts>,
+    ) -> Result<(), CordError>
+        ensures index { OnOk result ((before : List ℕ) → IsIndexOf self.old before → AreRemoved removed edit before →
+            IsEditOf before after.now edit.start edit.removed edit.inserted → IsIndexOf self.new after.now) }
+        ensures unchanged { IsErr result → self.new ≡ self.old }
+        ensures refused { IsOkUnless result NoMemory }
+    {
+        if !edit.fits(self.blocks.counts().bytes, after.len()) {
+            *self = LineIndex::of(alloc, after)?;
+            return Ok(());
+        }
         renew(&mut self.blocks, alloc, after, edit, removed)?;
         self.lacks_end = lacks_end_of(after);
         Ok(())

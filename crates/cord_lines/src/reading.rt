@@ -71,6 +71,9 @@ pub(crate) fn count_range(text: &Text, from: u64, to: u64) -> Counts
     requires inside { to ≤ length text.now }
     ensures { result ≡ counts_of (take (to - from) (drop from text.now)) }
 {
+    if from == to {
+        return Counts::NONE;
+    }
     let mut reader = Reader::from(text, from);
     let mut counts = Counts::NONE;
     while counts.bytes < to - from {

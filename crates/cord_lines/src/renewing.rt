@@ -1,10 +1,10 @@
 // Blocks of a text that was edited.
-ghost use Rattle.std.specs.Prelude.{◌≡◌, ◌↔◌, ◌+◌, ◌<◌, ◌≤◌, ◌^◌, List, ℕ, IsTrue, OnOk, IsErr, IsOkUnless, length};
+ghost use Rattle.std.specs.Prelude.{◌≡◌, ◌↔◌, ◌+◌, ◌<◌, ◌≤◌, ◌^◌, List, ℕ, IsTrue, IfSome, OnOk, IsErr, IsOkUnless, length};
 ghost use Rattle.cord_io.specs.declared.CordError.TheVariants.{NoMemory};
-ghost use Rattle.cord_lines.specs.Counts.{AreFew};
-ghost use Rattle.cord_lines.specs.inner.Blocks.{total};
+ghost use Rattle.cord_lines.specs.Counts.{plus, AreFew};
+ghost use Rattle.cord_lines.specs.inner.Blocks.{block_counts, exchanged, total};
 ghost use Rattle.cord_lines.specs.inner.Cuts.{AreModest, AreOfSomeText};
-ghost use Rattle.cord_lines.specs.inner.Edits.{AreBefore, AreRemoved, Covers, Fits, FollowEdit, IsSpan};
+ghost use Rattle.cord_lines.specs.inner.Edits.{AreOfBytes, AreRemoved, Covers, Fits, FollowEdit, IsSpan};
 
 use crate::blocks::{Block, Blocks, Measure};
 use crate::counting::Counts;
@@ -48,12 +48,10 @@ impl Edit {
 
     /// The counts of what it removes from a text, if that is little.
     pub(crate) fn removed_from(self, before: &Text) -> Option<Counts>
-        requires { self.start + self.removed ≤ length before.now }
         ensures { AreRemoved result self before.now }
     {
         let len = before.len();
-        prove!(self.start <= len);
-        if self.removed <= LARGEST {
+        if self.removed <= LARGEST && self.start <= len && self.removed <= len - self.start {
             Some(count_range(before, self.start, self.start + self.removed))
         } else {
             None
@@ -79,7 +77,7 @@ pub(crate) fn renew(
     edit: Edit,
     removed: Option<Counts>,
 ) -> Result<(), CordError>
-    requires blocks { AreBefore blocks.old edit removed }
+    requires blocks { AreOfSomeText blocks.old }
     requires edit { Fits edit (total blocks.old).bytes (length after.now) }
     ensures blocks { AreOfSomeText blocks.new }
     ensures cut { OnOk result (FollowEdit blocks.old blocks.new after.now edit removed) }
@@ -93,15 +91,35 @@ pub(crate) fn renew(
     if span.count == 1 && len <= LARGEST {
         if let Some(removed) = removed {
             let inserted = count_range(after, edit.start, edit.start + edit.inserted);
-            let counts = blocks.get(span.first).exchanged(removed, inserted);
-            blocks.set(span.first, Block::of(counts));
-            return Ok(());
+            if let Some(block) = block_with(blocks.get(span.first), removed, inserted, len) {
+                blocks.set(span.first, block);
+                return Ok(());
+            }
         }
     }
     let size = size_of(len, span.count);
     let fresh = cut(alloc, after, span.start, span.start + len, size)?;
     blocks.replace(alloc, span.first, span.count, &fresh)?;
     Ok(())
+}
+
+// The block of these counts with others in the place of a part of them, if there are `len` bytes with such counts.
+fn block_with(own: Counts, removed: Counts, inserted: Counts, len: u64) -> Option<Block>
+    requires few { AreFew (plus own inserted) }
+    requires small { len ≤ LARGEST }
+    ensures counts { IfSome result (λ b. block_counts b ≡ exchanged own removed inserted) }
+    ensures some { IfSome result AreOfBytes }
+    ensures len { IfSome result (λ b. b.bytes ≡ len) }
+{
+    if !removed.are_within(own) {
+        return None;
+    }
+    let counts = own.exchanged(removed, inserted);
+    if counts.ends <= counts.chars && counts.chars <= counts.bytes && counts.bytes == len {
+        Some(Block::of(counts))
+    } else {
+        None
+    }
 }
 
 // The size of the blocks of so many bytes in the place of so many blocks: such that their number stays, where they are

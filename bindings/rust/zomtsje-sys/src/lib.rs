@@ -158,6 +158,14 @@ extern "C" {
         removed: u64,
         inserted: u64,
     ) -> c_int;
+    pub fn zc_lines_edited_from(
+        lines: *mut zc_lines,
+        before: *const zc_cord,
+        after: *const zc_cord,
+        start: u64,
+        removed: u64,
+        inserted: u64,
+    ) -> c_int;
     pub fn zc_lines_free(lines: *mut zc_lines);
 
     pub fn zc_lazy_from_path(files: *mut zc_files, path: *const c_char, out: *mut zc_lazy) -> c_int;

@@ -103,7 +103,9 @@ impl LineIndex {
 
     // It is the index of the text after an edit from now on.
     pub(crate) fn become_edited(&mut self, after: Cord, start: u64, removed: u64, inserted: u64) {
-        infallible(checked(unsafe { sys::zc_lines_edited(&mut self.handle, after.raw(), start, removed, inserted) }));
+        infallible(checked(unsafe {
+            sys::zc_lines_edited_from(&mut self.handle, self.text.raw(), after.raw(), start, removed, inserted)
+        }));
         self.text = after;
     }
 }

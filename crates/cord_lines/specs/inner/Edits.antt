@@ -7,7 +7,7 @@ use Rattle.cord_lines.specs.declared.blocks.Block.{Block}
 use Rattle.cord_lines.specs.declared.renewing.Edit.{Edit}
 use Rattle.cord_lines.specs.declared.renewing.Span.{Span}
 use Rattle.cord_lines.specs.inner.Blocks.{total}
-use Rattle.cord_lines.specs.inner.Cuts.{IsCut, AreOfSomeText}
+use Rattle.cord_lines.specs.inner.Cuts.{IsCut}
 
 -- the edit may make a text of one length of a text of another one
 pub record Fits (edit : Edit) (before after : ℕ) : Type 0 where
@@ -18,10 +18,10 @@ pub record Fits (edit : Edit) (before after : ℕ) : Type 0 where
 abbrev pub AreRemoved : Option Counts → Edit → List ℕ → Type 0
 AreRemoved removed edit x = IfSome removed (λ counts. counts ≡ counts_of (take edit.removed (drop edit.start x)))
 
--- the blocks are those of some text with as much to take out
-pub record AreBefore (bs : List Block) (edit : Edit) (removed : Option Counts) : Type 0 where
-  pub some : AreOfSomeText bs
-  pub known : AreRemoved removed edit some.text
+-- some bytes have these counts
+pub record AreOfBytes (b : Block) : Type 0 where
+  pub ends : b.ends ≤ b.chars
+  pub chars : b.chars ≤ b.bytes
 
 -- where the old blocks are those of a text before an edit, the new ones are those of the text after it
 abbrev pub FollowEdit : List Block → List Block → List ℕ → Edit → Option Counts → Type 0

@@ -1,63 +1,40 @@
-use Rattle.std.proofs.Common.{◌≡◌, ◌∙◌, ℕ, List, ◌+◌, ◌-◌, ◌≤◌, refl, ◌++◌, length, take, drop, ap, sym, subst, arith, Option}
+use Rattle.std.proofs.Common.{◌≡◌, ◌∙◌, ℕ, List, ◌+◌, ◌-◌, ◌≤◌, refl, ◌++◌, length, take, drop, ap, sym, subst, arith, Option, length-drop}
 use Rattle.std.proofs.Math.ListN.{set}
 use Rattle.std.proofs.lemmas.List.Sums.{sum_by-take-le}
 use Rattle.cord_io.specs.declared.TheConstants.{MAX_LEN}
-use Rattle.cord_lines.specs.Counts.{AreNarrow}
 use Rattle.cord_lines.specs.declared.counting.Counts.{Counts}
-use Rattle.cord_lines.specs.inner.Edits.{AreBefore, AreRemoved}
+use Rattle.cord_lines.specs.inner.Edits.{AreRemoved}
 use Rattle.cord_lines.specs.declared.blocks.Block.{Block}
 use Rattle.cord_lines.specs.inner.Cuts.{IsCut, AreOfSomeText}
 use Rattle.cord_lines.proofs.Cuts.{few_by, modest_by}
-use Rattle.cord_lines.proofs.Edits.{edited_follows, edited_some, few_then, narrow_then, renewed, replaced_some, within_own}
+use Rattle.cord_lines.proofs.Edits.{few_with, renewed, replaced_some, set_follows, set_some}
 use Rattle.cord_lines.proofs.renewing.renew.Goals as goal
 
 pub span_of-span-requires-clause-modest : goal.span_of-span-requires-clause-modest
-span_of-span-requires-clause-modest c = modest_by c.args.blocks.now c.requires.blocks.some
+span_of-span-requires-clause-modest c = modest_by c.args.blocks.now c.requires.blocks
 
-pub exchanged-counts-requires-clause-within : goal.exchanged-counts-requires-clause-within
-exchanged-counts-requires-clause-within c =
-    within_own c.args.blocks.now c.args.edit c.in-Some.removed c.get.result c.count_range-inserted.result
-    (subst (λ (r : Option Counts). AreBefore c.args.blocks.now c.args.edit r) c.in-Some.is c.requires.blocks) c.span_of-span.result
-    c.args.after.now c.span_of-span.ensures c.requires.edit (omega (arith, c.len-len_after.ensures.value, c.len-len_after.ensures.limit))
-    (omega arith) c.get.ensures c.count_range-inserted.ensures
-
-pub exchanged-counts-requires-clause-few : goal.exchanged-counts-requires-clause-few
-exchanged-counts-requires-clause-few c =
-    few_then c.args.blocks.now c.args.edit c.in-Some.removed c.get.result c.count_range-inserted.result
-    (subst (λ (r : Option Counts). AreBefore c.args.blocks.now c.args.edit r) c.in-Some.is c.requires.blocks) c.span_of-span.result
-    c.args.after.now c.span_of-span.ensures c.requires.edit (omega (arith, c.len-len_after.ensures.value, c.len-len_after.ensures.limit))
-    (omega arith) c.get.ensures c.count_range-inserted.ensures (omega arith)
-
-pub of-requires : goal.of-requires
-of-requires c = subst AreNarrow (sym c.exchanged-counts.ensures)
-    (narrow_then c.args.blocks.now c.args.edit c.in-Some.removed c.get.result c.count_range-inserted.result
-    (subst (λ (r : Option Counts). AreBefore c.args.blocks.now c.args.edit r) c.in-Some.is c.requires.blocks) c.span_of-span.result
-    c.args.after.now c.span_of-span.ensures c.requires.edit (omega (arith, c.len-len_after.ensures.value, c.len-len_after.ensures.limit))
-    (omega arith) c.get.ensures c.count_range-inserted.ensures (omega arith))
+pub block_with-requires-clause-few : goal.block_with-requires-clause-few
+block_with-requires-clause-few c =
+    few_with c.args.blocks.now c.span_of-span.result.first c.get.result c.count_range-inserted.result (drop c.args.edit.start c.args.after.now)
+    ((c.args.edit.start + c.args.edit.inserted) - c.args.edit.start) (modest_by c.args.blocks.now c.requires.blocks) c.get.ensures
+    c.count_range-inserted.ensures (omega (arith, c.len-len_after.ensures.value, c.len-len_after.ensures.limit, length-drop c.args.edit.start c.args.after.now))
 
 pub set-requires-clause-few : goal.set-requires-clause-few
-set-requires-clause-few c = few_by (set c.args.blocks.now c.span_of-span.result.first c.of.result)
-    (edited_some c.args.blocks.now c.args.edit c.in-Some.removed c.get.result c.count_range-inserted.result
-    (subst (λ (r : Option Counts). AreBefore c.args.blocks.now c.args.edit r) c.in-Some.is c.requires.blocks) c.span_of-span.result
-    c.args.after.now c.span_of-span.ensures c.requires.edit (omega (arith, c.len-len_after.ensures.value, c.len-len_after.ensures.limit))
-    (omega arith) c.get.ensures c.count_range-inserted.ensures
-    c.of.result (c.of.ensures ∙ c.exchanged-counts.ensures))
+set-requires-clause-few c = few_by (set c.args.blocks.now c.span_of-span.result.first c.in-Some-block_with.block)
+    (set_some c.args.blocks.now c.args.edit c.get.result c.in-Some.removed c.count_range-inserted.result c.in-Some-block_with.block c.span_of-span.result
+    c.args.after.now c.span_of-span.ensures (omega arith) c.in-Some-block_with.ensures.counts c.requires.blocks c.requires.edit
+    (omega (arith, c.len-len_after.ensures.value, c.len-len_after.ensures.limit)) c.in-Some-block_with.ensures.some (omega (arith, c.in-Some-block_with.ensures.len)))
 
-pub returns-in-Some-clause-blocks : goal.returns-in-Some-clause-blocks
-returns-in-Some-clause-blocks c = subst AreOfSomeText (sym c.set.ensures)
-    (edited_some c.args.blocks.now c.args.edit c.in-Some.removed c.get.result c.count_range-inserted.result
-    (subst (λ (r : Option Counts). AreBefore c.args.blocks.now c.args.edit r) c.in-Some.is c.requires.blocks) c.span_of-span.result
-    c.args.after.now c.span_of-span.ensures c.requires.edit (omega (arith, c.len-len_after.ensures.value, c.len-len_after.ensures.limit))
-    (omega arith) c.get.ensures c.count_range-inserted.ensures
-    c.of.result (c.of.ensures ∙ c.exchanged-counts.ensures))
+pub returns-in-Some-block_with-clause-blocks : goal.returns-in-Some-block_with-clause-blocks
+returns-in-Some-block_with-clause-blocks c = subst AreOfSomeText (sym c.set.ensures)
+    (set_some c.args.blocks.now c.args.edit c.get.result c.in-Some.removed c.count_range-inserted.result c.in-Some-block_with.block c.span_of-span.result
+    c.args.after.now c.span_of-span.ensures (omega arith) c.in-Some-block_with.ensures.counts c.requires.blocks c.requires.edit
+    (omega (arith, c.len-len_after.ensures.value, c.len-len_after.ensures.limit)) c.in-Some-block_with.ensures.some (omega (arith, c.in-Some-block_with.ensures.len)))
 
-pub returns-in-Some-clause-cut : goal.returns-in-Some-clause-cut
-returns-in-Some-clause-cut c = λ before here known edited. subst (λ (ys : List Block). IsCut ys c.args.after.now) (sym c.set.ensures)
-    (edited_follows c.args.blocks.now c.args.edit c.in-Some.removed c.get.result c.count_range-inserted.result
-    (subst (λ (r : Option Counts). AreBefore c.args.blocks.now c.args.edit r) c.in-Some.is c.requires.blocks) c.span_of-span.result
-    c.args.after.now c.span_of-span.ensures c.requires.edit (omega (arith, c.len-len_after.ensures.value, c.len-len_after.ensures.limit))
-    (omega arith) c.get.ensures c.count_range-inserted.ensures
-    c.of.result (c.of.ensures ∙ c.exchanged-counts.ensures) before here
+pub returns-in-Some-block_with-clause-cut : goal.returns-in-Some-block_with-clause-cut
+returns-in-Some-block_with-clause-cut c = λ before here known edited. subst (λ (ys : List Block). IsCut ys c.args.after.now) (sym c.set.ensures)
+    (set_follows c.args.blocks.now c.args.edit c.get.result c.in-Some.removed c.count_range-inserted.result c.in-Some-block_with.block c.span_of-span.result
+    c.args.after.now c.span_of-span.ensures (omega arith) c.in-Some-block_with.ensures.counts c.get.ensures c.count_range-inserted.ensures before here
     (subst (λ (r : Option Counts). AreRemoved r c.args.edit before) c.in-Some.is known) edited)
 
 pub cut-requires-clause-inside : goal.cut-requires-clause-inside
@@ -76,7 +53,7 @@ cut-requires-clause-inside c =
     )
 
 pub replace-requires-clause-old : goal.replace-requires-clause-old
-replace-requires-clause-old c = modest_by c.args.blocks.now c.requires.blocks.some
+replace-requires-clause-old c = modest_by c.args.blocks.now c.requires.blocks
 
 pub replace-requires-clause-new : goal.replace-requires-clause-new
 replace-requires-clause-new c =
@@ -92,7 +69,7 @@ replace-requires-clause-new c =
     let le : length after ≤ MAX_LEN = omega (arith, c.len-len_after.ensures.value, c.len-len_after.ensures.limit) in
     modest_by (take span.first bs ++ c.deref.result.now ++ drop (span.first + span.count) bs)
     (subst (λ (ys : List Block). AreOfSomeText (take span.first bs ++ ys ++ drop (span.first + span.count) bs)) (sym c.deref.ensures.value)
-    (replaced_some bs news c.requires.blocks.some span edit after c.span_of-span.ensures c.requires.edit le cut))
+    (replaced_some bs news c.requires.blocks span edit after c.span_of-span.ensures c.requires.edit le cut))
 
 pub returns-clause-blocks : goal.returns-clause-blocks
 returns-clause-blocks c =
@@ -108,7 +85,7 @@ returns-clause-blocks c =
     let le : length after ≤ MAX_LEN = omega (arith, c.len-len_after.ensures.value, c.len-len_after.ensures.limit) in
     subst (λ (ys : List Block). AreOfSomeText ys)
     (sym (c.in_ok-replace.ensures.blocks ∙ ap (λ (ys : List Block). take span.first bs ++ ys ++ drop (span.first + span.count) bs) c.deref.ensures.value))
-    (replaced_some bs news c.requires.blocks.some span edit after c.span_of-span.ensures c.requires.edit le cut)
+    (replaced_some bs news c.requires.blocks span edit after c.span_of-span.ensures c.requires.edit le cut)
 
 pub returns-clause-cut : goal.returns-clause-cut
 returns-clause-cut c = λ before here known edited.

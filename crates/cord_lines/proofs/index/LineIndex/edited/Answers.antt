@@ -1,9 +1,6 @@
-use Rattle.cord_lines.proofs.Cuts.{cut_from, index_from}
+use Rattle.std.proofs.lemmas.Result.{on_ok_weaker}
 use Rattle.cord_lines.proofs.index.LineIndex.edited.Goals as goal
 
 pub returns-clause-index : goal.returns-clause-index
-returns-clause-index c = λ before is edit.
-    index_from c.renew.new.blocks c.lacks_end_of-self-inside.result c.args.after.now
-    (c.in_ok-renew.ensures.cut before (cut_from c.self.inside.blocks c.self.inside.lacks_end c.args.self.now before c.self.view_is is)
-    (c.known_removed.ensures before) edit)
-    c.lacks_end_of-self-inside.ensures
+returns-clause-index c =
+    on_ok_weaker c.follow.result (λ follows. λ before is edit. follows before is (c.known_removed.ensures before) edit) c.follow.ensures.index
