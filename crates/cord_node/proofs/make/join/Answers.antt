@@ -1,4 +1,4 @@
-use Rattle.std.proofs.Common.{◌≡◌, ◌++◌, arith}
+use Rattle.std.proofs.Common.{◌≡◌, ◌++◌, arith, rules}
 use Rattle.std.proofs.lemmas.Grind.{common_steps}
 use Rattle.cord_node.specs.Tree.{cells}
 use Rattle.cord_node.proofs.PartsFromLemmas.{PartsFrom_same}
@@ -23,3 +23,6 @@ returns-in_ok-node-in-Some-Some-clause-form c = grind (arith, common_steps)
 
 pub returns-in_ok-node-in-Some-Some-clause-depth : goal.returns-in_ok-node-in-Some-Some-clause-depth
 returns-in_ok-node-in-Some-Some-clause-depth c = grind (arith, common_steps)
+
+pub returns-in_ok-node-in_default-clause-sides : goal.returns-in_ok-node-in_default-clause-sides
+returns-in_ok-node-in_default-clause-sides c = λ _. search rules
