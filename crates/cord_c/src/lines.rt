@@ -222,12 +222,14 @@ pub extern "C" fn zc_lines_edited_from(
     let Ok(mut held) = index.take(alloc) else {
         return NO_MEMORY;
     };
-    let none = Text::empty();
-    let old = before.text(&none);
-    let new = after.text(&none);
-    let done = held
-        .index
-        .edited_from(alloc, old, new, start, removed, inserted);
+    let done = held.index.edited_from(
+        alloc,
+        before.text(&Text::empty()),
+        after.text(&Text::empty()),
+        start,
+        removed,
+        inserted,
+    );
     index.put_back(held);
     match done {
         Ok(()) => OK,
