@@ -1,5 +1,5 @@
 -- Comparisons by pieces: the first difference decides, and else the lengths.
-use Rattle.std.proofs.Common.{◌==◌, Bool, true, false, append_assoc, to_z, of_z, w8, ◌≡◌, ℕ, ◌+◌, ◌-◌, ◌<◌, ◌≤◌, zero, suc, List, [], ◌∷◌}
+use Rattle.std.proofs.Common.{◌==◌, Bool, true, false, to_z, of_z, w8, ◌≡◌, ℕ, ◌+◌, ◌-◌, ◌<◌, ◌≤◌, zero, suc, List, [], ◌∷◌}
 use Rattle.std.proofs.Common.{◌++◌, length, take, drop, None, Some, refl, sym, ◌∙◌, ap, arith, length-drop}
 use Rattle.std.specs.Prelude.{Option, min, ℤ, pos, negsuc, nat_lt, if◌then◌else◌, cond}
 use Rattle.std.specs.Ordering.{nat_cmp, ordering_then, MatchOrdering}
@@ -7,7 +7,6 @@ use Rattle.std.specs.Cmp.{ranked, nat_cmp_is}
 use Rattle.std.specs.Cmp.Lexicographic.{slice_cmp}
 use Rattle.std.specs.declared.cmp.Ordering.{Ordering}
 use Rattle.std.specs.declared.cmp.Ordering.TheVariants.{Less, Equal, Greater}
-use Rattle.std.proofs.Math.Seq.{take-add}
 use Rattle.std.proofs.lemmas.Bool.{ltb-false, eqb-true, eqb-false}
 use borrow.Author.Tests.{ltb-true}
 use Rattle.std.proofs.lemmas.List.{take_all, take-append-drop, take-take, drop-drop, length-take-le}
@@ -16,9 +15,14 @@ use Rattle.cord_node.specs.declared.Node.{Node}
 use Rattle.cord_io.specs.declared.TheConstants.{MAX_LEN}
 use Rattle.cord_node.proofs.TreeLemmas.{len_limit}
 use Rattle.cord_core.proofs.CordLemmas.{range_min}
-use Rattle.cord_core.specs.Cord.{text_len, bytes_of, IsCord}
+use Rattle.cord_core.specs.Cord.{text_len, bytes_of, IsCord, CordFits}
 use Rattle.cord_core.specs.Texts.{order}
+use Rattle.cord_node.proofs.Ranges.{range_of_range}
+use Rattle.cord_pos.specs.Spans.{span_len, span_bytes, IsSpanOf}
+use Rattle.cord_pos.specs.declared.span.Span.{Span}
 use Rattle.cord_search.specs.inner.Pieces.{IsPieceOf, AreSame, IsOrderOf, sign_of}
+use Rattle.cord_search.specs.inner.Spans.{IsOrderOfSpans}
+use Rattle.cord_search.proofs.Ranges.{take_on}
 
 -- a byte against itself
 same_byte : (b : ℕ) → nat_cmp b b ≡ Equal
@@ -108,45 +112,48 @@ pub common_on : (t : Table) (x : Option Node) (i : ℕ) (y : Option Node) (j don
 common_on t x i y j done n piece other p q e f h s =
     let u = drop i (bytes_of t x) in
     let v = drop j (bytes_of t y) in
-    let next : take n (drop done u) ≡ take n (drop done v) =
-    sym (piece_prefix (bytes_of t x) piece i done n e p) ∙ h ∙ piece_prefix (bytes_of t y) other j done n f q in
-    take-add done n u ∙ ap (λ (zs : List ℕ). zs ++ take n (drop done u)) s ∙ ap (λ (zs : List ℕ). take done v ++ zs) next
-    ∙ sym (take-add done n v)
+    take_on u v done n (sym (piece_prefix (bytes_of t x) piece i done n e p) ∙ h ∙ piece_prefix (bytes_of t y) other j done n f q) s
 
--- and also where their order says so
-pub same_on : (t : Table) (x : Option Node) (i : ℕ) (y : Option Node) (j done n : ℕ) (piece other : List ℕ) → n ≤ length piece →
-    n ≤ length other → IsPieceOf t x (i + done) piece → IsPieceOf t y (j + done) other →
-    Equal ≡ slice_cmp nat_cmp (take n piece) (take n other) → AreSame t x i y j done → AreSame t x i y j (done + n)
-same_on t x i y j done n piece other p q e f h s =
-    common_on t x i y j done n piece other p q e f (cmp_equal (take n piece) (take n other) (sym h)) s
+-- spans of one length are ranges of two cords
+pub order_of_ranges : (t : Table) (x : Option Node) (i : ℕ) (y : Option Node) (j : ℕ) (s other : Span) (r : Ordering) → CordFits t x →
+    CordFits t y → IsSpanOf x i s → IsSpanOf y j other → span_len other ≡ span_len s → IsOrderOfSpans t s other r →
+    IsOrderOf t x i (span_len s) y j (span_len s) r
+order_of_ranges t x i y j s other r f g left right l h = h
+    ∙ ap (λ (zs : List ℕ). slice_cmp nat_cmp zs (span_bytes t other)) (left.text t f)
+    ∙ ap (slice_cmp nat_cmp (take (span_len s) (drop i (bytes_of t x))))
+    (right.text t g ∙ ap (λ (m : ℕ). take m (drop j (bytes_of t y))) l)
 
--- the next bytes are not the same
-pub different : (t : Table) (x : Option Node) (i a : ℕ) (y : Option Node) (j b done n : ℕ) (piece other : List ℕ) (r : Ordering) →
-    done + n ≤ a → done + n ≤ b → n ≤ length piece → n ≤ length other → IsPieceOf t x (i + done) piece → IsPieceOf t y (j + done) other →
-    r ≡ slice_cmp nat_cmp (take n piece) (take n other) → (r ≡ Equal → ⊥) → AreSame t x i y j done → IsOrderOf t x i a y j b r
-different t x i a y j b done n piece other r k m p q e f h not s =
-    let u = drop i (bytes_of t x) in
-    let v = drop j (bytes_of t y) in
-    let l : length (take n piece) ≡ length (take n other) = length-take-le n piece p ∙ sym (length-take-le n other q) in
-    let left = split u a k (take n piece) (piece_prefix (bytes_of t x) piece i done n e p) in
-    let right = split v b m (take n other) (piece_prefix (bytes_of t y) other j done n f q) in
-    sym (ap (λ (zs : List ℕ). slice_cmp nat_cmp zs (take b v)) left
-    ∙ ap (λ (zs : List ℕ). slice_cmp nat_cmp (take done u ++ (take n piece ++ take (a - (done + n)) (drop (done + n) u))) zs) right
-    ∙ ap (λ (zs : List ℕ). slice_cmp nat_cmp (zs ++ (take n piece ++ take (a - (done + n)) (drop (done + n) u)))
-    (take done v ++ (take n other ++ take (b - (done + n)) (drop (done + n) v)))) s
-    ∙ cmp_prefix (take done v) (take n piece ++ take (a - (done + n)) (drop (done + n) u))
-    (take n other ++ take (b - (done + n)) (drop (done + n) v))
-    ∙ cmp_decided (take n piece) (take n other) (take (a - (done + n)) (drop (done + n) u))
-    (take (b - (done + n)) (drop (done + n) v)) r l (sym h) not)
+-- the first difference decides
+pub apart : (u v : List ℕ) (done n : ℕ) (r : Ordering) → length (take n (drop done u)) ≡ length (take n (drop done v)) →
+    r ≡ slice_cmp nat_cmp (take n (drop done u)) (take n (drop done v)) → (r ≡ Equal → ⊥) → take done u ≡ take done v →
+    r ≡ slice_cmp nat_cmp u v
+apart u v done n r l h not s =
+    let rest = drop n (drop done u) in
+    let other = drop n (drop done v) in
+    sym (ap (λ (zs : List ℕ). slice_cmp nat_cmp zs v) (split u)
+    ∙ ap (slice_cmp nat_cmp (take done u ++ (take n (drop done u) ++ rest))) (split v)
+    ∙ ap (λ (zs : List ℕ). slice_cmp nat_cmp (zs ++ (take n (drop done u) ++ rest)) (take done v ++ (take n (drop done v) ++ other))) s
+    ∙ cmp_prefix (take done v) (take n (drop done u) ++ rest) (take n (drop done v) ++ other)
+    ∙ cmp_decided (take n (drop done u)) (take n (drop done v)) rest other r l (sym h) not)
   where
-    split : (u : List ℕ) (a : ℕ) → done + n ≤ a → (zs : List ℕ) → zs ≡ take n (drop done u) →
-        take a u ≡ take done u ++ (zs ++ take (a - (done + n)) (drop (done + n) u))
-    split u a k zs e =
-        let whole : a ≡ (done + n) + (a - (done + n)) = omega arith in
-        ap (λ (m : ℕ). take m u) whole ∙ take-add (done + n) (a - (done + n)) u
-        ∙ ap (λ (ws : List ℕ). ws ++ take (a - (done + n)) (drop (done + n) u)) (take-add done n u)
-        ∙ append_assoc (take done u) (take n (drop done u)) (take (a - (done + n)) (drop (done + n) u))
-        ∙ ap (λ (ws : List ℕ). take done u ++ (ws ++ take (a - (done + n)) (drop (done + n) u))) (sym e)
+    split : (xs : List ℕ) → xs ≡ take done xs ++ (take n (drop done xs) ++ drop n (drop done xs))
+    split xs = sym (take-append-drop done xs)
+        ∙ ap (λ (zs : List ℕ). take done xs ++ zs) (sym (take-append-drop n (drop done xs)))
+
+-- the same of ranges of two texts
+pub different : (t : Table) (x : Option Node) (i a : ℕ) (y : Option Node) (j b done n : ℕ) (r : Ordering) → done + n ≤ a →
+    done + n ≤ b → length (take n (drop (i + done) (bytes_of t x))) ≡ length (take n (drop (j + done) (bytes_of t y))) →
+    IsOrderOf t x (i + done) n y (j + done) n r → (r ≡ Equal → ⊥) → AreSame t x i y j done → IsOrderOf t x i a y j b r
+different t x i a y j b done n r k m l h not s =
+    let u = bytes_of t x in
+    let v = bytes_of t y in
+    let left = range_of_range u done n i a k in
+    let right = range_of_range v done n j b m in
+    apart (take a (drop i u)) (take b (drop j v)) done n r (ap (λ (zs : List ℕ). length zs) left ∙ l
+    ∙ ap (λ (zs : List ℕ). length zs) (sym right)) (h
+    ∙ ap (λ (zs : List ℕ). slice_cmp nat_cmp zs (take n (drop (j + done) v))) (sym left)
+    ∙ ap (slice_cmp nat_cmp (take n (drop done (take a (drop i u))))) (sym right)) not
+    (take-take done a (drop i u) (omega (arith, k)) ∙ s ∙ sym (take-take done b (drop j v) (omega (arith, m))))
 
 -- all of the shorter one is the same
 pub no_different : (t : Table) (x : Option Node) (i a : ℕ) (y : Option Node) (j b done : ℕ) → done ≤ min a b → min a b ≤ done →

@@ -1,8 +1,9 @@
 -- Where spans and pieces stand in the text of a cord.
 use Rattle.std.proofs.Common.{◌≡◌, ℕ, ◌+◌, ◌-◌, ◌≤◌, List, length, take, drop, None, Some, sym, ◌∙◌, ap, arith}
-use Rattle.std.specs.Prelude.{Option, replicate}
-use Rattle.std.proofs.lemmas.List.{take_min, drop-replicate, take-replicate, length-take, take_all}
-use Rattle.cord_io.specs.Table.{Table, Lengths, HasLengths}
+use Rattle.std.specs.Prelude.{◌++◌, ◌<◌, Option, unwrap_or, IsSomeAnd, replicate}
+use Rattle.std.proofs.Math.Seq.{take-add}
+use Rattle.std.proofs.lemmas.List.{take_min, drop-replicate, take-replicate, length-take, take_all, take-take}
+use Rattle.cord_io.specs.Table.{Table, Lengths, HasLengths, length_at}
 use Rattle.cord_node.specs.declared.Node.{Node}
 use Rattle.cord_node.proofs.Ranges.{range_of_range}
 use Rattle.cord_node.proofs.TableLemmas.{Fits-reported}
@@ -10,6 +11,7 @@ use Rattle.cord_core.specs.Cord.{text_len, bytes_of, IsCord, CordFitsIn, CordFit
 use Rattle.cord_core.proofs.OverLemmas.{length-bytes}
 use Rattle.cord_pos.specs.Spans.{span_len, span_bytes, IsSpanOf}
 use Rattle.cord_pos.specs.declared.span.Span.{Span}
+use Rattle.cord_pos.specs.declared.span.Span.TheVariants.{Bytes, Run, Func}
 use Rattle.cord_search.specs.inner.Pieces.{IsPieceOf}
 use Rattle.cord_search.specs.inner.Spans.{IsPartOf}
 
@@ -42,6 +44,27 @@ leaf_part t s xs ys n e is = own_range xs (span_bytes t s) n (is ∙ ap (λ (zs 
 pub whole_part : (t : Table) (s : Span) (xs : List ℕ) (i : ℕ) → ((t : Table) → span_bytes t s ≡ xs) → i ≡ 0 → IsPartOf t s i xs
 whole_part t s xs i e z = sym (take_all (length xs) xs (omega arith)) ∙ ap (λ (j : ℕ). take (length xs) (drop j xs)) (sym z)
     ∙ ap (λ (ys : List ℕ). take (length xs) (drop i ys)) (sym (e t))
+
+-- a span has no more bytes than its length says
+pub span_whole : (t : Table) (s : Span) → take (span_len s) (span_bytes t s) ≡ span_bytes t s
+span_whole t (Bytes bytes) = take_all (length bytes.now) bytes.now (omega arith)
+span_whole t (Run byte len) = take-replicate len len byte (omega arith)
+span_whole t (Func id start len) = take-take len len (drop start (t id.0)) (omega arith)
+
+-- what follows is the same too
+pub take_on : (u v : List ℕ) (done n : ℕ) → take n (drop done u) ≡ take n (drop done v) → take done u ≡ take done v →
+    take (done + n) u ≡ take (done + n) v
+take_on u v done n next same =
+    take-add done n u ∙ ap (λ (zs : List ℕ). zs ++ take n (drop done u)) same ∙ ap (λ (zs : List ℕ). take done v ++ zs) next
+    ∙ sym (take-add done n v)
+
+-- what ends after a byte of a source and inside it is a range of a source that there is
+pub of_source : (lengths : Lengths) (id end : ℕ) → 0 < end → end ≤ length_at lengths id → IsSomeAnd (lengths id) (λ len. end ≤ len)
+of_source lengths id end some inside = at (lengths id) inside
+  where
+    at : (o : Option ℕ) → end ≤ unwrap_or o 0 → IsSomeAnd o (λ len. end ≤ len)
+    at None h = let none : end ≤ 0 = h in absurd (omega (arith, none, some))
+    at (Some len) h = h
 
 -- a cord that fits the lengths of a table fits the table
 pub cord_reported : (ls : Lengths) (t : Table) (c : Option Node) → HasLengths ls t → CordFitsIn ls c → CordFits t c

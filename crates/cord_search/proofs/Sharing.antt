@@ -1,7 +1,6 @@
 -- What two texts share is the same in both.
-use Rattle.std.proofs.Common.{◌≡◌, ℕ, ◌+◌, ◌<◌, ◌≤◌, List, length, ◌++◌, map, take, drop, Some, sym, ◌∙◌, ap, arith}
+use Rattle.std.proofs.Common.{◌≡◌, ℕ, ◌+◌, ◌<◌, ◌≤◌, List, length, map, take, drop, Some, sym, ◌∙◌, ap, arith}
 use Rattle.std.specs.Prelude.{Option}
-use Rattle.std.proofs.Math.Seq.{take-add}
 use Rattle.std.proofs.lemmas.List.{take-take, drop-drop}
 use Rattle.cord_io.specs.Table.{Table, Lengths, HasLengths}
 use Rattle.cord_node.specs.declared.Node.{Node}
@@ -15,7 +14,7 @@ use Rattle.cord_search.specs.inner.SharedParts.{AreAlike}
 use Rattle.cord_search.specs.inner.Pieces.{AreSame, IsPieceOf}
 use Rattle.cord_search.specs.inner.Spans.{BeginAlike, IsPartOf}
 use Rattle.cord_pos.specs.declared.span.Span.{Span}
-use Rattle.cord_search.proofs.Ranges.{cord_reported, prefix_within}
+use Rattle.cord_search.proofs.Ranges.{cord_reported, prefix_within, take_on}
 
 -- the bytes from a place of a node are those of what is within
 within_bytes : (n : Node) (place : ℕ) (m : Node) (at k : ℕ) (t : Table) → (w : IsWithin n place m at) → Fits t n → at + k ≤ len_of m →
@@ -60,15 +59,17 @@ pub block_piece : (ls : Lengths) (t : Table) (c : Option Node) (place : ℕ) (s 
 block_piece ls t c place s block xs reported f h some few first inside e =
     prefix_within ls t c place block xs reported f (prefix_span c place s block (span_len block) some few h first) inside e
 
--- the next bytes are the same too
+-- where the next bytes are the same, more are
+pub same_on : (t : Table) (x : Option Node) (i : ℕ) (y : Option Node) (j done n : ℕ) → AreSame t x (i + done) y (j + done) n →
+    AreSame t x i y j done → AreSame t x i y j (done + n)
+same_on t x i y j done n next same =
+    let u = bytes_of t x in
+    let v = bytes_of t y in
+    take_on (drop i u) (drop j v) done n (ap (λ (ys : List ℕ). take n ys) (drop-drop done i u) ∙ next
+    ∙ ap (λ (ys : List ℕ). take n ys) (sym (drop-drop done j v))) same
+
+-- so they are where both texts share them
 pub alike_on : (ls : Lengths) (t : Table) (x : Option Node) (i : ℕ) (y : Option Node) (j done n : ℕ) → HasLengths ls t → CordFitsIn ls x →
     CordFitsIn ls y → AreAlike x (i + done) y (j + done) n → AreSame t x i y j done → AreSame t x i y j (done + n)
 alike_on ls t x i y j done n reported f g alike same =
-    let u = drop i (bytes_of t x) in
-    let v = drop j (bytes_of t y) in
-    let next : take n (drop done u) ≡ take n (drop done v) =
-    ap (λ (ys : List ℕ). take n ys) (drop-drop done i (bytes_of t x)) ∙ alike t (cord_reported ls t x reported f)
-    (cord_reported ls t y reported g)
-    ∙ ap (λ (ys : List ℕ). take n ys) (sym (drop-drop done j (bytes_of t y))) in
-    take-add done n u ∙ ap (λ (zs : List ℕ). zs ++ take n (drop done u)) same ∙ ap (λ (zs : List ℕ). take done v ++ zs) next
-    ∙ sym (take-add done n v)
+    same_on t x i y j done n (alike t (cord_reported ls t x reported f) (cord_reported ls t y reported g)) same

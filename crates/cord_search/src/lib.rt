@@ -10,6 +10,7 @@ mod periods;
 mod pieces;
 mod shared_parts;
 mod slices;
+mod span_order;
 mod spans;
 mod substring;
 

@@ -7,10 +7,8 @@ ghost use Rattle.cord_core.specs.Texts.{order};
 ghost use Rattle.cord_search.specs.inner.Pieces.{IsOrderOf, sign_of};
 ghost use Rattle.cord_search.specs.inner.Searches.{HasRead};
 
-use crate::PIECE_LEN;
-use crate::pieces::first_piece;
 use crate::shared_parts::{Ahead, Way, look_ahead};
-use crate::slices::order_of;
+use crate::span_order::order_of_spans;
 use cord_core::Cord;
 use cord_io::{CordError, ReadFault, Source};
 use std::cmp::Ordering;
@@ -59,7 +57,7 @@ pub fn ncmp<S: Source>(
 }
 
 // The order of `left` bytes of `x` from `i` on and `right` bytes of `y` from `j` on: what both share at once, and else
-// slice against slice.
+// span against span.
 pub(crate) fn compare<'a, S: Source>(
     x: &'a Cord,
     i: u64,
@@ -79,7 +77,6 @@ pub(crate) fn compare<'a, S: Source>(
         IfOk result (IsOrderOf (S.table src.old file_system) x.now i left y.now j right) }
     ensures read { HasRead ⟦<S as Source>⟧ src.old src.new result }
 {
-    let (mut buffer, mut other_buffer) = ([0; PIECE_LEN], [0; PIECE_LEN]);
     let (mut way, mut other_way) = (Way::new(), Way::new());
     let both = left.min(right);
     let mut done = 0;
@@ -94,15 +91,10 @@ pub(crate) fn compare<'a, S: Source>(
             both - done,
         ) {
             Ahead::Same(count) => done += count,
-            Ahead::Apart(span, other) => {
-                let piece = first_piece(span, &mut buffer, src)?;
-                let other = first_piece(other, &mut other_buffer, src)?;
-                let count = piece.len().min(other.len());
-                match order_of(&piece[..count], &other[..count]) {
-                    Ordering::Equal => done += count as u64,
-                    ordering => return Ok(ordering),
-                }
-            }
+            Ahead::Apart(span, other) => match order_of_spans(span, other, src)? {
+                Ordering::Equal => done += span.len(),
+                ordering => return Ok(ordering),
+            },
         }
     }
     Ok(left.cmp(&right))

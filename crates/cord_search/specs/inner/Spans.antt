@@ -1,5 +1,8 @@
 -- What pieces of spans and two spans have in common, and where a text can't stand.
 use Rattle.std.specs.Prelude.{◌≡◌, ◌≢◌, ℕ, ◌+◌, ◌<◌, ◌≤◌, List, length, take, drop, slice_get, slice_index, Bool, false, not, ◌==◌, Some}
+use Rattle.std.specs.Ordering.{nat_cmp}
+use Rattle.std.specs.Cmp.Lexicographic.{slice_cmp}
+use Rattle.std.specs.declared.cmp.Ordering.{Ordering}
 use Rattle.cord_io.specs.Table.{Table}
 use Rattle.cord_pos.specs.Spans.{span_len, span_bytes}
 use Rattle.cord_pos.specs.declared.span.Span.{Span}
@@ -8,6 +11,10 @@ use Rattle.cord_pos.specs.declared.span.Span.TheVariants.{Run}
 -- the bytes stand in the span's text from the place on
 abbrev pub IsPartOf : Table → Span → ℕ → List ℕ → Type 0
 IsPartOf t s place xs = xs ≡ take (length xs) (drop place (span_bytes t s))
+
+-- the order of the texts of two spans
+abbrev pub IsOrderOfSpans : Table → Span → Span → Ordering → Type 0
+IsOrderOfSpans t s other r = r ≡ slice_cmp nat_cmp (span_bytes t s) (span_bytes t other)
 
 -- its text has this byte nowhere
 abbrev pub IsWithout : Span → ℕ → Type 0

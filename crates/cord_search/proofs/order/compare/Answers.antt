@@ -1,33 +1,30 @@
-use Rattle.std.proofs.Common.{◌+◌, ◌≤◌, ◌<◌, ◌∙◌, sym, arith}
+use Rattle.std.proofs.Common.{◌+◌, ◌≤◌, ◌<◌, ◌∙◌, take, drop, sym, arith}
 use Rattle.std.specs.Prelude.{min}
-use Rattle.cord_core.specs.Cord.{text_len}
+use Rattle.cord_core.specs.Cord.{text_len, bytes_of}
 use Rattle.cord_io.specs.Device.{FileSystem}
-use Rattle.cord_search.specs.inner.Pieces.{IsPieceOf}
-use Rattle.cord_search.proofs.Ranges.{cord_len, prefix_within}
-use Rattle.cord_search.proofs.Sharing.{alike_on}
-use Rattle.cord_search.proofs.Comparing.{same_on, different, no_different, range_len, cord_limit}
+use Rattle.cord_pos.specs.Spans.{span_len}
+use Rattle.cord_search.specs.inner.Pieces.{IsOrderOf}
+use Rattle.cord_search.proofs.Ranges.{cord_len, cord_reported}
+use Rattle.cord_search.proofs.Sharing.{alike_on, same_on}
+use Rattle.cord_search.proofs.Comparing.{cmp_equal, order_of_ranges, different, no_different, range_len, cord_limit}
 use Rattle.cord_search.proofs.order.compare.Given.{Over}
-use Rattle.cord_search.proofs.order.compare.Goals.{In_ok-other-in-Apart}
+use Rattle.cord_search.proofs.order.compare.Goals.{In_ok-ordering-in-Apart}
 use Rattle.cord_search.proofs.order.compare.Goals as goal
 
--- what was read of the two texts are pieces of them
-texts_are : (g : Over) (c : In_ok-other-in-Apart g) (file_system : FileSystem) → g.S.Source.consistent c.first_piece-in-Apart.new.src
-    file_system →
-    IsPieceOf (g.S.Source.table c.args.src.now file_system) c.args.x.now (c.args.i + c.loop-done.done) c.in_ok-piece-in-Apart.piece.now ×
-    IsPieceOf (g.S.Source.table c.args.src.now file_system) c.args.y.now (c.args.j + c.loop-done.done) c.in_ok-other-in-Apart.other.now
-texts_are g c file_system kept =
+-- the order of the spans is that of the ranges of both texts
+ranges_are : (g : Over) (c : In_ok-ordering-in-Apart g) (file_system : FileSystem) →
+    g.S.Source.consistent c.order_of_spans.new.src file_system →
+    IsOrderOf (g.S.Source.table c.args.src.now file_system) c.args.x.now (c.args.i + c.loop-done.done) (span_len c.in-Apart.span)
+    c.args.y.now (c.args.j + c.loop-done.done) (span_len c.in-Apart.span) c.in_ok-ordering-in-Apart.ordering
+ranges_are g c file_system kept =
     let t = g.S.Source.table c.args.src.now file_system in
     let lengths = g.S.Source.lengths c.args.src.now in
-    let after = c.in_ok-other-in-Apart.ensures.read.earlier file_system kept in
-    let before = c.in_ok-piece-in-Apart.ensures.read.earlier file_system after in
-    let reported = g.met.S.Source.lengths_of_table c.args.src.now file_system (c.loop-done.invariant.earlier file_system before) in (
-      prefix_within lengths t c.args.x.now (c.args.i + c.loop-done.done) c.in-Apart.span c.in_ok-piece-in-Apart.piece.now reported
-          c.requires.left_fits c.in-Apart.ensures.ahead.0 c.in_ok-piece-in-Apart.ensures.inside
-          (rw c.loop-done.invariant.table at c.in_ok-piece-in-Apart.ensures.text file_system after),
-      prefix_within lengths t c.args.y.now (c.args.j + c.loop-done.done) c.in-Apart.other c.in_ok-other-in-Apart.other.now reported
-          c.requires.right_fits c.in-Apart.ensures.ahead.1 c.in_ok-other-in-Apart.ensures.inside
-          (rw (c.first_piece.ensures.read.table, c.loop-done.invariant.table) at c.in_ok-other-in-Apart.ensures.text file_system kept),
-    )
+    let before = c.in_ok-ordering-in-Apart.ensures.read.earlier file_system kept in
+    let reported = g.met.S.Source.lengths_of_table c.args.src.now file_system (c.loop-done.invariant.earlier file_system before) in
+    order_of_ranges t c.args.x.now (c.args.i + c.loop-done.done) c.args.y.now (c.args.j + c.loop-done.done) c.in-Apart.span c.in-Apart.other
+    c.in_ok-ordering-in-Apart.ordering (cord_reported lengths t c.args.x.now reported c.requires.left_fits)
+    (cord_reported lengths t c.args.y.now reported c.requires.right_fits) c.in-Apart.ensures.ahead.0 c.in-Apart.ensures.ahead.1
+    c.in-Apart.ensures.ahead.2 (rw c.loop-done.invariant.table at c.in_ok-ordering-in-Apart.ensures.order file_system kept)
 
 pub overflow_add-i : goal.overflow_add-i
 overflow_add-i g c =
@@ -41,12 +38,12 @@ overflow_add-j g c =
     let inside : c.args.j + c.args.right ≤ text_len c.args.y.now = c.requires.right_inside (omega (arith, below)) in
     omega (arith, inside, below, cord_limit c.args.y.now c.requires.right_sound)
 
-pub first_piece-requires-clause-fits : goal.first_piece-requires-clause-fits
-first_piece-requires-clause-fits g c = rw c.loop-done.invariant.lengths
+pub order_of_spans-requires-clause-left_fits : goal.order_of_spans-requires-clause-left_fits
+order_of_spans-requires-clause-left_fits g c = rw c.loop-done.invariant.lengths
     (c.in-Apart.ensures.ahead.0.fits (g.S.Source.lengths c.args.src.now) c.requires.left_fits)
 
-pub first_piece-requires-in-Apart-clause-fits : goal.first_piece-requires-in-Apart-clause-fits
-first_piece-requires-in-Apart-clause-fits g c = rw (c.first_piece.ensures.read.lengths, c.loop-done.invariant.lengths)
+pub order_of_spans-requires-clause-right_fits : goal.order_of_spans-requires-clause-right_fits
+order_of_spans-requires-clause-right_fits g c = rw c.loop-done.invariant.lengths
     (c.in-Apart.ensures.ahead.1.fits (g.S.Source.lengths c.args.src.now) c.requires.right_fits)
 
 pub loop-done-preserved-in-Same : goal.loop-done-preserved-in-Same
@@ -67,64 +64,56 @@ loop-done-preserved-in-Same g c = record {
 
 pub loop-done-preserved : goal.loop-done-preserved
 loop-done-preserved g c = record {
-  in_range = omega (
-    arith,
-    c.min-count.ensures,
-    c.in_ok-piece-in-Apart.ensures.inside,
-    c.in-Apart.ensures.ahead.3,
-    c.loop-done-test.true,
-  );
+  in_range = omega (arith, c.len-done.ensures, c.in-Apart.ensures.ahead.3, c.loop-done-test.true);
   same = λ file_system kept.
       let t = g.S.Source.table c.args.src.now file_system in
+      let x = c.args.x.now in
+      let y = c.args.y.now in
       let done = c.loop-done.done in
-      let n = c.min-count.result in
-      let piece = c.in_ok-piece-in-Apart.piece.now in
-      let other = c.in_ok-other-in-Apart.other.now in
-      let lengths = g.S.Source.lengths c.args.src.now in
-      let after = c.in_ok-other-in-Apart.ensures.read.earlier file_system kept in
-      let before = c.in_ok-piece-in-Apart.ensures.read.earlier file_system after in
-      let reported = g.met.S.Source.lengths_of_table c.args.src.now file_system (c.loop-done.invariant.earlier file_system before) in
-      let texts = texts_are g (goal.at.loop-done-preserved g c).In_ok-other-in-Apart file_system kept in
-      same_on t c.args.x.now c.args.i c.args.y.now c.args.j done n piece other (omega (arith, c.min-count.ensures))
-      (omega (arith, c.min-count.ensures)) texts.0 texts.1 (sym c.in-Equal.is ∙ c.order_of.ensures)
-      (c.loop-done.invariant.same file_system before);
+      let n = span_len c.in-Apart.span in
+      let order = ranges_are g (goal.at.loop-done-preserved g c).In_ok-ordering-in-Apart file_system kept in
+      let next = cmp_equal (take n (drop (c.args.i + done) (bytes_of t x))) (take n (drop (c.args.j + done) (bytes_of t y)))
+      (sym order ∙ c.in-Equal.is) in
+      rw c.len-done.ensures (same_on t x c.args.i y c.args.j done n next
+      (c.loop-done.invariant.same file_system (c.in_ok-ordering-in-Apart.ensures.read.earlier file_system kept)));
   left_way = c.in-Apart.ensures.left_way;
   right_way = c.in-Apart.ensures.right_way;
-  reads = c.in_ok-other-in-Apart.ensures.read.count ∙ (c.in_ok-piece-in-Apart.ensures.read.count ∙ c.loop-done.invariant.reads);
-  lengths = c.first_piece-in-Apart.ensures.read.lengths ∙ (c.first_piece.ensures.read.lengths ∙ c.loop-done.invariant.lengths);
-  table = c.first_piece-in-Apart.ensures.read.table ∙ (c.first_piece.ensures.read.table ∙ c.loop-done.invariant.table);
+  reads = c.in_ok-ordering-in-Apart.ensures.read.count ∙ c.loop-done.invariant.reads;
+  lengths = c.order_of_spans.ensures.read.lengths ∙ c.loop-done.invariant.lengths;
+  table = c.order_of_spans.ensures.read.table ∙ c.loop-done.invariant.table;
   earlier = λ file_system kept. c.loop-done.invariant.earlier file_system
-      (c.in_ok-piece-in-Apart.ensures.read.earlier file_system (c.in_ok-other-in-Apart.ensures.read.earlier file_system kept));
+      (c.in_ok-ordering-in-Apart.ensures.read.earlier file_system kept);
 }
 
-pub returns-in_default-clause-order : goal.returns-in_default-clause-order
-returns-in_default-clause-order g c = λ file_system kept.
-    let t = g.S.Source.table c.args.src.now file_system in
-    let done = c.loop-done.done in
-    let n = c.min-count.result in
-    let piece = c.in_ok-piece-in-Apart.piece.now in
-    let other = c.in_ok-other-in-Apart.other.now in
-    let after = c.in_ok-other-in-Apart.ensures.read.earlier file_system kept in
-    let before = c.in_ok-piece-in-Apart.ensures.read.earlier file_system after in
-    let texts = texts_are g (goal.at.returns-in_default-clause-order g c).In_ok-other-in-Apart file_system kept in
-    different t c.args.x.now c.args.i c.args.left c.args.y.now c.args.j c.args.right done n piece other c.order_of.result
-    (omega (
-      arith,
-      c.min-count.ensures,
-      c.in_ok-piece-in-Apart.ensures.inside,
-      c.in-Apart.ensures.ahead.3,
-      c.min-both.ensures,
-      c.loop-done-test.true,
-    )) (omega (
-      arith,
-      c.min-count.ensures,
-      c.in_ok-piece-in-Apart.ensures.inside,
-      c.in-Apart.ensures.ahead.3,
-      c.min-both.ensures,
-      c.loop-done-test.true,
-    )) (omega (arith, c.min-count.ensures))
-    (omega (arith, c.min-count.ensures)) texts.0 texts.1 c.order_of.ensures c.in_default.not-Equal
-    (c.loop-done.invariant.same file_system before)
+pub returns-in_default : goal.returns-in_default
+returns-in_default g c = record {
+  order = λ file_system kept.
+      let t = g.S.Source.table c.args.src.now file_system in
+      let lengths = g.S.Source.lengths c.args.src.now in
+      let x = c.args.x.now in
+      let y = c.args.y.now in
+      let done = c.loop-done.done in
+      let n = span_len c.in-Apart.span in
+      let before = c.in_ok-ordering-in-Apart.ensures.read.earlier file_system kept in
+      let reported = g.met.S.Source.lengths_of_table c.args.src.now file_system (c.loop-done.invariant.earlier file_system before) in
+      let left : (c.args.i + done) + n ≤ text_len x = c.in-Apart.ensures.ahead.0.inside in
+      let right : (c.args.j + done) + n ≤ text_len y = omega (arith, c.in-Apart.ensures.ahead.1.inside, c.in-Apart.ensures.ahead.2) in
+      let len = range_len t x (c.args.i + done) n (cord_len lengths t x reported c.requires.left_sound c.requires.left_fits) (λ _. left)
+      ∙ sym (range_len t y (c.args.j + done) n (cord_len lengths t y reported c.requires.right_sound c.requires.right_fits) (λ _. right))
+      in
+      different t x c.args.i c.args.left y c.args.j c.args.right done n c.in_ok-ordering-in-Apart.ordering
+      (omega (arith, c.in-Apart.ensures.ahead.3, c.min-both.ensures, c.loop-done-test.true))
+      (omega (arith, c.in-Apart.ensures.ahead.3, c.min-both.ensures, c.loop-done-test.true)) len
+      (ranges_are g (goal.at.returns-in_default g c).In_ok-ordering-in-Apart file_system kept) c.in_default.not-Equal
+      (c.loop-done.invariant.same file_system before);
+  read = record {
+    count = c.in_ok-ordering-in-Apart.ensures.read.count ∙ c.loop-done.invariant.reads;
+    lengths = c.order_of_spans.ensures.read.lengths ∙ c.loop-done.invariant.lengths;
+    table = c.order_of_spans.ensures.read.table ∙ c.loop-done.invariant.table;
+    earlier = λ file_system kept. c.loop-done.invariant.earlier file_system
+        (c.in_ok-ordering-in-Apart.ensures.read.earlier file_system kept);
+  };
+}
 
 pub returns-clause-order : goal.returns-clause-order
 returns-clause-order g c = λ file_system kept.
