@@ -514,6 +514,32 @@ static void parts_in_order(void) {
     zc_free(&b);
 }
 
+/* A run beside a leaf, which are compared by pieces that grow: the first difference decides, wherever it lies. */
+static void compares_long_parts(void) {
+    static const size_t places[] = {0, 511, 512, 1023, 2047, 2048, 32767, 32768, 65535, 65536, 69999};
+    static unsigned char bytes[70000];
+    zc_cord run = ZC_EMPTY, leaf = ZC_EMPTY;
+    int32_t order = 7;
+    memset(bytes, 'a', sizeof bytes);
+    DO(zc_chars('a', sizeof bytes, &run));
+    DO(zc_from_bytes(bytes, sizeof bytes, &leaf));
+    DO(zc_cmp(&run, &leaf, &order));
+    EXPECT(order == 0);
+    for (size_t it = 0; it < sizeof places / sizeof *places; it++) {
+        bytes[places[it]] = 'b';
+        DO(zc_from_bytes(bytes, sizeof bytes, &leaf));
+        bytes[places[it]] = 'a';
+        DO(zc_cmp(&run, &leaf, &order));
+        EXPECT(order == -1);
+        DO(zc_cmp(&leaf, &run, &order));
+        EXPECT(order == 1);
+        DO(zc_ncmp(&run, 0, &leaf, 0, places[it], &order));
+        EXPECT(order == 0);
+    }
+    zc_free(&run);
+    zc_free(&leaf);
+}
+
 /* The hashes of "", "a" and "foobar" are those that the inventors of FNV-1a list. */
 static void hashes(void) {
     zc_cord a = ZC_EMPTY, b = ZC_EMPTY;
@@ -1847,6 +1873,7 @@ int main(int count, char **words) {
     limits();
     searches();
     parts_in_order();
+    compares_long_parts();
     hashes();
     lines_in_many_leaves();
     copies();
