@@ -28,7 +28,21 @@ pub(crate) fn entry_by<'a>(entries: &'a [Entry], name: &Name) -> Option<&'a Entr
     ensures some { IfSome result (λ entry. IsFirst entries.now name.now entry.now) }
     ensures none { IfNone result (HasNoEntry entries.now name.now) }
 {
-    match place_by(entries, name) {
+    let hint = name.hint();
+    if !is_at(entries, hint, name) {
+        return entry_of(entries, name);
+    }
+    Some(&entries[hint])
+}
+
+// The entry of a name, which is looked for.
+#[cold]
+#[inline(never)]
+fn entry_of<'a>(entries: &'a [Entry], name: &Name) -> Option<&'a Entry>
+    ensures some { IfSome result (λ entry. IsFirst entries.now name.now entry.now) }
+    ensures none { IfNone result (HasNoEntry entries.now name.now) }
+{
+    match place_of(entries, name) {
         Some(place) => Some(&entries[place]),
         None => None,
     }
