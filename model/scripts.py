@@ -158,9 +158,9 @@ class Scripts:
     def edits(self):
         """Edits of a text: what stands before a place, another text, and what is after a second place. Now and then
         these overlap, bytes are lost at the end, the other text is the name's own, or a name holds the old text."""
-        seen, more, front, behind, held = (name.encode() for name in self.random.sample(CORDS, 5))
+        seen, more, prefix, suffix, held = (name.encode() for name in self.random.sample(CORDS, 5))
         size = self.random.choice([6, 300, 20000])
-        begun = [b"let %b %b" % (name, self.quoted(self.text())) for name in (more, front, held)]
+        begun = [b"let %b %b" % (name, self.quoted(self.text())) for name in (more, prefix, held)]
         begun.append(b"fn %b bytes %d" % (seen, size))
         lines = []
         for _ in range(self.random.randint(1, 12)):
@@ -168,14 +168,14 @@ class Scripts:
             after = self.random.choice([place, place + self.random.randint(0, 9), self.random.randint(0, size)])
             most = self.random.choice([99999, size, self.random.randint(0, size)])
             if self.chance(0.2):
-                lines.append(b"cat %b %b %b" % (held, seen, self.random.choice([seen, more, front])))
+                lines.append(b"cat %b %b %b" % (held, seen, self.random.choice([seen, more, prefix])))
             count = self.number() if self.chance(0.1) else b"%d" % place
-            lines.append(b"substr %b %b %d %b" % (front, seen, self.chance(0.05), count))
-            lines.append(b"substr %b %b %d %d" % (behind, seen, after, most))
-            between = self.random.choices([b"", more, front, seen, more + b" " + more], [2, 6, 1, 1, 1])[0]
-            joined = [b"catn", seen, front, between, behind] if between else [b"cat", seen, front, behind]
+            lines.append(b"substr %b %b %d %b" % (prefix, seen, self.chance(0.05), count))
+            lines.append(b"substr %b %b %d %d" % (suffix, seen, after, most))
+            between = self.random.choices([b"", more, prefix, seen, more + b" " + more], [2, 6, 1, 1, 1])[0]
+            joined = [b"catn", seen, prefix, between, suffix] if between else [b"cat", seen, prefix, suffix]
             lines.append(b" ".join(joined))
-        self.assigned |= {name.decode() for name in (seen, more, front, behind, held)}
+        self.assigned |= {name.decode() for name in (seen, more, prefix, suffix, held)}
         if self.chance(0.3):
             lines = [b"repeat %d" % self.random.randint(0, 30), *lines, b"end"]
         return [*begun, *lines, b"put " + seen, b"put " + held]

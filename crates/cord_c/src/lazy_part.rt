@@ -2,7 +2,7 @@
 ghost use Rattle.std.specs.Prelude.{◌≡◌, ◌⊎◌, ◌+◌, ◌<◌, ◌≤◌, length, take, drop};
 ghost use Rattle.cord_io.specs.Table.{Table, Lengths, length_at};
 ghost use Rattle.cord_core.specs.Cord.{text_len, bytes_of, CordFits, CordFitsIn};
-ghost use Rattle.cord_core.specs.Equations.{IsEntryRange};
+ghost use Rattle.cord_core.specs.Equations.{IsSourceRange};
 ghost use Rattle.cord_c.specs.Codes.{MayBeTooLong};
 ghost use Rattle.cord_c.specs.Lazy.{cord_of};
 ghost use denote.RawPtr.{Testable};
@@ -21,7 +21,7 @@ use std::alloc::Global;
 #[unsafe(no_mangle)]
 pub extern "C" fn zc_lazy_of_file(alloc: Global, file: u32, len: u64, out: &mut LazyHandle) -> i32
     requires places { Testable (as_mut_ptr out) }
-    ensures text { result ≡ OK → IsEntryRange file 0 len (cord_of out.new) }
+    ensures text { result ≡ OK → IsSourceRange file 0 len (cord_of out.new) }
     ensures kept { (result ≡ OK) ⊎ (cord_of out.new ≡ cord_of out.old) }
     ensures too_long { result ≡ TOO_LONG → MAX_LEN < len }
     ensures within_limit { result ≡ OK → len ≤ MAX_LEN }

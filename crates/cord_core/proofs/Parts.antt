@@ -7,7 +7,7 @@ use Rattle.cord_node.specs.declared.Node.TheVariants.{Leaf, Run, Func, Cat'}
 use Rattle.cord_node.specs.Tree.{known}
 use Rattle.cord_core.specs.Cord.{text, text_len}
 use Rattle.cord_core.specs.Forms.{IsLeafOf, IsFuncOf}
-use Rattle.cord_core.specs.Equations.{HasText, IsEntryRange}
+use Rattle.cord_core.specs.Equations.{HasText, IsSourceRange}
 
 -- all of a list
 whole : (b xs : List ℕ) (start len : ℕ) → xs ≡ b → start ≡ 0 → len ≡ length b → take len (drop start xs) ≡ b
@@ -35,7 +35,7 @@ leaf_over b (Some (Func id len start)) f = absurd f
 leaf_over b (Some (Cat' mark depth len p left q right count)) f = absurd f
 
 -- at least one byte of a source
-pub range_over : (id s n : ℕ) (c : Option Node) → 0 < n → IsFuncOf id s n c → IsEntryRange id s n c
+pub range_over : (id s n : ℕ) (c : Option Node) → 0 < n → IsFuncOf id s n c → IsSourceRange id s n c
 range_over id s n None some f = absurd (omega (arith, some, f))
 range_over id s n (Some (Leaf len bytes start mark)) some f = absurd f
 range_over id s n (Some (Run byte len)) some f = absurd f

@@ -11,7 +11,7 @@ pub record HasText (b : List ℕ) (c : Option Node) : Type 0 where
   pub bytes : (t : Table) → bytes_of t c ≡ b
 
 -- c is the n bytes from s on of a source that has them; nothing where n is 0
-pub record IsEntryRange (id s n : ℕ) (c : Option Node) : Type 0 where
+pub record IsSourceRange (id s n : ℕ) (c : Option Node) : Type 0 where
   pub fits : (lengths : Lengths) → (s + n ≤ length_at lengths id) ⊎ (n ≡ 0) → CordFitsIn lengths c
   pub bytes : (t : Table) → (s + n ≤ length (t id)) ⊎ (n ≡ 0) → bytes_of t c ≡ take n (drop s (t id))
 

@@ -5,7 +5,7 @@ ghost use Rattle.std.specs.Rc.{rc_slice_items};
 ghost use Rattle.cord_node.specs.Tree.{known, held_by};
 ghost use Rattle.cord_core.specs.Cord.{text, text_len, IsCord};
 ghost use Rattle.cord_core.specs.Forms.{IsLeafOf, IsRunOf, IsFuncOf};
-ghost use Rattle.cord_core.specs.Equations.{HasText, IsEntryRange};
+ghost use Rattle.cord_core.specs.Equations.{HasText, IsSourceRange};
 ghost use Rattle.cord_core.specs.Refusals.{IsRefusal};
 
 use crate::Cord;
@@ -88,7 +88,7 @@ impl Cord {
         requires { start + n ≤ MAX_LEN }
         ensures form { IfOk result (IsFuncOf id.0 start n) }
         ensures text { IfOk result (λ c. text c ≡ map (held_by id.0) (range_with_len start n)) }
-        ensures over { IfOk result (IsEntryRange id.0 start n) }
+        ensures over { IfOk result (IsSourceRange id.0 start n) }
         ensures len { IfOk result (λ c. text_len c ≡ n) }
         ensures sound { IfOk result IsCord }
         ensures refused { IsOkUnless result CordError.NoMemory }

@@ -68,42 +68,42 @@ module _ {X : Type 0} where
   pub inserted_before : (f g b d : List X) (at : ℕ) → at ≡ length f → f ++ (b ++ g) ++ d ≡ edited at 0 b (f ++ g ++ d)
   inserted_before f g b d at e =
       let there : length f ≡ at + 0 = omega (arith, e) in
-      let front : take at (f ++ g ++ d) ≡ f = ap (take at) (append_assoc f g d) ∙ take_at f (g ++ d) at (sym e) in
-      let back : drop (at + 0) (f ++ g ++ d) ≡ g ++ d =
+      let prefix : take at (f ++ g ++ d) ≡ f = ap (take at) (append_assoc f g d) ∙ take_at f (g ++ d) at (sym e) in
+      let suffix : drop (at + 0) (f ++ g ++ d) ≡ g ++ d =
       ap (drop (at + 0)) (append_assoc f g d) ∙ drop_at f (g ++ d) (at + 0) there in
       ap (λ (ys : List X). ys ++ d) (sym (append_assoc f b g)) ∙ append_assoc (f ++ b) g d
-      ∙ sym (ap (λ (ys : List X). ys ++ b ++ drop (at + 0) (f ++ g ++ d)) front ∙ ap (λ (ys : List X). f ++ b ++ ys) back)
+      ∙ sym (ap (λ (ys : List X). ys ++ b ++ drop (at + 0) (f ++ g ++ d)) prefix ∙ ap (λ (ys : List X). f ++ b ++ ys) suffix)
 
   -- a place past the end is the end
   pub insert_clamped : (xs b : List X) (start at len : ℕ) → length xs ≡ len → at ≡ min start len → edited at 0 b xs ≡ edited start 0 b xs
   insert_clamped xs b start at len e h =
-      let front : take at xs ≡ take start xs = rw (h, ← e) (take_min start xs) in
+      let prefix : take at xs ≡ take start xs = rw (h, ← e) (take_min start xs) in
       let more : at + 0 ≡ min start (length xs) = omega (arith, h, e) in
       let same : start + 0 ≡ start = omega arith in
-      let back : drop (at + 0) xs ≡ drop (start + 0) xs = rw (more, same) (drop_min start xs) in
-      ap (λ (ys : List X). ys ++ b ++ drop (at + 0) xs) front ∙ ap (λ (ys : List X). take start xs ++ b ++ ys) back
+      let suffix : drop (at + 0) xs ≡ drop (start + 0) xs = rw (more, same) (drop_min start xs) in
+      ap (λ (ys : List X). ys ++ b ++ drop (at + 0) xs) prefix ∙ ap (λ (ys : List X). take start xs ++ b ++ ys) suffix
 
   -- a removal of a range in which the end of the gap's bytes g lies, or to which it is next
-  pub removed_beside : (xs g : List X) (front back from until end : ℕ) → front ≤ length xs → end ≡ front + length g → from ≤ end →
-      end ≤ until → take (min front from) xs ++ take (from - front) g ++ drop (back + (until - end)) xs
-      ≡ take from (take front xs ++ g ++ drop back xs) ++ [] ++ drop until (take front xs ++ g ++ drop back xs)
-  removed_beside xs g front back from until end i e lo hi =
-      let f : List X = take front xs in
-      let d : List X = drop back xs in
-      let size : length f ≡ front = length-take-le front xs i in
+  pub removed_beside : (xs g : List X) (cut_start cut_end from until end : ℕ) → cut_start ≤ length xs → end ≡ cut_start + length g → from ≤ end →
+      end ≤ until → take (min cut_start from) xs ++ take (from - cut_start) g ++ drop (cut_end + (until - end)) xs
+      ≡ take from (take cut_start xs ++ g ++ drop cut_end xs) ++ [] ++ drop until (take cut_start xs ++ g ++ drop cut_end xs)
+  removed_beside xs g cut_start cut_end from until end i e lo hi =
+      let f : List X = take cut_start xs in
+      let d : List X = drop cut_end xs in
+      let size : length f ≡ cut_start = length-take-le cut_start xs i in
       let both : length (f ++ g) ≡ end = length-append f g ∙ (omega (arith, size, e)) in
       let none : from - length (f ++ g) ≡ 0 = omega (arith, both, lo) in
       let past : drop until (f ++ g) ≡ [] = drop_all until (f ++ g) (omega (arith, both, hi)) in
-      let left : take from (f ++ g ++ d) ≡ take (min front from) xs ++ take (from - front) g =
+      let left : take from (f ++ g ++ d) ≡ take (min cut_start from) xs ++ take (from - cut_start) g =
       take_both from (f ++ g) d ∙ ap (λ (k : ℕ). take from (f ++ g) ++ take k d) none ∙ append-nil (take from (f ++ g))
-      ∙ take_both from f g ∙ ap (λ (ys : List X). ys ++ take (from - length f) g) (take_twice from front xs)
-      ∙ ap (λ (k : ℕ). take (min front from) xs ++ take (from - k) g) size in
-      let right : drop until (f ++ g ++ d) ≡ drop (back + (until - end)) xs =
+      ∙ take_both from f g ∙ ap (λ (ys : List X). ys ++ take (from - length f) g) (take_twice from cut_start xs)
+      ∙ ap (λ (k : ℕ). take (min cut_start from) xs ++ take (from - k) g) size in
+      let right : drop until (f ++ g ++ d) ≡ drop (cut_end + (until - end)) xs =
       drop_both until (f ++ g) d ∙ ap (λ (ys : List X). ys ++ drop (until - length (f ++ g)) d) past
-      ∙ ap (λ (k : ℕ). drop (until - k) d) both ∙ drop-drop (until - end) back xs in
+      ∙ ap (λ (k : ℕ). drop (until - k) d) both ∙ drop-drop (until - end) cut_end xs in
       sym (ap (λ (ys : List X). ys ++ [] ++ drop until (f ++ g ++ d)) left
-      ∙ ap (λ (ys : List X). take (min front from) xs ++ take (from - front) g ++ [] ++ ys) right
-      ∙ ap (λ (ys : List X). ys ++ drop (back + (until - end)) xs) (append-nil (take (min front from) xs ++ take (from - front) g)))
+      ∙ ap (λ (ys : List X). take (min cut_start from) xs ++ take (from - cut_start) g ++ [] ++ ys) right
+      ∙ ap (λ (ys : List X). ys ++ drop (cut_end + (until - end)) xs) (append-nil (take (min cut_start from) xs ++ take (from - cut_start) g)))
 
   -- no bytes in the gap
   pub around : (xs g : List X) (at : ℕ) → g ≡ [] → take at xs ++ g ++ drop at xs ≡ xs
@@ -111,16 +111,16 @@ module _ {X : Type 0} where
       ∙ ap (λ (ys : List X). ys ++ drop at xs) (append-nil (take at xs)) ∙ take-append-drop at xs
 
   -- the length of a text with a gap
-  pub length_gapped : (xs g : List X) (front back len : ℕ) → length xs ≡ len → front ≤ back → back ≤ len →
-      length (take front xs ++ g ++ drop back xs) ≡ front + length g + (len - back)
-  length_gapped xs g front back len e o i =
-      let f : length (take front xs) ≡ front = length-take-le front xs (omega (arith, e, o, i)) in
-      omega (arith, length-append (take front xs ++ g) (drop back xs), length-append (take front xs) g, f, length-drop back xs, e)
+  pub length_gapped : (xs g : List X) (cut_start cut_end len : ℕ) → length xs ≡ len → cut_start ≤ cut_end → cut_end ≤ len →
+      length (take cut_start xs ++ g ++ drop cut_end xs) ≡ cut_start + length g + (len - cut_end)
+  length_gapped xs g cut_start cut_end len e o i =
+      let f : length (take cut_start xs) ≡ cut_start = length-take-le cut_start xs (omega (arith, e, o, i)) in
+      omega (arith, length-append (take cut_start xs ++ g) (drop cut_end xs), length-append (take cut_start xs) g, f, length-drop cut_end xs, e)
 
 -- the same of bytes in the gap of a text of cells
-pub length_around : (xs : List Cell) (g : List ℕ) (front back len : ℕ) → length xs ≡ len → front ≤ back → back ≤ len →
-    length (take front xs ++ map known g ++ drop back xs) ≡ front + length g + (len - back)
-length_around xs g front back len e o i = rw (← length-map g known) (length_gapped xs (map known g) front back len e o i)
+pub length_around : (xs : List Cell) (g : List ℕ) (cut_start cut_end len : ℕ) → length xs ≡ len → cut_start ≤ cut_end → cut_end ≤ len →
+    length (take cut_start xs ++ map known g ++ drop cut_end xs) ≡ cut_start + length g + (len - cut_end)
+length_around xs g cut_start cut_end len e o i = rw (← length-map g known) (length_gapped xs (map known g) cut_start cut_end len e o i)
 
 -- no bytes in the gap, and some that were added to none
 pub around_nothing : (xs : List Cell) (g : List ℕ) (at : ℕ) → g ≡ [] → take at xs ++ map known g ++ drop at xs ≡ xs

@@ -7,48 +7,48 @@ use Rattle.cord_core.proofs.Splices.{clamped_text}
 use Rattle.cord_edit.specs.Edits.{edited}
 use Rattle.cord_edit.proofs.Lists.{inserted_after, inserted_before, insert_clamped, removed_beside}
 
--- the text of a cord with bytes in the place of those from `front` up to `back`
+-- the text of a cord with bytes in the place of those from `cut_start` up to `cut_end`
 abbrev pub gapped : List Cell → List ℕ → ℕ → ℕ → List Cell
-gapped xs g front back = take front xs ++ map known g ++ drop back xs
+gapped xs g cut_start cut_end = take cut_start xs ++ map known g ++ drop cut_end xs
 
-module _ (xs all : List Cell) (g : List ℕ) (front back len total : ℕ) (view : gapped xs g front back ≡ all)
-    (counted : length xs ≡ len) (order : front ≤ back) (inside : back ≤ len) (reported : total ≡ length all) where
-  size : length (take front xs) ≡ front
-  size = length-take-le front xs (omega (arith, counted, order, inside))
+module _ (xs all : List Cell) (g : List ℕ) (cut_start cut_end len total : ℕ) (view : gapped xs g cut_start cut_end ≡ all)
+    (counted : length xs ≡ len) (order : cut_start ≤ cut_end) (inside : cut_end ≤ len) (reported : total ≡ length all) where
+  size : length (take cut_start xs) ≡ cut_start
+  size = length-take-le cut_start xs (omega (arith, counted, order, inside))
 
   -- bytes after those in the gap
-  pub typed_after : (b h : List ℕ) (at start : ℕ) → h ≡ g ++ b → at ≡ min start total → at ≡ front + length g →
-      gapped xs h front back ≡ edited start 0 (map known b) all
+  pub typed_after : (b h : List ℕ) (at start : ℕ) → h ≡ g ++ b → at ≡ min start total → at ≡ cut_start + length g →
+      gapped xs h cut_start cut_end ≡ edited start 0 (map known b) all
   typed_after b h at start added clamp here =
-      let place : at ≡ length (take front xs) + length (map known g) = omega (arith, here, size, length-map g known) in
-      ap (λ (ys : List ℕ). gapped xs ys front back) added
-      ∙ ap (λ (ys : List Cell). take front xs ++ ys ++ drop back xs) (map-append known g b)
-      ∙ inserted_after (take front xs) (map known g) (map known b) (drop back xs) at place
+      let place : at ≡ length (take cut_start xs) + length (map known g) = omega (arith, here, size, length-map g known) in
+      ap (λ (ys : List ℕ). gapped xs ys cut_start cut_end) added
+      ∙ ap (λ (ys : List Cell). take cut_start xs ++ ys ++ drop cut_end xs) (map-append known g b)
+      ∙ inserted_after (take cut_start xs) (map known g) (map known b) (drop cut_end xs) at place
       ∙ ap (edited at 0 (map known b)) view
       ∙ insert_clamped all (map known b) start at total (sym reported) clamp
 
   -- bytes in front of those in the gap
-  pub typed_before : (b h : List ℕ) (at start : ℕ) → h ≡ b ++ g → at ≡ min start total → at ≡ front →
-      gapped xs h front back ≡ edited start 0 (map known b) all
+  pub typed_before : (b h : List ℕ) (at start : ℕ) → h ≡ b ++ g → at ≡ min start total → at ≡ cut_start →
+      gapped xs h cut_start cut_end ≡ edited start 0 (map known b) all
   typed_before b h at start added clamp here =
-      let place : at ≡ length (take front xs) = omega (arith, here, size) in
-      ap (λ (ys : List ℕ). gapped xs ys front back) added
-      ∙ ap (λ (ys : List Cell). take front xs ++ ys ++ drop back xs) (map-append known b g)
-      ∙ inserted_before (take front xs) (map known g) (map known b) (drop back xs) at place
+      let place : at ≡ length (take cut_start xs) = omega (arith, here, size) in
+      ap (λ (ys : List ℕ). gapped xs ys cut_start cut_end) added
+      ∙ ap (λ (ys : List Cell). take cut_start xs ++ ys ++ drop cut_end xs) (map-append known b g)
+      ∙ inserted_before (take cut_start xs) (map known g) (map known b) (drop cut_end xs) at place
       ∙ ap (edited at 0 (map known b)) view
       ∙ insert_clamped all (map known b) start at total (sym reported) clamp
 
   -- bytes are taken out next to the end of those in the gap
-  pub removed_next : (h : List ℕ) (first parts_from from until end start count cut limit : ℕ) → first ≡ min front from → parts_from ≡ from -
-      front →
-      h ≡ take parts_from g → end ≡ front + length g → from ≤ end → end ≤ until → total ≤ limit → from ≡ min start total →
-      cut ≡ min (start + count) limit → until ≡ min cut total → gapped xs h first (back + (until - end)) ≡ edited start count [] all
+  pub removed_next : (h : List ℕ) (first parts_from from until end start count cut limit : ℕ) → first ≡ min cut_start from → parts_from ≡ from -
+      cut_start →
+      h ≡ take parts_from g → end ≡ cut_start + length g → from ≤ end → end ≤ until → total ≤ limit → from ≡ min start total →
+      cut ≡ min (start + count) limit → until ≡ min cut total → gapped xs h first (cut_end + (until - end)) ≡ edited start count [] all
   removed_next h first parts_from from until end start count cut limit f k left e lo hi small clamp sum until_is =
-      let bytes : map known h ≡ take (from - front) (map known g) =
-      ap (map known) (left ∙ ap (λ (n : ℕ). take n g) k) ∙ sym (take-map known (from - front) g) in
-      ap (λ (n : ℕ). gapped xs h n (back + (until - end))) f
-      ∙ ap (λ (ys : List Cell). take (min front from) xs ++ ys ++ drop (back + (until - end)) xs) bytes
-      ∙ removed_beside xs (map known g) front back from until end (omega (arith, counted, order, inside))
+      let bytes : map known h ≡ take (from - cut_start) (map known g) =
+      ap (map known) (left ∙ ap (λ (n : ℕ). take n g) k) ∙ sym (take-map known (from - cut_start) g) in
+      ap (λ (n : ℕ). gapped xs h n (cut_end + (until - end))) f
+      ∙ ap (λ (ys : List Cell). take (min cut_start from) xs ++ ys ++ drop (cut_end + (until - end)) xs) bytes
+      ∙ removed_beside xs (map known g) cut_start cut_end from until end (omega (arith, counted, order, inside))
       (omega (arith, e, length-map g known)) lo hi
       ∙ ap (λ (ys : List Cell). take from ys ++ [] ++ drop until ys) view
       ∙ clamped_text all [] (take from all ++ [] ++ drop until all) start (start + count) limit total from cut until (sym reported) small

@@ -20,16 +20,16 @@ use std::marker::Model;
 /// A text of at most `MAX_LEN` bytes that is edited at a place, the gap, which moves now and then.
 ///
 /// It is a cord with a range cut out, and the gap's bytes in its place, at most 4,096. An insert at the gap's end or in
-/// prefix of its bytes, and a removal that reaches up to its end or begins there, touch no tree and take constant time,
+/// front of its bytes, and a removal that reaches up to its end or begins there, touch no tree and take constant time,
 /// beside the copy of the bytes. An edit elsewhere moves the gap: its bytes become one leaf of the cord, by one
 /// `Cord::splice`, which takes steps for each level of the tree.
 #[derive(Drop)]
 pub struct EditBuffer {
     cord: Cord,
     // The text begins with so many bytes of the cord,
-    front: u64,
+    cut_start: u64,
     // and ends with those from here on.
-    back: u64,
+    cut_end: u64,
     gap: Gap,
 }
 
@@ -47,14 +47,14 @@ impl Model for EditBuffer {
 
     // The gap's bytes are a leaf after the cord's parts.
     ghost view = { λ e. record {
-      text = take e.front (text e.cord) ++ map known (gap_bytes e.gap) ++ drop e.back (text e.cord);
+      text = take e.cut_start (text e.cord) ++ map known (gap_bytes e.gap) ++ drop e.cut_end (text e.cord);
       parts = parts_of e.cord
           ++ leaf_parts (gap_bytes e.gap);
     } };
 
-    ghost invariant = { λ e. (e.front ≤ e.back) × (e.back ≤ text_len e.cord) × (text_len e.cord ≤ MAX_LEN)
+    ghost invariant = { λ e. (e.cut_start ≤ e.cut_end) × (e.cut_end ≤ text_len e.cord) × (text_len e.cord ≤ MAX_LEN)
         × (length (text e.cord) ≡ text_len e.cord)
-        × (e.front + length (gap_bytes e.gap) + (text_len e.cord - e.back) ≤ MAX_LEN) };
+        × (e.cut_start + length (gap_bytes e.gap) + (text_len e.cord - e.cut_end) ≤ MAX_LEN) };
 }
 
 impl EditBuffer {
@@ -70,8 +70,8 @@ impl EditBuffer {
         let len = shared.len();
         Ok(EditBuffer {
             cord: shared,
-            front: len,
-            back: len,
+            cut_start: len,
+            cut_end: len,
             gap,
         })
     }
@@ -82,7 +82,7 @@ impl EditBuffer {
         ensures over { (t : Table) → result ≡ length (bytes_of_cells t self.now.text) }
         ensures limit { result ≤ MAX_LEN }
     {
-        self.front + self.gap.len() as u64 + (self.cord.len() - self.back)
+        self.cut_start + self.gap.len() as u64 + (self.cord.len() - self.cut_end)
     }
 
     /// Puts bytes, of which it takes a copy, in front of the byte `at`: at the end where `at` is at or past the end.
@@ -103,11 +103,11 @@ impl EditBuffer {
             return Err(CordError::TooLong);
         }
         let at = at.min(len);
-        if at == self.front + self.gap.len() as u64 && self.gap.fits_after(bytes.len()) {
+        if at == self.cut_start + self.gap.len() as u64 && self.gap.fits_after(bytes.len()) {
             self.gap.append(bytes);
             return Ok(());
         }
-        if at == self.front && self.gap.fits_before(bytes.len()) {
+        if at == self.cut_start && self.gap.fits_before(bytes.len()) {
             self.gap.prepend(bytes);
             return Ok(());
         }
@@ -127,16 +127,23 @@ impl EditBuffer {
         let len = self.len();
         let from = start.min(len);
         let until = start.saturating_add(count).min(len);
-        let end = self.front + self.gap.len() as u64;
+        let end = self.cut_start + self.gap.len() as u64;
         if from <= end && end <= until {
-            self.gap.truncate(from.saturating_sub(self.front) as usize);
-            self.front = self.front.min(from);
-            self.back += until - end;
+            self.gap
+                .truncate(from.saturating_sub(self.cut_start) as usize);
+            self.cut_start = self.cut_start.min(from);
+            self.cut_end += until - end;
             return Ok(());
         }
-        flush(alloc, &mut self.cord, self.front, self.back, &mut self.gap)?;
-        self.front = from;
-        self.back = until;
+        flush(
+            alloc,
+            &mut self.cord,
+            self.cut_start,
+            self.cut_end,
+            &mut self.gap,
+        )?;
+        self.cut_start = from;
+        self.cut_end = until;
         Ok(())
     }
 
@@ -161,13 +168,19 @@ impl EditBuffer {
             + (length self.old.text - (start + count)) ≤ MAX_LEN) }
         ensures refused { IfErr result IsRefusal }
     {
-        let end = flush(alloc, &mut self.cord, self.front, self.back, &mut self.gap)?;
-        self.front = end;
-        self.back = end;
+        let end = flush(
+            alloc,
+            &mut self.cord,
+            self.cut_start,
+            self.cut_end,
+            &mut self.gap,
+        )?;
+        self.cut_start = end;
+        self.cut_end = end;
         let from = start.min(self.cord.len());
         self.cord.splice(alloc, start, count, middle)?;
-        self.front = from + middle.len();
-        self.back = self.front;
+        self.cut_start = from + middle.len();
+        self.cut_end = self.cut_start;
         Ok(())
     }
 
@@ -182,9 +195,15 @@ impl EditBuffer {
         ensures stays { Gathered 1 self.old.parts self.new.parts }
         ensures refused { IsOkUnless result CordError.NoMemory }
     {
-        let end = flush(alloc, &mut self.cord, self.front, self.back, &mut self.gap)?;
-        self.front = end;
-        self.back = end;
+        let end = flush(
+            alloc,
+            &mut self.cord,
+            self.cut_start,
+            self.cut_end,
+            &mut self.gap,
+        )?;
+        self.cut_start = end;
+        self.cut_end = end;
         let cord = self.cord.share(alloc)?;
         Ok(cord)
     }
@@ -200,39 +219,45 @@ impl EditBuffer {
         ensures unchanged { IsErr result → self.new.text ≡ self.old.text }
         ensures refused { IsOkUnless result CordError.NoMemory }
     {
-        flush(alloc, &mut self.cord, self.front, self.back, &mut self.gap)?;
-        self.front = at;
-        self.back = at;
+        flush(
+            alloc,
+            &mut self.cord,
+            self.cut_start,
+            self.cut_end,
+            &mut self.gap,
+        )?;
+        self.cut_start = at;
+        self.cut_end = at;
         if bytes.len() <= MOST {
             self.gap.append(bytes);
             return Ok(());
         }
         put_leaves(alloc, &mut self.cord, at, bytes)?;
-        self.front = at + bytes.len() as u64;
-        self.back = self.front;
+        self.cut_start = at + bytes.len() as u64;
+        self.cut_end = self.cut_start;
         Ok(())
     }
 }
 
-// Puts the gap's bytes into the cord, in the place of those from `front` up to `back`, and empties it. Answers the place
-// after them.
+// Puts the gap's bytes into the cord, in the place of those from `cut_start` up to `cut_end`, and empties it. Answers
+// the place after them.
 fn flush(
     alloc: Global,
     cord: &mut Cord,
-    front: u64,
-    back: u64,
+    cut_start: u64,
+    cut_end: u64,
     gap: &mut Gap,
 ) -> Result<u64, CordError>
-    requires order { front ≤ back }
-    requires inside { back ≤ text_len cord.old }
+    requires order { cut_start ≤ cut_end }
+    requires inside { cut_end ≤ text_len cord.old }
     requires counted { length (text cord.old) ≡ text_len cord.old }
-    requires within_limit { front + length (gap_bytes gap.old) + (text_len cord.old - back) ≤ MAX_LEN }
+    requires within_limit { cut_start + length (gap_bytes gap.old) + (text_len cord.old - cut_end) ≤ MAX_LEN }
     ensures text { IfOk result (λ _. text cord.new
-        ≡ take front (text cord.old) ++ map known (gap_bytes gap.old) ++ drop back (text cord.old)) }
+        ≡ take cut_start (text cord.old) ++ map known (gap_bytes gap.old) ++ drop cut_end (text cord.old)) }
     ensures len { IfOk result (λ _. text_len cord.new
-        ≡ front + length (gap_bytes gap.old) + (text_len cord.old - back)) }
+        ≡ cut_start + length (gap_bytes gap.old) + (text_len cord.old - cut_end)) }
     ensures counted { IfOk result (λ _. length (text cord.new) ≡ text_len cord.new) }
-    ensures place { IfOk result (λ place. place ≡ front + length (gap_bytes gap.old)) }
+    ensures place { IfOk result (λ place. place ≡ cut_start + length (gap_bytes gap.old)) }
     ensures gathered { IfOk result (λ _. Gathered 1 (parts_of cord.old ++ leaf_parts (gap_bytes gap.old))
         (parts_of cord.new)) }
     ensures emptied { IfOk result (λ _. gap_bytes gap.new ≡ []) }
@@ -242,12 +267,12 @@ fn flush(
     ensures gap_unchanged { IsErr result → gap.new ≡ gap.old }
     ensures refused { IsOkUnless result CordError.NoMemory }
 {
-    if front == back && gap.len() == 0 {
+    if cut_start == cut_end && gap.len() == 0 {
         gap.clear();
-        return Ok(front);
+        return Ok(cut_start);
     }
-    let end = front + gap.len() as u64;
-    put_bytes(alloc, cord, front, back, gap.bytes())?;
+    let end = cut_start + gap.len() as u64;
+    put_bytes(alloc, cord, cut_start, cut_end, gap.bytes())?;
     gap.clear();
     Ok(end)
 }

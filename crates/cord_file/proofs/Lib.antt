@@ -3,6 +3,6 @@ pub mod CordTexts
 pub mod Growing
 pub mod KeptBlocks
 pub mod Holding
-pub mod EntryBytes
+pub mod SourceBytes
 pub mod Periods
 pub mod Ranges

@@ -10,4 +10,4 @@ device_in sources = sources.files
 
 -- the paths that were opened, in order
 abbrev pub opened_in : {F : Type 0} {ghosts : Ghosts F} → Sources F ghosts → Opened
-opened_in sources = opened_of sources.entries.items
+opened_in sources = opened_of sources.open_files.items

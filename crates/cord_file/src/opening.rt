@@ -41,8 +41,8 @@ impl<F: Files> Sources<F> {
         ensures none_opened { IfErr result
             (IsUnopened (F.opened (device_in self.old)) (F.opened (device_in self.new))) }
     {
-        match place_of(&self.entries, path) {
-            Some(place) => Ok((SourceId(place as u32 + 2), self.entries[place].len)),
+        match place_of(&self.open_files, path) {
+            Some(place) => Ok((SourceId(place as u32 + 2), self.open_files[place].len)),
             None => self.add(alloc, path),
         }
     }
@@ -66,7 +66,7 @@ impl<F: Files> Sources<F> {
         ensures none_opened { IfErr result
             (IsUnopened (F.opened (device_in self.old)) (F.opened (device_in self.new))) }
     {
-        if self.entries.len() >= MAX_FILES {
+        if self.open_files.len() >= MAX_FILES {
             return Err(FileError::TooManyFiles);
         }
         let kept = String::from_str(alloc, path)?;
@@ -74,13 +74,13 @@ impl<F: Files> Sources<F> {
         if len > MAX_LEN {
             return Err(FileError::TooLong);
         }
-        let id = SourceId(self.entries.len() as u32 + 2);
+        let id = SourceId(self.open_files.len() as u32 + 2);
         let file = OpenFile {
             path: kept,
             no,
             len,
         };
-        self.entries.push(file)?;
+        self.open_files.push(file)?;
         Ok((id, len))
     }
 }

@@ -154,15 +154,15 @@ impl<F: Files> Sources<F> {
         place: usize,
         len: u64,
     ) -> Result<Vec<u8>, FileError>
-        requires file { IsSomeAnd (slice_get self.old.entries.items place) (λ file. file.len ≡ len) }
+        requires file { IsSomeAnd (slice_get self.old.open_files.items place) (λ file. file.len ≡ len) }
         ensures files { LeavesFiles (has_failed result) self.old self.new }
         ensures len { IfOk result (λ bytes. length bytes.items ≡ len) }
         ensures bytes { (file_system : FileSystem) → F.consistent (device_in self.new) file_system →
-            IfOk result (λ bytes. AreRead file_system (slice_get self.old.entries.items place) 0 bytes.items) }
+            IfOk result (λ bytes. AreRead file_system (slice_get self.old.open_files.items place) 0 bytes.items) }
         ensures refused { IfErr result IsReadRefusal }
     {
         let mut bytes = Vec::with_capacity(alloc, len as usize)?;
-        let file = &self.entries[place];
+        let file = &self.open_files[place];
         read_all(&mut self.files, file.no, len as usize, &mut bytes)?;
         Ok(bytes)
     }
@@ -184,10 +184,10 @@ impl<F: Files> Sources<F> {
         start: u64,
         out: &mut [u8],
     ) -> Result<(), ReadFault>
-        requires inside { IsInside (slice_get self.old.entries.items place) start (length out.old) }
+        requires inside { IsInside (slice_get self.old.open_files.items place) start (length out.old) }
         ensures files { LeavesFiles (is_err result) self.old self.new }
         ensures bytes { (file_system : FileSystem) → F.consistent (device_in self.new) file_system →
-            OnOk result (AreRead file_system (slice_get self.old.entries.items place) start out.new) }
+            OnOk result (AreRead file_system (slice_get self.old.open_files.items place) start out.new) }
     {
         let left = BLOCK - (start % BLOCK as u64) as usize;
         if !out.is_empty() && out.len() <= left {
@@ -202,10 +202,10 @@ impl<F: Files> Sources<F> {
     // inside one block needs nothing of it.
     #[inline(never)]
     fn read_blocks(&mut self, place: usize, start: u64, out: &mut [u8]) -> Result<(), ReadFault>
-        requires inside { IsInside (slice_get self.old.entries.items place) start (length out.old) }
+        requires inside { IsInside (slice_get self.old.open_files.items place) start (length out.old) }
         ensures files { LeavesFiles (is_err result) self.old self.new }
         ensures bytes { (file_system : FileSystem) → F.consistent (device_in self.new) file_system →
-            OnOk result (AreRead file_system (slice_get self.old.entries.items place) start out.new) }
+            OnOk result (AreRead file_system (slice_get self.old.open_files.items place) start out.new) }
     {
         let way = self.way_of(place, start, out.len());
         let mut done = 0;
@@ -226,12 +226,12 @@ impl<F: Files> Sources<F> {
         start: u64,
         out: &mut [u8],
     ) -> Result<(), ReadFault>
-        requires inside { IsInside (slice_get self.old.entries.items place) start (length out.old) }
+        requires inside { IsInside (slice_get self.old.open_files.items place) start (length out.old) }
         ensures files { LeavesFiles (is_err result) self.old self.new }
         ensures bytes { (file_system : FileSystem) → F.consistent (device_in self.new) file_system →
-            OnOk result (AreRead file_system (slice_get self.old.entries.items place) start out.new) }
+            OnOk result (AreRead file_system (slice_get self.old.open_files.items place) start out.new) }
     {
-        let file = &self.entries[place];
+        let file = &self.open_files[place];
         read_range(&mut self.files, file.no, start, out)
     }
 
@@ -243,12 +243,12 @@ impl<F: Files> Sources<F> {
         out: &mut [u8],
         way: Way,
     ) -> Result<(), ReadFault>
-        requires inside { IsInside (slice_get self.old.entries.items place) start (length out.old) }
+        requires inside { IsInside (slice_get self.old.open_files.items place) start (length out.old) }
         requires some { 0 < length out.old }
         requires part { length out.old ≤ BLOCK → start % BLOCK + length out.old ≤ BLOCK }
         ensures files { LeavesFiles (is_err result) self.old self.new }
         ensures bytes { (file_system : FileSystem) → F.consistent (device_in self.new) file_system →
-            OnOk result (AreRead file_system (slice_get self.old.entries.items place) start out.new) }
+            OnOk result (AreRead file_system (slice_get self.old.open_files.items place) start out.new) }
     {
         if BLOCK < out.len() {
             return self.read_past_blocks(place, start, out);
@@ -265,12 +265,12 @@ impl<F: Files> Sources<F> {
     // Fills `out` with bytes of one block of an opened file: of the block that is kept, or else of one that is read
     // and then kept.
     fn read_part(&mut self, place: usize, start: u64, out: &mut [u8]) -> Result<(), ReadFault>
-        requires inside { IsInside (slice_get self.old.entries.items place) start (length out.old) }
+        requires inside { IsInside (slice_get self.old.open_files.items place) start (length out.old) }
         requires some { 0 < length out.old }
         requires part { start % BLOCK + length out.old ≤ BLOCK }
         ensures files { LeavesFiles (is_err result) self.old self.new }
         ensures bytes { (file_system : FileSystem) → F.consistent (device_in self.new) file_system →
-            OnOk result (AreRead file_system (slice_get self.old.entries.items place) start out.new) }
+            OnOk result (AreRead file_system (slice_get self.old.open_files.items place) start out.new) }
     {
         let number = start / BLOCK as u64;
         let from = (start % BLOCK as u64) as usize;
@@ -283,12 +283,12 @@ impl<F: Files> Sources<F> {
 
     // Fills `out` with bytes of one block of an opened file, which is read and then kept.
     fn read_new(&mut self, place: usize, start: u64, out: &mut [u8]) -> Result<(), ReadFault>
-        requires inside { IsInside (slice_get self.old.entries.items place) start (length out.old) }
+        requires inside { IsInside (slice_get self.old.open_files.items place) start (length out.old) }
         requires some { 0 < length out.old }
         requires part { start % BLOCK + length out.old ≤ BLOCK }
         ensures files { LeavesFiles (is_err result) self.old self.new }
         ensures bytes { (file_system : FileSystem) → F.consistent (device_in self.new) file_system →
-            OnOk result (AreRead file_system (slice_get self.old.entries.items place) start out.new) }
+            OnOk result (AreRead file_system (slice_get self.old.open_files.items place) start out.new) }
     {
         let number = start / BLOCK as u64;
         let from = (start % BLOCK as u64) as usize;
@@ -304,12 +304,12 @@ impl<F: Files> Sources<F> {
 
     // Fills `out` with bytes of one block of an opened file, which is read and not kept.
     fn read_unkept(&mut self, place: usize, start: u64, out: &mut [u8]) -> Result<(), ReadFault>
-        requires inside { IsInside (slice_get self.old.entries.items place) start (length out.old) }
+        requires inside { IsInside (slice_get self.old.open_files.items place) start (length out.old) }
         requires some { 0 < length out.old }
         requires part { start % BLOCK + length out.old ≤ BLOCK }
         ensures files { LeavesFiles (is_err result) self.old self.new }
         ensures bytes { (file_system : FileSystem) → F.consistent (device_in self.new) file_system →
-            OnOk result (AreRead file_system (slice_get self.old.entries.items place) start out.new) }
+            OnOk result (AreRead file_system (slice_get self.old.open_files.items place) start out.new) }
     {
         let from = (start % BLOCK as u64) as usize;
         let mut block = [0; BLOCK];
@@ -325,12 +325,12 @@ impl<F: Files> Sources<F> {
         number: u64,
         block: &mut [u8; BLOCK],
     ) -> Result<(), ReadFault>
-        requires inside { IsSomeAnd (slice_get self.old.entries.items place) (λ file. number * BLOCK < file.len) }
+        requires inside { IsSomeAnd (slice_get self.old.open_files.items place) (λ file. number * BLOCK < file.len) }
         ensures files { LeavesFiles (is_err result) self.old self.new }
         ensures block { (file_system : FileSystem) → F.consistent (device_in self.new) file_system →
-            OnOk result (IsBlockIn file_system (slice_get self.old.entries.items place) number block.new) }
+            OnOk result (IsBlockIn file_system (slice_get self.old.open_files.items place) number block.new) }
     {
-        let file = &self.entries[place];
+        let file = &self.open_files[place];
         read_block(&mut self.files, file.no, file.len, number, block)
     }
 }

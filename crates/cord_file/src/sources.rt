@@ -23,12 +23,12 @@ use std::num::NonZeroUsize;
 #[derive(Drop)]
 pub struct Sources<F: Files> {
     pub(crate) files: F,
-    pub(crate) entries: Vec<OpenFile>,
+    pub(crate) open_files: Vec<OpenFile>,
     pub(crate) cache: Blocks,
     pub(crate) slots: Slots,
     pub(crate) spare: Option<Block>,
-    ghost few: { vec_len entries ≤ MAX_FILES },
-    ghost sound: { IsSound (F.consistent files) (F.opened files) entries.items cache.entries },
+    ghost few: { vec_len open_files ≤ MAX_FILES },
+    ghost sound: { IsSound (F.consistent files) (F.opened files) open_files.items cache.entries },
 }
 
 impl<F: Files> Sources<F> {
@@ -66,10 +66,10 @@ impl<F: Files> Sources<F> {
         let Ok(cache) = LruCache::new(alloc, most) else {
             return Err((CordError::NoMemory, files));
         };
-        let entries = Vec::new(alloc);
+        let open_files = Vec::new(alloc);
         Ok(Sources {
             files,
-            entries,
+            open_files,
             cache,
             slots: Slots::new(),
             spare: None,
@@ -82,7 +82,7 @@ impl<F: Files> Sources<F> {
     {
         let Sources {
             files,
-            entries: _,
+            open_files: _,
             cache: _,
             slots: _,
             spare: _,
@@ -104,7 +104,7 @@ impl<F: Files> Source for Sources<F> {
 
     ghost failures = { λ s. F.failures (device_in s) };
 
-    ghost lengths_of_table = { λ s. as_long_as_reported (F.consistent (device_in s)) s.entries.items s.sound.as_long };
+    ghost lengths_of_table = { λ s. as_long_as_reported (F.consistent (device_in s)) s.open_files.items s.sound.as_long };
 
     fn failures(&self) -> u64 {
         self.files.failures()
@@ -113,7 +113,7 @@ impl<F: Files> Source for Sources<F> {
     fn entry_len(&self, id: SourceId) -> Option<u64> {
         match id.0 {
             0 | 1 => Some(MAX_LEN),
-            n => match self.entries.get(n as usize - 2) {
+            n => match self.open_files.get(n as usize - 2) {
                 Some(file) => Some(file.len),
                 None => None,
             },

@@ -42,9 +42,9 @@ file_of_member (x ∷ xs) (suc n) p b d h =
     ] refl
 
 -- the entry with a number is what its path has
-pub file_of_entry : (es : List Entry) (n : ℕ) (e : Entry) → paths_differ (file_system_of es) ≡ true → slice_get es n ≡ Some e →
+pub file_at_number : (es : List Entry) (n : ℕ) (e : Entry) → paths_differ (file_system_of es) ≡ true → slice_get es n ≡ Some e →
     file_at (file_system_of es) (string_bytes e.path) ≡ Some e.bytes.items
-file_of_entry es n e d h = file_of_member (file_system_of es) n (string_bytes e.path) e.bytes.items d
+file_at_number es n e d h = file_of_member (file_system_of es) n (string_bytes e.path) e.bytes.items d
     (slice_get-map pair_of es n ∙ ap (option_map pair_of) h)
 
 -- what the entries from one on have at its path
@@ -111,7 +111,7 @@ pub bytes_read : (es : List Entry) (n : ℕ) (e : Entry) (out : List ℕ) (k sta
     IsSomeAnd (opened_of es n) (λ reported. take k out ≡ take k (drop start (bytes_at (file_system_of es) reported.0)))
 bytes_read es n e out k start d h inside read =
     let here : opened_of es n ≡ reported_of e = ap (option_and_then reported_of) h in
-    let file : file_at (file_system_of es) (string_bytes e.path) ≡ Some e.bytes.items = file_of_entry es n e d h in
+    let file : file_at (file_system_of es) (string_bytes e.path) ≡ Some e.bytes.items = file_at_number es n e d h in
     let P : List ℕ × ℕ → Type 0 = λ reported. start < reported.1 in
     let Q : List ℕ × ℕ → Type 0 = λ reported. take k out ≡ take k (drop start (bytes_at (file_system_of es) reported.0)) in
     let same : bytes_at (file_system_of es) (string_bytes e.path) ≡ e.bytes.items = ap (λ o. unwrap_or o []) file in

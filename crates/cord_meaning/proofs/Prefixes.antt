@@ -1,7 +1,7 @@
 -- The prefix of a source.
 use Rattle.std.proofs.Common.{◌≡◌, ◌≤◌, ℕ, take, sym, arith}
 use Rattle.cord_io.specs.FunctionTexts.{text_of}
-use Rattle.cord_io.proofs.Entries.{range-text_of}
+use Rattle.cord_io.proofs.FunctionRanges.{range-text_of}
 
 -- the first n bytes of a text of a function are its text of n bytes
 pub prefix_of_text : (f : ℕ → ℕ) (m n : ℕ) → n ≤ m → text_of f n ≡ take n (text_of f m)

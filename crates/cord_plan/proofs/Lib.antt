@@ -51,6 +51,6 @@ pub mod ExprViews
 pub mod Marked
 pub mod OnlyKept
 pub mod Pushed
-pub mod Known
+pub mod ExpressionFacts
 pub mod Nexts
 pub mod Extending

@@ -20,7 +20,7 @@ use Rattle.cord_plan.specs.Operands.{has, read_by, cord_arguments, assigns, read
 use Rattle.cord_plan.specs.Conditions.{makes_cord, assigns_other_at, HasKinds}
 use Rattle.cord_plan.proofs.Flows.{or_true}
 use Rattle.cord_plan.proofs.Named.{no_true}
-use Rattle.cord_plan.proofs.ReadNames.{IsSaid, line_said}
+use Rattle.cord_plan.proofs.ReadNames.{HasScope, line_scope}
 
 -- a name that stands after others, and not among them, has its kind
 kind_last : (names : List Known) (x : List ℕ) (k : Kind) → kind_of names x ≡ None → kind_of (names ++ record { name = x; kind = k } ∷ []) x
@@ -125,8 +125,8 @@ read_kinds g b s read p q x assigned = no_true (reads_at (slice_get s q) x)
     clash None e f u here r = let bad : ⊥ = cc in bad
     clash (Some l) e f None here r = let bad : ⊥ = cc in bad
     clash (Some l) e f (Some m) here r =
-        let one : IsSaid l last = line_said g read.lines 1 start s p l read.say e in
-        let two : IsSaid m last = line_said g read.lines 1 start s q m read.say here in
+        let one : HasScope l last = line_scope g read.lines 1 start s p l read.say e in
+        let two : HasScope m last = line_scope g read.lines 1 start s q m read.say here in
         apart (on (names_after (terms_of l) one.scope.names) one.after_stays.kept (other_assigned one.scope x l one.allowed f))
         (two.stays.kept x kinds.Cord (read_known two.scope x m two.allowed r))
       where

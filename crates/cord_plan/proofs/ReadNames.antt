@@ -62,30 +62,30 @@ lines_stay (s ∷ ss) scope =
     record { kept = λ y k e. (lines_stay ss (after s scope)).kept y k ((terms_stay (terms_of s) scope.names).kept y k e) }
 
 -- what is known in front of a line, where the script is read on to these names
-pub record IsSaid (l : Statement) (last : List Known) : Type 0 where
+pub record HasScope (l : Statement) (last : List Known) : Type 0 where
   pub scope : Scope
   pub allowed : AreAllowed scope (terms_of l)
   pub stays : Stays scope.names last
   pub after_stays : Stays (names_after (terms_of l) scope.names) last
 
 module _ (g : Grammar) where
-  pub line_said : (lines : List (List ℕ)) (n : ℕ) (scope : Scope) (ss : List Statement) (p : ℕ) (l : Statement) →
-      LinesSay g n scope lines ss → slice_get ss p ≡ Some l → IsSaid l (after_all ss scope).names
-  line_said [] n scope ss p l none e =
+  pub line_scope : (lines : List (List ℕ)) (n : ℕ) (scope : Scope) (ss : List Statement) (p : ℕ) (l : Statement) →
+      LinesSay g n scope lines ss → slice_get ss p ≡ Some l → HasScope l (after_all ss scope).names
+  line_scope [] n scope ss p l none e =
       let bad : ⊥ =
       (let gone : slice_get {X = Statement} [] p ≡ Some l = subst (λ (xs : List Statement). slice_get xs p ≡ Some l) none e in cc) in
       absurd bad
-  line_said (line ∷ lines) n scope ss p l (inl (idle, rest)) e = line_said lines (n + 1) scope ss p l rest e
-  line_said (line ∷ lines) n scope ss p l (inr (busy, s, words, rest, is, has, says, others)) e =
-      subst (λ (xs : List Statement). IsSaid l (after_all xs scope).names) (sym is)
+  line_scope (line ∷ lines) n scope ss p l (inl (idle, rest)) e = line_scope lines (n + 1) scope ss p l rest e
+  line_scope (line ∷ lines) n scope ss p l (inr (busy, s, words, rest, is, has, says, others)) e =
+      subst (λ (xs : List Statement). HasScope l (after_all xs scope).names) (sym is)
       (at p (subst (λ (xs : List Statement). slice_get xs p ≡ Some l) is e)
-      (λ k h. line_said lines (n + 1) (after s scope) rest k l others h))
+      (λ k h. line_scope lines (n + 1) (after s scope) rest k l others h))
     where
       at : (k : ℕ) → slice_get (s ∷ rest) k ≡ Some l → ((m : ℕ) → slice_get rest m ≡ Some l →
-          IsSaid l (after_all rest (after s scope)).names) → IsSaid l (after_all (s ∷ rest) scope).names
+          HasScope l (after_all rest (after s scope)).names) → HasScope l (after_all (s ∷ rest) scope).names
       at zero h later =
           let same : s ≡ l = cc in
-          subst (λ (x : Statement). IsSaid x (after_all (s ∷ rest) scope).names) same
+          subst (λ (x : Statement). HasScope x (after_all (s ∷ rest) scope).names) same
           (record {
             scope = scope;
             allowed = says.allowed;
@@ -154,14 +154,14 @@ no_number g b s p k l e t read at is operand = λ q. at_line (slice_get s q) q r
 
     cord : kind_of last t ≡ Some kinds.Cord
     cord =
-        let said : IsSaid l last = line_said g read.lines 1 start s p l read.say at in
+        let said : HasScope l last = line_scope g read.lines 1 start s p l read.say at in
         said.stays.kept t kinds.Cord (reads_known l said.scope k t (subst (λ (o : Option Expr). HasDefining o) (sym is) tt) said.allowed
         operand)
 
     at_line : (o : Option Statement) (q : ℕ) → slice_get s q ≡ o → has (numbers_named_at o) t ≡ false
     at_line None q here = refl
     at_line (Some m) q here = no_true (has (numbers_named m) t) (λ named. (
-        let said : IsSaid m last = line_said g read.lines 1 start s q m read.say here in
+        let said : HasScope m last = line_scope g read.lines 1 start s q m read.say here in
         let number : kind_of last t ≡ Some kinds.Number =
         said.stays.kept t kinds.Number (numbers_known m said.scope t said.allowed named) in
         let bad : Some kinds.Cord ≡ Some kinds.Number = sym cord ∙ number in

@@ -13,7 +13,7 @@ use Rattle.std.proofs.lemmas.Nat.Bits.{bit_at-zero, bit_at_set_same, bit_at_set_
 use Rattle.std.proofs.lemmas.List.{length-replicate}
 use Rattle.cord_syntax.specs.declared.statements.Statement.{Statement}
 use Rattle.cord_plan.specs.Operands.{assigns, read_by, reads, target_of}
-use Rattle.cord_plan.specs.inner.StraightLine.{AreAhead, AreBits, AreReportedFrom, IsLineLater, flow, later_in}
+use Rattle.cord_plan.specs.inner.StraightLine.{AreNextReads, AreBits, AreReportedFrom, IsLineLater, flow, later_in}
 use Rattle.cord_plan.specs.inner.NameSets.{bit}
 use Rattle.cord_plan.specs.inner.Numbering.{names_of, number_in}
 use Rattle.cord_plan.specs.inner.Recent.{Puts, entry_at, entry_of}
@@ -24,8 +24,8 @@ use Rattle.cord_plan.proofs.Recents.{none_noted, set_apart, set_there}
 use Rattle.cord_plan.proofs.Words.{bit_or_is, bit_zero_is}
 
 -- after the last line
-pub none_ahead : (t : Numbering) → AreAhead [] t (replicate (length (names_of t)) None)
-none_ahead t = record {
+pub none_read_next : (t : Numbering) → AreNextReads [] t (replicate (length (names_of t)) None)
+none_read_next t = record {
   places_for = length-replicate (length (names_of t)) None;
   reported = λ x. ap is_some (none_noted t (length (names_of t)) x);
 }
@@ -37,12 +37,12 @@ after_line false true p e = sym (and-false (is_some e))
 after_line false false p e = sym (and-true (is_some e))
 
 pub line_more : (t : Numbering) (l : Statement) (ls : List Statement) (p : ℕ) (old now new : List (Option ℕ)) → length new ≡ length old →
-    Puts t (λ x. assigns l x) None old now → Puts t (λ x. reads l x) (Some p) now new → AreAhead ls t old → AreAhead (l ∷ ls) t new
-line_more t l ls p old now new same clears notes ahead = record {
-  places_for = same ∙ ahead.places_for;
+    Puts t (λ x. assigns l x) None old now → Puts t (λ x. reads l x) (Some p) now new → AreNextReads ls t old → AreNextReads (l ∷ ls) t new
+line_more t l ls p old now new same clears notes next_reads = record {
+  places_for = same ∙ next_reads.places_for;
   reported = λ x. ap is_some (notes x ∙ ap (λ (o : Option ℕ). if reads l x then Some p else o) (clears x))
       ∙ (after_line (reads l x) (assigns l x) p (entry_of t old x)
-      ∙ ap (λ (later : Bool). flow (reads l x) later (assigns l x)) (ahead.reported x));
+      ∙ ap (λ (later : Bool). flow (reads l x) later (assigns l x)) (next_reads.reported x));
 }
 
 -- the bit of an operand
@@ -87,13 +87,13 @@ bits_more holds xs k w v x a there is one bits = record {
 
 -- what is asked of a line, by what is noted after it
 pub line_is : (t : Numbering) (places : List (Option ℕ)) (ls : List Statement) (l : Statement) (line : LineLater) (target : Option ℕ) →
-    AreAhead ls t places → line.target ≡ is_some (entry_at places target) → target ≡ number_in t (target_of l) →
+    AreNextReads ls t places → line.target ≡ is_some (entry_at places target) → target ≡ number_in t (target_of l) →
     AreBits (λ x. is_some (entry_of t places x)) (read_by l) line.operands →
     IsLineLater l (λ x. later_in ls x) line
-line_is t places ls l line target ahead reported number bits = record {
+line_is t places ls l line target next_reads reported number bits = record {
   target = λ x e. reported ∙ (ap (λ (o : Option ℕ). is_some (entry_at places o)) (number ∙ ap (λ (o : Option (List ℕ)). number_in t o) e)
-      ∙ ahead.reported x);
-  operands = λ xs e i x lt there. bits i x lt (ap (λ (ys : List (List ℕ)). slice_get ys i) (simple_reads l xs e) ∙ there) ∙ ahead.reported
+      ∙ next_reads.reported x);
+  operands = λ xs e i x lt there. bits i x lt (ap (λ (ys : List (List ℕ)). slice_get ys i) (simple_reads l xs e) ∙ there) ∙ next_reads.reported
       x;
 }
 

@@ -20,7 +20,7 @@ ghost use Rattle.cord_plan.specs.Planned as plan;
 ghost use Rattle.cord_plan.specs.Liveness.{IsLater};
 ghost use Rattle.cord_plan.specs.Views.{operation_view};
 
-use self::expression_facts::Known;
+use self::expression_facts::ExpressionFacts;
 use self::expressions::{NextExpression, next_expression};
 pub(crate) use self::interning::Interner;
 pub(crate) use self::joining::defining_expression;
@@ -60,7 +60,7 @@ fn operations_of(
     let mut extending = Vec::with_capacity(alloc, statements.len())?;
     let mut interner = Interner::of(alloc);
     let mut recent = Recent::of(alloc, later)?;
-    let mut known = Known::of(alloc, later.numbering.count())?;
+    let mut known = ExpressionFacts::of(alloc, later.numbering.count())?;
     for (place, statement) in statements.iter().enumerate() {
         let numbers = later.numbering.line(place);
         let next = next_expression(

@@ -3,18 +3,18 @@ use Rattle.std.proofs.Common.{◌≡◌, ◌≤◌, ◌+◌, ℕ, List, [], ◌+
 use Rattle.std.specs.Prelude.{Option}
 use Rattle.cord_io.specs.declared.TheConstants.{MAX_LEN}
 use Rattle.cord_io.specs.FunctionTexts.{text_of, digit_at, byte_value_at, length-text_of}
-use Rattle.cord_io.proofs.Entries.{range-text_of}
+use Rattle.cord_io.proofs.FunctionRanges.{range-text_of}
 use Rattle.cord_io.specs.Table.{Lengths}
 use Rattle.cord_node.specs.declared.Node.{Node}
 use Rattle.cord_node.specs.Tree.{Cell}
 use Rattle.cord_node.specs.Tables.{AreHeldIn, lengths_of}
 use Rattle.cord_core.specs.Cord.{IsCord}
-use Rattle.cord_core.specs.Equations.{IsEntryRange}
+use Rattle.cord_core.specs.Equations.{IsSourceRange}
 use Rattle.cord_ec.specs.Grown.{bytes_of_cells, IsCordOf, IsGrownBy}
 use Rattle.cord_file.specs.FileTable.{lengths_in, table_in}
 use Rattle.cord_operands.specs.declared.operands.Function.{Function}
 use Rattle.cord_operands.specs.declared.operands.Function.TheVariants.{Digits, Bytes}
-use Rattle.cord_run.specs.inner.Contents.{IsStartOf, IsTextOf, entry_of}
+use Rattle.cord_run.specs.inner.Contents.{IsStartOf, IsTextOf, function_source}
 
 -- an extensible cord of no bytes that has grown by a text
 pub gathered_text : (text : List ℕ) (before after : List Cell) (cord : Option Node) → before ≡ [] → length before + length text ≤ MAX_LEN →
@@ -44,7 +44,7 @@ module _ (count : ℕ) (cord : Option Node) (short : count ≤ MAX_LEN) (sound :
   inside : 0 + count ≤ MAX_LEN
   inside = omega (arith, short)
 
-  start_by : (function : Function) → IsEntryRange (entry_of function) 0 count cord → IsStartOf function count cord
+  start_by : (function : Function) → IsSourceRange (function_source function) 0 count cord → IsStartOf function count cord
   start_by Digits range = record {
     sound = sound;
     fits = λ now. range.fits (lengths_in now) (inl inside);
@@ -60,5 +60,5 @@ module _ (count : ℕ) (cord : Option Node) (short : count ≤ MAX_LEN) (sound :
         subst (λ (n : ℕ). 0 + count ≤ n) (sym long) inside)) ∙ start_text byte_value_at MAX_LEN count short;
   }
 
-  pub start_made : (function : Function) (id : ℕ) → id ≡ entry_of function → IsEntryRange id 0 count cord → IsStartOf function count cord
-  start_made function id is range = start_by function (subst (λ (n : ℕ). IsEntryRange n 0 count cord) is range)
+  pub start_made : (function : Function) (id : ℕ) → id ≡ function_source function → IsSourceRange id 0 count cord → IsStartOf function count cord
+  start_made function id is range = start_by function (subst (λ (n : ℕ). IsSourceRange n 0 count cord) is range)

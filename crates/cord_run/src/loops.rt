@@ -1,3 +1,3 @@
-//! Names that grow in place.
+//! Append buffers: texts of names that grow in place.
 pub(crate) mod growth;
 mod window;

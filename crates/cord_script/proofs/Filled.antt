@@ -65,17 +65,17 @@ use Rattle.cord_script.proofs.Tabled.{form_found}
 use Rattle.cord_script.proofs.Allowed.{names_same, all_allowed, block_right}
 
 -- what a word says where this is wanted
-abbrev Said : Want → Type 0
-Said (wants.Target kind) = List ℕ
-Said (wants.Operand kind) = List ℕ
-Said wants.Number = Number
-Said wants.Text = List ℕ
-Said wants.Path = List ℕ
-Said wants.Function = Function
-Said wants.Relation = Relation
-Said wants.Format = List ℕ
+abbrev OperandOf : Want → Type 0
+OperandOf (wants.Target kind) = List ℕ
+OperandOf (wants.Operand kind) = List ℕ
+OperandOf wants.Number = Number
+OperandOf wants.Text = List ℕ
+OperandOf wants.Path = List ℕ
+OperandOf wants.Function = Function
+OperandOf wants.Relation = Relation
+OperandOf wants.Format = List ℕ
 
-abbrev term : (x : Want) → Said x → Term
+abbrev term : (x : Want) → OperandOf x → Term
 term (wants.Target kind) name = Target kind name
 term (wants.Operand kind) name = Operand kind name
 term wants.Number number = Value number
@@ -85,15 +85,15 @@ term wants.Function function = Applies function
 term wants.Relation relation = Compares relation
 term wants.Format text = Formats text
 
-abbrev AllSaid : List Want → Type 0
-AllSaid [] = Unit {0}
-AllSaid (x ∷ xs) = Said x × AllSaid xs
+abbrev OperandsOf : List Want → Type 0
+OperandsOf [] = Unit {0}
+OperandsOf (x ∷ xs) = OperandOf x × OperandsOf xs
 
-abbrev terms : (xs : List Want) → AllSaid xs → List Term
+abbrev terms : (xs : List Want) → OperandsOf xs → List Term
 terms [] h = []
 terms (x ∷ xs) h = term x h.0 ∷ terms xs h.1
 
-term_wants : (x : Want) (v : Said x) → want_of (term x v) ≡ x
+term_wants : (x : Want) (v : OperandOf x) → want_of (term x v) ≡ x
 term_wants (wants.Target kind) v = refl
 term_wants (wants.Operand kind) v = refl
 term_wants wants.Number v = refl
@@ -103,7 +103,7 @@ term_wants wants.Function v = refl
 term_wants wants.Relation v = refl
 term_wants wants.Format v = refl
 
-terms_want : (xs : List Want) (h : AllSaid xs) → map want_of (terms xs h) ≡ xs
+terms_want : (xs : List Want) (h : OperandsOf xs) → map want_of (terms xs h) ≡ xs
 terms_want [] h = refl
 terms_want (x ∷ xs) h = ap (λ k. k ∷ map want_of (terms xs h.1)) (term_wants x h.0) ∙ ap (λ k. x ∷ k) (terms_want xs h.1)
 
@@ -140,7 +140,7 @@ a_relation p h = elim (either (bytes_eq p (codes "lt") || bytes_eq p (codes "eq"
     ]
 
 -- a word without a misfit says something
-word_says : (x : Want) (w : Word) → misfit x w ≡ None → (v : Said x) × IsTerm w (term x v)
+word_says : (x : Want) (w : Word) → misfit x w ≡ None → (v : OperandOf x) × IsTerm w (term x v)
 word_says (wants.Target kind) w h = a_name w h
 word_says (wants.Operand kind) w h = a_name w h
 word_says wants.Number (Plain p) h = a_number p h
@@ -157,7 +157,7 @@ word_says wants.Format (Plain p) h = cc
 word_says wants.Format (Quoted text) h = (text, refl)
 
 -- as many words as are wanted, without a misfit
-words_say : (xs : List Want) (ws : List Word) → length ws ≡ length xs → first_misfit xs ws ≡ None → (h : AllSaid xs) ×
+words_say : (xs : List Want) (ws : List Word) → length ws ≡ length xs → first_misfit xs ws ≡ None → (h : OperandsOf xs) ×
     AreTerms ws (terms xs h)
 words_say [] [] e h = (tt, tt)
 words_say [] (w ∷ ws) e h = absurd (omega (arith, e))
@@ -194,7 +194,7 @@ Fills word n ws (Some form) = (formats : Option (List Want)) → HasFormat form.
     words_error form.shape formats ws ≡ None → IsFilled word form n ws formats
 
 -- words of a fixed number
-fixed : {word : List ℕ} {effect : Effect} {xs : List Want} (n : ℕ) (ws : List Word) → ((h : AllSaid xs) → Made word effect n (terms xs h)) →
+fixed : {word : List ℕ} {effect : Effect} {xs : List Want} (n : ℕ) (ws : List Word) → ((h : OperandsOf xs) → Made word effect n (terms xs h)) →
     Fills word n ws (Some (record { shape = Words xs; effect = effect }))
 fixed {word = word} {effect = effect} {xs = xs} n ws make = λ formats has count fit.
     let said = words_say xs ws (eqb-true (length ws) (length xs) count) fit in
@@ -215,7 +215,7 @@ made s named leads line says suits =
     record { statement = s; named = named; leads = leads; line = line; says = says; suits = suits }
 
 -- the names of cords
-cord_names : (ws : List Word) (h : AllSaid (cords ws)) → (names : List (List ℕ)) × (terms (cords ws) h ≡ map (Operand kinds.Cord) names) ×
+cord_names : (ws : List Word) (h : OperandsOf (cords ws)) → (names : List (List ℕ)) × (terms (cords ws) h ≡ map (Operand kinds.Cord) names) ×
     (length names ≡ length ws)
 cord_names [] h = ([], refl, refl)
 cord_names (w ∷ ws) h =
@@ -249,14 +249,14 @@ joined_filled n (w ∷ ws) formats count fit =
     }
 
 -- the arguments of conversions
-arguments_said : (ks : List ArgKind) (h : AllSaid (map want_of_kind ks)) → (args : List Argument) ×
+arguments_given : (ks : List ArgKind) (h : OperandsOf (map want_of_kind ks)) → (args : List Argument) ×
     (terms (map want_of_kind ks) h ≡ map argument_term args) × (map argument_want args ≡ map want_of_kind ks)
-arguments_said [] h = ([], refl, refl)
-arguments_said (printed.Number ∷ ks) h =
-    let r = arguments_said ks h.1 in
+arguments_given [] h = ([], refl, refl)
+arguments_given (printed.Number ∷ ks) h =
+    let r = arguments_given ks h.1 in
     (arguments.Number h.0 ∷ r.0, ap (λ k. Value h.0 ∷ k) r.1, ap (λ k. wants.Number ∷ k) r.2)
-arguments_said (printed.Cord ∷ ks) h =
-    let r = arguments_said ks h.1 in
+arguments_given (printed.Cord ∷ ks) h =
+    let r = arguments_given ks h.1 in
     (arguments.Cord h.0 ∷ r.0, ap (λ k. Operand kinds.Cord h.0 ∷ k) r.1, ap (λ k. wants.Operand kinds.Cord ∷ k) r.2)
 
 no_format : (o : Option RefusalKind) (ws : List Word) → first_of o (arguments_error None ws) ≡ None → ⊥
@@ -276,7 +276,7 @@ printed_filled n (w ∷ Quoted text ∷ ws) (Some xs) has count fit =
     let q = neither (unless (length ws == length xs) WrongCount) (first_misfit xs ws) r.1 in
     let number = eqb-true (length ws) (length xs) (holds (length ws == length xs) WrongCount q.0) in
     let said = words_say (map want_of_kind ks) ws (number ∙ ap length has.2) (ap (λ k. first_misfit k ws) (sym has.2) ∙ q.1) in
-    let args = arguments_said ks said.0 in
+    let args = arguments_given ks said.0 in
     let others : xs ≡ map want_of (map argument_term args.0) =
     has.2 ∙ sym (terms_want (map want_of_kind ks) said.0) ∙ ap (map want_of) args.1 in
     record {

@@ -90,7 +90,7 @@ none_within t x s start place e past none =
     first_only (take e xs) s start None
     (λ k low at. none k low (omega (arith, past, stands_before xs s e k at)) (stands_whole xs s e k at))
 
--- a text stands nowhere where its front doesn't
+-- a text stands nowhere where its prefix doesn't
 pub prefix_none : (t : Table) (x s : Option Node) (start place e : ℕ) (head : List ℕ) → None ≡ first (take e (bytes_of t x)) place head →
     IsPieceOf t s 0 head → StandsNot t x (bytes_of t s) start place → None ≡ first (take e (bytes_of t x)) start (bytes_of t s)
 prefix_none t x s start place e head is f none =

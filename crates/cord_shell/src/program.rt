@@ -12,7 +12,7 @@ ghost use Rattle.cord_shell.specs.Reports.{IsCut, IsWritten, Reports};
 ghost use Rattle.cord_shell.specs.declared.outcome.Outcome.{Outcome};
 
 use crate::outcome::{Outcome, report, write_text};
-use crate::reader::{Unread, read_whole};
+use crate::reader::{ReadError, read_whole};
 use crate::words::{NoRequest, Request, read_words};
 use cord_io::{CordError, Files, Sink, WriteFault};
 use cord_plan::{Plan, plan};
@@ -102,16 +102,16 @@ fn serve<F: Files, S: Sink>(
     ensures earlier { (file_system : FileSystem) → F.consistent result.1 file_system → F.consistent files file_system }
 {
     match read_whole(alloc, &mut files, request.script, MAX_SCRIPT as u64) {
-        Err(Unread::NotFound) => (Outcome::NoScript, files),
-        Err(Unread::TooBig) => {
+        Err(ReadError::NotFound) => (Outcome::NoScript, files),
+        Err(ReadError::TooBig) => {
             let refusal = Refusal {
                 line: 0,
                 kind: RefusalKind::TooBig,
             };
             (Outcome::Refused(refusal), files)
         }
-        Err(Unread::NoMemory) => (Outcome::NoMemory, files),
-        Err(Unread::Failed) => (Outcome::Unreadable, files),
+        Err(ReadError::NoMemory) => (Outcome::NoMemory, files),
+        Err(ReadError::Failed) => (Outcome::Unreadable, files),
         Ok(script) => {
             if request.show_plan {
                 (show_script(alloc, request.unplanned, &script, out), files)

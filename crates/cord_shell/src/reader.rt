@@ -8,7 +8,7 @@ use std::alloc::Global;
 
 /// Why a script can't be read.
 #[derive(Drop)]
-pub enum Unread {
+pub enum ReadError {
     NotFound,
     TooBig,
     NoMemory,
@@ -25,7 +25,7 @@ pub fn read_whole<F: Files>(
     files: &mut F,
     path: &str,
     most: u64,
-) -> Result<Vec<u8>, Unread>
+) -> Result<Vec<u8>, ReadError>
     ensures earlier { (file_system : FileSystem) → F.consistent files.new file_system → F.consistent files.old
         file_system }
     ensures found { (file_system : FileSystem) → F.consistent files.new file_system →
@@ -35,11 +35,11 @@ pub fn read_whole<F: Files>(
     ensures count { F.failures files.new ≡ count_after (read_failed result) (F.failures files.old) }
 {
     match files.open(path) {
-        Err(OpenFault::NotFound) => Err(Unread::NotFound),
-        Err(OpenFault::Failed) => Err(Unread::Failed),
+        Err(OpenFault::NotFound) => Err(ReadError::NotFound),
+        Err(OpenFault::Failed) => Err(ReadError::Failed),
         Ok((no, len)) => {
             if len > most {
-                return Err(Unread::TooBig);
+                return Err(ReadError::TooBig);
             }
             read_opened(alloc, files, no, len)
         }
@@ -52,7 +52,7 @@ fn read_opened<F: Files>(
     files: &mut F,
     no: FileNo,
     len: u64,
-) -> Result<Vec<u8>, Unread>
+) -> Result<Vec<u8>, ReadError>
     requires opened { IsSomeAnd (F.opened files.old no.0) (λ reported. reported.1 ≡ len) }
     ensures earlier { (file_system : FileSystem) → F.consistent files.new file_system → F.consistent files.old
         file_system }
@@ -68,10 +68,10 @@ fn read_opened<F: Files>(
         let done = bytes.len() as u64;
         let room = (len - done).min(BLOCK as u64) as usize;
         match files.read_at(no, done, &mut block[..room]) {
-            Err(_) => return Err(Unread::Failed),
+            Err(_) => return Err(ReadError::Failed),
             Ok(count) => {
                 if bytes.extend_from_slice(&block[..count]).is_err() {
-                    return Err(Unread::NoMemory);
+                    return Err(ReadError::NoMemory);
                 }
             }
         }

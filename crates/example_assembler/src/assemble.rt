@@ -45,13 +45,13 @@ fn cord_of<S: Source>(alloc: Global, src: &S, segment: &Segment<'_>) -> Result<C
 fn copies<S: Source>(alloc: Global, src: &S, id: SourceId, times: u64) -> Result<Cord, CordError>
     ensures { IfOk result (Means (S.lengths src.now) (λ t. repeat times (t id.0))) }
 {
-    let file = entry(alloc, src, id)?;
+    let file = whole(alloc, src, id)?;
     let text = repeated(alloc, &file, times)?;
     Ok(text)
 }
 
 /// The whole of a source.
-fn entry<S: Source>(alloc: Global, src: &S, id: SourceId) -> Result<Cord, CordError>
+fn whole<S: Source>(alloc: Global, src: &S, id: SourceId) -> Result<Cord, CordError>
     ensures { IfOk result (Means (S.lengths src.now) (λ t. t id.0)) }
 {
     let len = src.entry_len(id).unwrap_or(0);

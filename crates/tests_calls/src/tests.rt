@@ -1,12 +1,12 @@
 //! What each call of the library answers, case by case.
 mod balance;
+mod byte_source;
 mod calls;
 mod cases;
 mod cords;
 mod depths;
 mod devices;
 mod edits;
-mod entry;
 mod extensible;
 mod files;
 mod formats;

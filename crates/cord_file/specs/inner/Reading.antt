@@ -16,7 +16,7 @@ IsInside slot start count = IsSomeAnd slot (λ file. start + count ≤ file.len)
 abbrev pub LeavesFiles : {F : Type 0} {ghosts : Ghosts F} → Bool → Sources F ghosts → Sources F ghosts → Type 0
 LeavesFiles {F} {ghosts} failed old new = record {
   earlier : (file_system : FileSystem) → ghosts.consistent (device_in new) file_system → ghosts.consistent (device_in old) file_system;
-  entries : new.entries.items ≡ old.entries.items;
+  open_files : new.open_files.items ≡ old.open_files.items;
   opened : OpensNone (ghosts.opened (device_in old)) (ghosts.opened (device_in new));
   count : ghosts.failures (device_in new) ≡ count_after failed (ghosts.failures (device_in old));
 }

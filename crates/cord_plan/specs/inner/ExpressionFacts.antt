@@ -8,7 +8,7 @@ use Rattle.cord_plan.specs.inner.NameSets.{Marks}
 use Rattle.cord_plan.specs.declared.flow.numbering.Numbering.{Numbering}
 use Rattle.cord_plan.specs.declared.planner.expression_facts.Facts.{Facts}
 use Rattle.cord_plan.specs.declared.planner.expression_facts.Entry.{Entry}
-use Rattle.cord_plan.specs.declared.planner.expression_facts.Known.{Known}
+use Rattle.cord_plan.specs.declared.planner.expression_facts.ExpressionFacts.{ExpressionFacts}
 
 -- an expression has so many parts, and these names of the first two groups
 pub record IsFacts (t : Numbering) (e : Expr) (f : Facts) : Type 0 where
@@ -23,8 +23,8 @@ pub record HasFacts (t : Numbering) (o : Option Expr) (f : Facts) : Type 0 where
   pub facts : IsFacts t expression f
 
 -- each entry is of the expression of the line at its place
-abbrev pub IsKnown : Numbering → List (Option Expr) → Known → Type 0
-IsKnown t table known = (n : ℕ) (entry : Entry) → slice_get known.entries.items n ≡ Some (Some entry) →
+abbrev pub AreFactsOf : Numbering → List (Option Expr) → ExpressionFacts → Type 0
+AreFactsOf t table known = (n : ℕ) (entry : Entry) → slice_get known.entries.items n ≡ Some (Some entry) →
     HasFacts t (expression_in table entry.place) entry.facts
 
 -- x stands for itself, or an expression of the table does

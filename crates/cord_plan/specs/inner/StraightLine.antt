@@ -19,7 +19,7 @@ later_in [] x = false
 later_in (l ∷ ls) x = flow (reads l x) (later_in ls x) (assigns l x)
 
 -- places, by the numbers of names, have a line for each name that these lines read before one assigns it, and for no other
-pub record AreAhead (ls : List Statement) (t : Numbering) (places : List (Option ℕ)) : Type 0 where
+pub record AreNextReads (ls : List Statement) (t : Numbering) (places : List (Option ℕ)) : Type 0 where
   pub places_for : AreFor t places
   pub reported : (x : List ℕ) → is_some (entry_of t places x) ≡ later_in ls x
 

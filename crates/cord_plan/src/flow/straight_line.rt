@@ -1,7 +1,7 @@
 // In a script without blocks, which names of each line are read later than the line.
 ghost use Rattle.std.specs.Prelude.{◌≡◌, ◌<◌, ◌==◌, ◌&&◌, [], ◌∷◌, ℕ, List, Some, IfOk, is_some, slice_get};
 ghost use Rattle.cord_syntax.specs.declared.statements.Statement.{Statement};
-ghost use Rattle.cord_plan.specs.inner.StraightLine.{AreAhead, AreBits, AreReportedFrom};
+ghost use Rattle.cord_plan.specs.inner.StraightLine.{AreNextReads, AreBits, AreReportedFrom};
 ghost use Rattle.cord_plan.specs.inner.NameSets.{bit};
 ghost use Rattle.cord_plan.specs.inner.Numbering.{IsNumbered, IsNumbering, names_of};
 ghost use Rattle.cord_plan.specs.inner.Places.{AreNumbers};
@@ -27,7 +27,7 @@ pub(crate) struct LineLater {
 /// On the way back over lines, by the numbers of names, the next line that reads each name, where none before that one
 /// assigns it.
 #[derive(Drop)]
-struct Ahead {
+struct NextReads {
     read: Vec<Option<usize>>,
 }
 
@@ -67,14 +67,14 @@ fn operand_bit(index: usize, is_set: bool) -> u16
     if is_set { 1 << index } else { 0 }
 }
 
-impl Ahead {
+impl NextReads {
     // After the last line.
     fn of(alloc: Global, numbering: &Numbering) -> Result<Self, AllocError>
-        ensures { IfOk result (λ a. AreAhead [] numbering.now a.read.items) }
+        ensures { IfOk result (λ a. AreNextReads [] numbering.now a.read.items) }
     {
         let count = numbering.count();
         let read = vec![in alloc; None; count]?;
-        Ok(Ahead { read })
+        Ok(NextReads { read })
     }
 
     // Whether the name of a number is read before it is assigned.
@@ -102,7 +102,7 @@ impl Ahead {
     // Goes back over the line before, whose names have these numbers.
     fn go_back(&mut self, numbers: LineNumbers, place: usize)
         ensures { (t : Numbering) (l : Statement) (ls : List Statement) → IsNumbered t l numbers.entry →
-            AreAhead ls t self.old.read.items → AreAhead (l ∷ ls) t self.new.read.items }
+            AreNextReads ls t self.old.read.items → AreNextReads (l ∷ ls) t self.new.read.items }
     {
         put(&mut self.read, numbers.target, None);
         note_all(&mut self.read, numbers.read, place);
@@ -118,15 +118,15 @@ pub(crate) fn lines_later(
     requires { IsNumbering statements.now numbering.now }
     ensures { IfOk result (λ v. AreReportedFrom statements.now 0 v.items) }
 {
-    let mut ahead = Ahead::of(alloc, numbering)?;
+    let mut next_reads = NextReads::of(alloc, numbering)?;
     let mut lines = vec![in alloc; LineLater::none(); statements.len()]?;
     for place in (0..statements.len()).rev() {
         let numbers = numbering.line(place);
         lines[place] = LineLater {
-            target: ahead.has(numbers.target),
-            operands: ahead.operand_bits(numbers.read),
+            target: next_reads.has(numbers.target),
+            operands: next_reads.operand_bits(numbers.read),
         };
-        ahead.go_back(numbers, place);
+        next_reads.go_back(numbers, place);
     }
     Ok(lines)
 }

@@ -7,7 +7,7 @@ ghost use Rattle.cord_plan.specs.Exprs.{members, names, parts};
 ghost use Rattle.cord_plan.specs.Inlined.{expr_of, expr_with};
 ghost use Rattle.cord_plan.specs.declared.flow.numbering.Numbering.{Numbering};
 ghost use Rattle.cord_plan.specs.inner.Choices.{choice_view, expression_in, room_left, simple_operands};
-ghost use Rattle.cord_plan.specs.inner.ExpressionFacts.{HasFacts, IsFacts, IsFrom, IsKnown};
+ghost use Rattle.cord_plan.specs.inner.ExpressionFacts.{HasFacts, IsFacts, IsFrom, AreFactsOf};
 ghost use Rattle.cord_plan.specs.inner.Numbering.{IsNumbered, number_of};
 ghost use Rattle.cord_plan.specs.Exprs.{lacks};
 
@@ -33,7 +33,7 @@ struct Entry {
 
 /// For each number of a name what is known of the expression of a line that assigned the name.
 #[derive(Drop)]
-pub(crate) struct Known {
+pub(crate) struct ExpressionFacts {
     entries: Vec<Option<Entry>>,
 }
 
@@ -99,18 +99,18 @@ impl Facts {
     }
 }
 
-impl Known {
+impl ExpressionFacts {
     /// Before the first line.
     pub(crate) fn of(alloc: Global, count: usize) -> Result<Self, AllocError>
-        ensures { IfOk result (λ k. (t : Numbering) (table : List (Option plain.Expr)) → IsKnown t table k) }
+        ensures { IfOk result (λ k. (t : Numbering) (table : List (Option plain.Expr)) → AreFactsOf t table k) }
     {
         let entries = vec![in alloc; None; count]?;
-        Ok(Known { entries })
+        Ok(ExpressionFacts { entries })
     }
 
     /// What is known of the expression of the line at a place, which assigns a name that may have a number.
     pub(crate) fn at(&self, number: Option<usize>, place: usize) -> Option<&Facts>
-        ensures { (t : Numbering) (table : List (Option plain.Expr)) (e : plain.Expr) → IsKnown t table self.now →
+        ensures { (t : Numbering) (table : List (Option plain.Expr)) (e : plain.Expr) → AreFactsOf t table self.now →
             expression_in table place ≡ Some e → IfSome result (λ f. IsFacts t e f.now) }
     {
         match self.entries.get(number?) {
@@ -121,7 +121,7 @@ impl Known {
 
     // What is known of what stands for an operand, whose name has this number.
     fn of_choice(&self, choice: &Choice, number: Option<usize>) -> Option<Facts>
-        ensures { (t : Numbering) (table : List (Option plain.Expr)) (x : List ℕ) → IsKnown t table self.now →
+        ensures { (t : Numbering) (table : List (Option plain.Expr)) (x : List ℕ) → AreFactsOf t table self.now →
             number ≡ number_of t x → IsFrom table x (choice_view choice.now) →
             IfSome result (λ f. IsFacts t (expr_of (choice_view choice.now)) f) }
     {
@@ -133,7 +133,7 @@ impl Known {
 
     // What is known of the expression of a line, where this stands for its operand.
     fn of_one(&self, statement: &Statement, choice: &Choice, number: Option<usize>) -> Option<Facts>
-        ensures { (t : Numbering) (table : List (Option plain.Expr)) (x : List ℕ) → IsKnown t table self.now →
+        ensures { (t : Numbering) (table : List (Option plain.Expr)) (x : List ℕ) → AreFactsOf t table self.now →
             number ≡ number_of t x → IsFrom table x (choice_view choice.now) →
             IfSome result (λ f. HasFacts t (expr_with statement.now (expr_of (choice_view choice.now) ∷ [])) f) }
     {
@@ -156,7 +156,7 @@ impl Known {
         right: &Choice,
         second: Option<usize>,
     ) -> Option<Facts>
-        ensures { (t : Numbering) (table : List (Option plain.Expr)) (x y : List ℕ) → IsKnown t table self.now →
+        ensures { (t : Numbering) (table : List (Option plain.Expr)) (x y : List ℕ) → AreFactsOf t table self.now →
             first ≡ number_of t x → IsFrom table x (choice_view left.now) →
             second ≡ number_of t y → IsFrom table y (choice_view right.now) →
             IfSome result (λ f. IsFacts t (plain.cat (members
@@ -170,8 +170,8 @@ impl Known {
 
     // Notes what is known of the expression of the line at a place, which assigns the name of a number.
     fn note(&mut self, target: Option<usize>, place: usize, facts: Option<Facts>)
-        ensures { (t : Numbering) (table : List (Option plain.Expr)) → IsKnown t table self.old →
-            IfSome facts (λ f. HasFacts t (expression_in table place) f) → IsKnown t table self.new }
+        ensures { (t : Numbering) (table : List (Option plain.Expr)) → AreFactsOf t table self.old →
+            IfSome facts (λ f. HasFacts t (expression_in table place) f) → AreFactsOf t table self.new }
     {
         match (target, facts) {
             (Some(number), Some(facts)) => {
@@ -185,10 +185,10 @@ impl Known {
 
     /// Notes the expression of a line, where this stands for its operand.
     pub(crate) fn note_one(&mut self, line: &Line, choice: &Choice)
-        ensures { (t : Numbering) (table : List (Option plain.Expr)) (x : List ℕ) → IsKnown t table self.old →
+        ensures { (t : Numbering) (table : List (Option plain.Expr)) (x : List ℕ) → AreFactsOf t table self.old →
             length table ≡ line.now.place → simple_operands line.now.statement.now ≡ Some (x ∷ []) →
             IsNumbered t line.now.statement.now line.now.numbers →
-            IsFrom table x (choice_view choice.now) → IsKnown t (table ++ expr_with line.now.statement.now
+            IsFrom table x (choice_view choice.now) → AreFactsOf t (table ++ expr_with line.now.statement.now
             (expr_of (choice_view choice.now) ∷ []) ∷ []) self.new }
     {
         let number = number_at(line.numbers.read, 0);
@@ -198,11 +198,11 @@ impl Known {
 
     /// Notes the expression of a line, where these stand for its two operands.
     pub(crate) fn note_two(&mut self, line: &Line, left: &Choice, right: &Choice)
-        ensures { (t : Numbering) (table : List (Option plain.Expr)) (x y : List ℕ) → IsKnown t table self.old →
+        ensures { (t : Numbering) (table : List (Option plain.Expr)) (x y : List ℕ) → AreFactsOf t table self.old →
             length table ≡ line.now.place → simple_operands line.now.statement.now ≡ Some (x ∷ y ∷ []) →
             IsNumbered t line.now.statement.now line.now.numbers →
             IsFrom table x (choice_view left.now) → IsFrom table y (choice_view right.now) →
-            IsKnown t (table ++ expr_with line.now.statement.now
+            AreFactsOf t (table ++ expr_with line.now.statement.now
             (expr_of (choice_view left.now) ∷ expr_of (choice_view right.now) ∷ []) ∷ []) self.new }
     {
         let (first, second) = (

@@ -4,7 +4,7 @@ ghost use Rattle.std.specs.Prelude.{option_map};
 ghost use Rattle.cord_plan.specs.Inlined.{expr_of, expr_with};
 ghost use Rattle.cord_plan.specs.inner.Choices.{choice_view, simple_operands};
 ghost use Rattle.cord_syntax.specs.Readings.{operand_names};
-ghost use Rattle.cord_plan.specs.inner.ExpressionFacts.{IsKnown};
+ghost use Rattle.cord_plan.specs.inner.ExpressionFacts.{AreFactsOf};
 ghost use Rattle.cord_plan.specs.inner.Liveness.{reports, IsReported};
 ghost use Rattle.cord_plan.specs.inner.Numbering.{IsNumbered};
 ghost use Rattle.cord_plan.specs.inner.Recent.{IsRecent};
@@ -13,7 +13,7 @@ ghost use Rattle.cord_plan.specs.inner.Steps.{operation_expression, sources_view
 ghost use Rattle.cord_plan.specs.Views.{expr_view, operation_view};
 
 use crate::flow::{LineNumbers, Recent, operands_of};
-use crate::planner::expression_facts::Known;
+use crate::planner::expression_facts::ExpressionFacts;
 use crate::planner::interning::Interner;
 use crate::planner::joining::expression_with;
 use crate::planner::measuring::{Sources, measure, source_of, sources_of};
@@ -100,7 +100,7 @@ fn expression_over<'a>(
     alloc: Global,
     interner: &mut Interner,
     line: &Line<'a>,
-    known: &mut Known,
+    known: &mut ExpressionFacts,
     operations: &'a [Operation],
 ) -> Result<LineExpression, CordError>
     requires place { line.now.place ≤ length line.now.statements.now }
@@ -109,7 +109,7 @@ fn expression_over<'a>(
     requires numbers { IsNumbered line.now.recent.now.later.now.numbering line.now.statement.now line.now.numbers }
     requires reported { IsReported line.now.recent.now.later.now line.now.statement.now line.now.place }
     requires long { length operations.now ≡ line.now.place }
-    requires known { IsKnown line.now.recent.now.later.now.numbering
+    requires known { AreFactsOf line.now.recent.now.later.now.numbering
         (map operation_expression (map operation_view operations.now)) known.old }
     ensures made { IfOk result (λ t. IsNext line.now.statements.now
         (reports line.now.recent.now.later.now) line.now.place line.now.statement.now
@@ -117,7 +117,7 @@ fn expression_over<'a>(
     ensures extends { IfOk result (λ t. IsReportedLonger line.now.statements.now
         (reports line.now.recent.now.later.now) line.now.place line.now.statement.now
         (map operation_view operations.now) t.extends) }
-    ensures known { IfOk result (λ t. IsKnown line.now.recent.now.later.now.numbering
+    ensures known { IfOk result (λ t. AreFactsOf line.now.recent.now.later.now.numbering
         (map operation_expression (map operation_view operations.now) ++ option_map expr_view t.expression ∷ [])
         known.new) }
     ensures refused { IsOkUnless result CordError.NoMemory }
@@ -164,7 +164,7 @@ pub(crate) fn next_expression(
     statement: &Statement,
     numbers: LineNumbers,
     recent: &Recent,
-    known: &mut Known,
+    known: &mut ExpressionFacts,
     operations: &mut [Operation],
 ) -> Result<NextExpression, CordError>
     requires place { place ≤ length statements.now }
@@ -172,14 +172,14 @@ pub(crate) fn next_expression(
     requires numbers { IsNumbered recent.now.later.now.numbering statement.now numbers }
     requires reported { IsReported recent.now.later.now statement.now place }
     requires long { length operations.old ≡ place }
-    requires known { IsKnown recent.now.later.now.numbering
+    requires known { AreFactsOf recent.now.later.now.numbering
         (map operation_expression (map operation_view operations.old)) known.old }
     ensures made { IfOk result (λ n. IsStep statements.now (reports recent.now.later.now) place statement.now
         (map operation_view operations.old) (map operation_view operations.new) (option_map expr_view n.expression)) }
     ensures extends { IfOk result (λ n. IsReportedLonger statements.now (reports recent.now.later.now) place
         statement.now
         (map operation_view operations.old) n.extends) }
-    ensures known { IfOk result (λ n. IsKnown recent.now.later.now.numbering
+    ensures known { IfOk result (λ n. AreFactsOf recent.now.later.now.numbering
         (map operation_expression (map operation_view operations.old) ++ option_map expr_view n.expression ∷ [])
         known.new) }
     ensures refused { IsOkUnless result CordError.NoMemory }

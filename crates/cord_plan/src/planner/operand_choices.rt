@@ -10,7 +10,7 @@ ghost use Rattle.cord_plan.specs.inner.Choices.{simple_operands, parts_beside, e
 ghost use Rattle.cord_plan.specs.inner.Choices.{is_spare, stands};
 ghost use Rattle.cord_plan.specs.inner.Choices.{choice_view, IsChoice, AreChoices};
 ghost use Rattle.cord_syntax.specs.Readings.{operand_names};
-ghost use Rattle.cord_plan.specs.inner.ExpressionFacts.{IsFacts, IsKnown};
+ghost use Rattle.cord_plan.specs.inner.ExpressionFacts.{IsFacts, AreFactsOf};
 ghost use Rattle.cord_plan.specs.inner.Liveness.{reports, IsReported};
 ghost use Rattle.cord_plan.specs.inner.Numbering.{IsNumbered};
 ghost use Rattle.cord_plan.specs.inner.Recent.{IsRecent};
@@ -19,7 +19,7 @@ ghost use Rattle.cord_plan.specs.Views.{expr_view, made_view, operation_view};
 ghost use Rattle.std.specs.Str.{bytes_eq};
 
 use crate::flow::{LineNumbers, Recent, assigns, number_at};
-use crate::planner::expression_facts::{Facts, Known};
+use crate::planner::expression_facts::{ExpressionFacts, Facts};
 use crate::planner::parts::room_left;
 use crate::planner::unchanged::{nearest, stays};
 use crate::{Expr, MAX_EXPR_PARTS, Made, Operation};
@@ -215,13 +215,13 @@ fn stands(
 /// operations.
 pub(crate) fn choose<'a>(
     line: &Line,
-    known: &Known,
+    known: &ExpressionFacts,
     operand: &'a Name,
     operations: &'a [Operation],
     chosen: &[Choice],
 ) -> Choice<'a>
     requires numbers { IsNumbered line.now.recent.now.later.now.numbering line.now.statement.now line.now.numbers }
-    requires known { IsKnown line.now.recent.now.later.now.numbering
+    requires known { AreFactsOf line.now.recent.now.later.now.numbering
         (map operation_expression (map operation_view operations.now)) known.now }
     requires place { line.now.place ≤ length line.now.statements.now }
     requires recent { IsRecent line.now.statements.now line.now.place line.now.recent.now }
@@ -293,11 +293,11 @@ pub(crate) fn is_named(choice: &Choice) -> bool
 pub(crate) fn choose_all<'a>(
     alloc: Global,
     line: &Line<'a>,
-    known: &Known,
+    known: &ExpressionFacts,
     operands: &'a [Name],
     operations: &'a [Operation],
 ) -> Result<Vec<Choice<'a>>, AllocError>
-    requires known { IsKnown line.now.recent.now.later.now.numbering
+    requires known { AreFactsOf line.now.recent.now.later.now.numbering
         (map operation_expression (map operation_view operations.now)) known.now }
     requires place { line.now.place ≤ length line.now.statements.now }
     requires recent { IsRecent line.now.statements.now line.now.place line.now.recent.now }

@@ -1,7 +1,7 @@
 // Cords of literals and of functions.
 ghost use Rattle.std.specs.Prelude.{◌≡◌, ◌<◌, ◌≤◌, Err, IfErr, IfOk, IsOkUnless, length};
 ghost use Rattle.cord_core.specs.Refusals.{IsRefusal};
-ghost use Rattle.cord_run.specs.inner.Contents.{IsStopBy, IsStartAsked, IsStartOf, IsTextOf, entry_of, start_extent};
+ghost use Rattle.cord_run.specs.inner.Contents.{IsStopBy, IsStartAsked, IsStartOf, IsTextOf, function_source, start_extent};
 
 use crate::checks::{as_index, as_length};
 use crate::stops::Stop;
@@ -69,7 +69,7 @@ fn start_of(alloc: Global, function: Function, count: u64) -> Result<Cord, CordE
 
 // The source of a function.
 fn source_of(function: Function) -> SourceId
-    ensures { result.0 ≡ entry_of function }
+    ensures { result.0 ≡ function_source function }
 {
     match function {
         Function::Digits => SourceId(0),

@@ -53,7 +53,7 @@ fn expect_len<F: Files>(rt: &impl Abort, sources: &Sources<F>, id: u32, len: Opt
     expect_case(
         rt,
         sources.entry_len(SourceId(id)) == len,
-        "the entry",
+        "the source",
         u64::from(id),
     );
 }

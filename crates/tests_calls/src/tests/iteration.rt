@@ -3,8 +3,8 @@ ghost use Rattle.std.specs.Prelude.{◌≡◌, ◌≤◌, IfOk};
 ghost use Rattle.cord_io.specs.Table.{Lengths, length_at};
 ghost use Rattle.cord_core.specs.Cord.{CordFitsIn};
 
+use super::byte_source::six_hundred;
 use super::cases::expect_case;
-use super::entry::six_hundred;
 use super::made::{Part, Parts, made};
 use Part::{Func, Leaf, Run};
 use cord_core::Cord;

@@ -3,8 +3,8 @@ ghost use Rattle.std.specs.Prelude.{◌≡◌, ◌≤◌};
 ghost use Rattle.cord_io.specs.Table.{Lengths, length_at};
 ghost use Rattle.cord_core.specs.Cord.{CordFitsIn};
 
+use super::byte_source::ByteSource;
 use super::cases::expect_case;
-use super::entry::Entry;
 use super::made::{Part, Parts, made};
 use super::trees::{cord_of, joined};
 use Part::{Func, Leaf, Run, Twice};
@@ -40,7 +40,7 @@ const TWO_LEAVES: Parts = &[Leaf(&[120; 100]), Leaf(&[121; 100])];
 const FOUR_LEAVES: Parts = &[Leaf(&[120; 100]), Leaf(&[121; 100]), Twice(1)];
 
 // The first byte of source 2.
-const ENTRY: Parts = &[Func(0, 1)];
+const SOURCE: Parts = &[Func(0, 1)];
 
 // From a place on.
 const WALKS: &[(&str, Parts, u64, &[Step])] = &[
@@ -103,13 +103,13 @@ const WALKS: &[(&str, Parts, u64, &[Step])] = &[
     ),
     (
         "position_keeps_no_bytes",
-        ENTRY,
+        SOURCE,
         0,
         &[Fetched(97, 1, Ok(97)), Fetched(98, 1, Ok(98))],
     ),
     (
         "a_fault_leaves_the_position",
-        ENTRY,
+        SOURCE,
         0,
         &[
             Fetched(97, 0, Err(CordError::ReadFailed)),
@@ -141,7 +141,7 @@ fn expect_fetched(
     ensures { position.new.cord ≡ position.old.cord }
 {
     let bytes = [byte; 600];
-    let mut source = Entry::new(&bytes, reads);
+    let mut source = ByteSource::new(&bytes, reads);
     assert!(rt; position.is_valid());
     let fetched = position.fetch(&mut source);
     expect_case(rt, fetched == answer, name, reads);

@@ -1,6 +1,6 @@
 // Cases of worked examples, and a read that fails.
+use super::byte_source::six_hundred;
 use super::cases::expect_case;
-use super::entry::six_hundred;
 use super::made::{Part, Parts, longer, made};
 use Part::{Func, Leaf, Run, Twice};
 use cord_io::{CordError, MAX_LEN, Source};
@@ -22,14 +22,14 @@ type Answer<T> = Result<T, CordError>;
 const FAILED: CordError = CordError::ReadFailed;
 
 // The first 600 bytes of source 2.
-const ENTRY: Parts = &[Func(0, 600)];
+const SOURCE: Parts = &[Func(0, 600)];
 
 // Where a pattern begins in a cord, from a place on.
 const STR: &[(&str, Parts, u64, &[u8], u64, Answer<Option<u64>>)] = &[
-    ("rows_of_str", ABABC, 0, b"abc", 0, Ok(Some(2))),
-    ("rows_of_str", ABABC, 3, b"abc", 0, Ok(None)),
-    ("rows_of_str", ABABC, 5, b"", 0, Ok(Some(5))),
-    ("rows_of_str", ABABC, 6, b"", 0, Ok(None)),
+    ("cases_of_str", ABABC, 0, b"abc", 0, Ok(Some(2))),
+    ("cases_of_str", ABABC, 3, b"abc", 0, Ok(None)),
+    ("cases_of_str", ABABC, 5, b"", 0, Ok(Some(5))),
+    ("cases_of_str", ABABC, 6, b"", 0, Ok(None)),
     (
         "str_over_a_seam",
         &[Run(b'a', 2), Leaf(b"ab")],
@@ -80,7 +80,7 @@ const STR: &[(&str, Parts, u64, &[u8], u64, Answer<Option<u64>>)] = &[
     ),
     (
         "a_read_fails_in_the_middle",
-        ENTRY,
+        SOURCE,
         0,
         b"xy",
         1,
@@ -102,13 +102,13 @@ const LONG_STR: &[(&str, Parts, Parts, Option<u64>)] = &[
         Some(65),
     ),
     (
-        "str_of_more_than_its_front",
+        "str_of_more_than_its_prefix",
         &[Run(b'a', 19_998), Leaf(b"b"), Run(b'a', 40_000), Leaf(b"b")],
         &[Run(b'a', 19_999), Leaf(b"b")],
         Some(40_000),
     ),
     (
-        "str_of_more_than_its_front",
+        "str_of_more_than_its_prefix",
         &[Run(b'a', 19_998), Leaf(b"b"), Twice(1)],
         &[Run(b'a', 19_999), Leaf(b"b")],
         None,
@@ -164,13 +164,13 @@ type Pair = (Parts, Parts, Parts);
 // Which of two cords is greater.
 const CMP: &[(&str, Pair, Reads, Answer<i8>)] = &[
     (
-        "rows_of_cmp",
+        "cases_of_cmp",
         (&[], &[Leaf(b"\x80")], &[Leaf(b"a")]),
         NONE,
         Ok(1),
     ),
     (
-        "rows_of_cmp",
+        "cases_of_cmp",
         (&[], &[Leaf(b"ab")], &[Leaf(b"abc")]),
         NONE,
         Ok(-1),
@@ -224,26 +224,26 @@ const CMP: &[(&str, Pair, Reads, Answer<i8>)] = &[
         Ok(0),
     ),
     (
-        "equal_ranges_of_an_entry_need_no_read",
+        "equal_ranges_of_a_source_need_no_read",
         (&[], &[Func(7, 500)], &[Func(7, 500)]),
         NONE,
         Ok(0),
     ),
     (
-        "equal_ranges_of_an_entry_need_no_read",
+        "equal_ranges_of_a_source_need_no_read",
         (&[], &[Func(7, 499)], &[Func(7, 500)]),
         NONE,
         Ok(-1),
     ),
     (
         "nothing_is_read_past_a_prefix",
-        (&[], ENTRY, &[Leaf(b"xxy")]),
+        (&[], SOURCE, &[Leaf(b"xxy")]),
         (u64::MAX, 3),
         Ok(-1),
     ),
     (
         "nothing_is_read_past_a_prefix",
-        (&[], &[Leaf(b"xxy")], ENTRY),
+        (&[], &[Leaf(b"xxy")], SOURCE),
         (u64::MAX, 3),
         Ok(1),
     ),
@@ -252,14 +252,14 @@ const CMP: &[(&str, Pair, Reads, Answer<i8>)] = &[
 // Which is greater of so many bytes of two cords, from a place of each on.
 const NCMP: &[(&str, Pair, (u64, u64, u64), Reads, Answer<i8>)] = &[
     (
-        "rows_of_ncmp",
+        "cases_of_ncmp",
         (&[], &[Leaf(b"abcx")], &[Leaf(b"zabcy")]),
         (0, 1, 3),
         NONE,
         Ok(0),
     ),
     (
-        "rows_of_ncmp",
+        "cases_of_ncmp",
         (&[], &[Leaf(b"abcx")], &[Leaf(b"zabcy")]),
         (0, 1, 4),
         NONE,
@@ -301,7 +301,7 @@ const NCMP: &[(&str, Pair, (u64, u64, u64), Reads, Answer<i8>)] = &[
         Ok(0),
     ),
     (
-        "equal_ranges_of_an_entry_need_no_read",
+        "equal_ranges_of_a_source_need_no_read",
         (&[], &[Func(7, 500)], &[Func(7, 499)]),
         (3, 3, MAX_LEN),
         NONE,
@@ -309,14 +309,14 @@ const NCMP: &[(&str, Pair, (u64, u64, u64), Reads, Answer<i8>)] = &[
     ),
     (
         "nothing_is_read_past_what_is_compared",
-        (ENTRY, &[], &[]),
+        (SOURCE, &[], &[]),
         (300, 0, 5),
         (u64::MAX, 305),
         Ok(0),
     ),
     (
         "nothing_is_read_past_what_is_compared",
-        (ENTRY, &[], &[]),
+        (SOURCE, &[], &[]),
         (300, 0, 5),
         (u64::MAX, 304),
         Err(FAILED),
@@ -328,8 +328,8 @@ type ByteCase = (&'static str, Parts, u64, u8, u64, Answer<Option<u64>>);
 
 // The first place of a byte, from a place on.
 const CHR: &[ByteCase] = &[
-    ("rows_of_chr", &[Leaf(b"hello")], 0, 108, 0, Ok(Some(2))),
-    ("rows_of_chr", &[Leaf(b"hello")], 0, 122, 0, Ok(None)),
+    ("cases_of_chr", &[Leaf(b"hello")], 0, 108, 0, Ok(Some(2))),
+    ("cases_of_chr", &[Leaf(b"hello")], 0, 122, 0, Ok(None)),
     (
         "a_run_of_the_longest_length_answers_at_once",
         LONGEST_RUN,
@@ -346,13 +346,13 @@ const CHR: &[ByteCase] = &[
         0,
         Ok(Some(7)),
     ),
-    ("a_read_for_a_byte_fails", ENTRY, 0, 121, 2, Ok(None)),
+    ("a_read_for_a_byte_fails", SOURCE, 0, 121, 2, Ok(None)),
 ];
 
 // The last place of a byte, from a place back.
 const RCHR: &[ByteCase] = &[
-    ("rows_of_chr", &[Leaf(b"hello")], 4, 108, 0, Ok(Some(3))),
-    ("rows_of_chr", &[Leaf(b"hello")], 4, 122, 0, Ok(None)),
+    ("cases_of_chr", &[Leaf(b"hello")], 4, 108, 0, Ok(Some(3))),
+    ("cases_of_chr", &[Leaf(b"hello")], 4, 122, 0, Ok(None)),
     (
         "a_run_of_the_longest_length_answers_at_once",
         LONGEST_RUN,
@@ -369,20 +369,20 @@ const RCHR: &[ByteCase] = &[
         0,
         Ok(Some(7)),
     ),
-    ("a_read_for_a_byte_fails", ENTRY, 599, 121, 1, Err(FAILED)),
+    ("a_read_for_a_byte_fails", SOURCE, 599, 121, 1, Err(FAILED)),
 ];
 
 // The byte at a place.
 const FETCH: &[(&str, Parts, u64, Answer<u8>)] = &[
-    ("rows_of_chr", &[Leaf(b"hello")], 4, Ok(111)),
-    ("a_read_at_a_place_fails", ENTRY, 599, Err(FAILED)),
+    ("cases_of_chr", &[Leaf(b"hello")], 4, Ok(111)),
+    ("a_read_at_a_place_fails", SOURCE, 599, Err(FAILED)),
 ];
 
 // The lengths of cords of the other cases.
 const LENGTHS: &[(&str, Parts, u64)] = &[
-    ("rows_of_chr", &[Leaf(b"hello")], 5),
-    ("a_read_for_a_byte_fails", ENTRY, 600),
-    ("a_read_at_a_place_fails", ENTRY, 600),
+    ("cases_of_chr", &[Leaf(b"hello")], 5),
+    ("a_read_for_a_byte_fails", SOURCE, 600),
+    ("a_read_at_a_place_fails", SOURCE, 600),
     (
         "what_both_share_is_passed_over",
         &[Leaf(&[b'a'; 64]), Twice(33), Leaf(b"x")],

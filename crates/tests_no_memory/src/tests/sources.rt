@@ -75,7 +75,7 @@ fn expect_two(rt: &impl Abort, sources: &mut Sources<MemFiles>) {
 // That a cord of "p" was refused when out of memory, when "p" was open or not.
 fn expect_refused(rt: &impl Abort, sources: &mut Sources<MemFiles>, error: FileError) {
     assert!(rt; error == FileError::NoMemory, "another error");
-    assert!(rt; is_one(sources) || is_two(sources), "another entry");
+    assert!(rt; is_one(sources) || is_two(sources), "another source");
 }
 
 // Makes a table over the two files, which come back where that is refused.
@@ -106,7 +106,7 @@ fn open_second(rt: &impl Abort, alloc: Global, sources: &mut Sources<MemFiles>) 
         Ok(opened) => opened,
         Err(error) => {
             assert!(rt; error == FileError::NoMemory);
-            assert!(rt; is_one(sources), "an entry has changed");
+            assert!(rt; is_one(sources), "a source has changed");
             sources.open(alloc, "p").expect(rt, "memory")
         }
     }

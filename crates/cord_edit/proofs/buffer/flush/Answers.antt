@@ -10,15 +10,15 @@ use Rattle.cord_edit.proofs.buffer.flush.Goals as goal
 pub returns-clause-counted : goal.returns-clause-counted
 returns-clause-counted c =
     let g : List ℕ = gap_bytes c.args.gap.now in
-    let reported : text c.put_bytes.new.cord ≡ take c.args.front (text c.args.cord.now) ++ map known g ++ drop c.args.back
+    let reported : text c.put_bytes.new.cord ≡ take c.args.cut_start (text c.args.cord.now) ++ map known g ++ drop c.args.cut_end
     (text c.args.cord.now) =
     c.in_ok-put_bytes.ensures.text
-    ∙ ap (λ (b : List ℕ). take c.args.front (text c.args.cord.now) ++ map known b ++ drop c.args.back (text c.args.cord.now)) c.bytes.ensures in
-    let len : text_len c.put_bytes.new.cord ≡ c.args.front + length g + (text_len c.args.cord.now - c.args.back) =
+    ∙ ap (λ (b : List ℕ). take c.args.cut_start (text c.args.cord.now) ++ map known b ++ drop c.args.cut_end (text c.args.cord.now)) c.bytes.ensures in
+    let len : text_len c.put_bytes.new.cord ≡ c.args.cut_start + length g + (text_len c.args.cord.now - c.args.cut_end) =
     c.in_ok-put_bytes.ensures.len
-    ∙ ap (λ (b : List ℕ). c.args.front + length b + (text_len c.args.cord.now - c.args.back)) c.bytes.ensures in
+    ∙ ap (λ (b : List ℕ). c.args.cut_start + length b + (text_len c.args.cord.now - c.args.cut_end)) c.bytes.ensures in
     ap length reported
-    ∙ length_around (text c.args.cord.now) g c.args.front c.args.back (text_len c.args.cord.now) c.requires.counted c.requires.order
+    ∙ length_around (text c.args.cord.now) g c.args.cut_start c.args.cut_end (text_len c.args.cord.now) c.requires.counted c.requires.order
     c.requires.inside ∙ sym len
 
 pub returns-clause-gathered : goal.returns-clause-gathered

@@ -2,7 +2,7 @@ use Rattle.std.proofs.Common.{◌≡◌, Bool, false, [], ◌∷◌, ◌++◌, S
 use Rattle.std.specs.Prelude.{option_map, slice_get}
 use Rattle.std.proofs.lemmas.Option.{slice_get_read}
 use Rattle.std.proofs.lemmas.List.{length-map, map-append}
-use Rattle.cord_plan.specs.inner.ExpressionFacts.{IsKnown}
+use Rattle.cord_plan.specs.inner.ExpressionFacts.{AreFactsOf}
 use Rattle.cord_plan.specs.inner.Liveness.{reports, IsReported}
 use Rattle.cord_plan.specs.inner.Numbering.{IsNumbered}
 use Rattle.cord_plan.specs.inner.Steps.{IsStep, IsReportedLonger, operation_expression}
@@ -28,7 +28,7 @@ loop-place-preserved c =
     let size : length new ≡ c.loop-place.operations.len = c.next_expression.auto.operations ∙ c.deref_mut.ensures.len in
     let next : IsStep s later b l (map operation_view old) (map operation_view new) (option_map expr_view e) =
     rw (← c.loop-place.invariant.later, ← c.deref_mut.ensures.value) c.in_ok-next.ensures.made in
-    let reported : IsKnown c.args.later.now.numbering (map operation_expression (map operation_view old) ++ option_map expr_view e ∷ [])
+    let reported : AreFactsOf c.args.later.now.numbering (map operation_expression (map operation_view old) ++ option_map expr_view e ∷ [])
     c.next_expression.new.known =
     rw (← c.loop-place.invariant.later, ← c.deref_mut.ensures.value) c.in_ok-next.ensures.known in
     let longer : IsReportedLonger s later b l (map operation_view old) c.in_ok-next.next.extends =

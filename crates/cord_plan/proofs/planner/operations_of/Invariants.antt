@@ -1,7 +1,7 @@
 use Rattle.std.proofs.Common.{◌≡◌, ◌≤◌, ◌+◌, ◌-◌, map, length}
 use Rattle.std.specs.Prelude.{vec_len, vec_capacity}
 use Rattle.cord_plan.specs.inner.Extensions.{AreExtending}
-use Rattle.cord_plan.specs.inner.ExpressionFacts.{IsKnown}
+use Rattle.cord_plan.specs.inner.ExpressionFacts.{AreFactsOf}
 use Rattle.cord_plan.specs.inner.Liveness.{reports}
 use Rattle.cord_plan.specs.inner.Recent.{IsRecent}
 use Rattle.cord_plan.specs.inner.Steps.{IsBegun, operation_expression}
@@ -18,5 +18,5 @@ invariant-loop-place l = record {
   extending : AreExtending l.extending.items (map operation_view l.operations.items);
   later : l.recent.later.now ≡ l.later;
   recent : IsRecent l.statements l.place l.recent;
-  known : IsKnown l.later.numbering (map operation_expression (map operation_view l.operations.items)) l.known;
+  known : AreFactsOf l.later.numbering (map operation_expression (map operation_view l.operations.items)) l.known;
 }

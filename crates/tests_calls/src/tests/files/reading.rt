@@ -221,7 +221,7 @@ fn fetched(
 {
     assert!(rt; position.is_valid());
     let Some(1) = sources.entry_len(SourceId(2)) else {
-        panic!(rt; "another entry");
+        panic!(rt; "another source");
     };
     position.fetch(sources)
 }

@@ -22,7 +22,7 @@ returns-then-bytes-len-clause-gathered c = λ k few. as_before (2 + k) c.args.se
 
 pub returns-then-fits_after-clause-text : goal.returns-then-fits_after-clause-text
 returns-then-fits_after-clause-text c = typed_after (text c.self.inside.cord) c.args.self.now.text (gap_bytes c.self.inside.gap)
-    c.self.inside.front c.self.inside.back (text_len c.self.inside.cord) c.len-len.result (ap (λ (g : Growth). g.text) c.self.view_is)
+    c.self.inside.cut_start c.self.inside.cut_end (text_len c.self.inside.cord) c.len-len.result (ap (λ (g : Growth). g.text) c.self.view_is)
     c.self.invariant.3 c.self.invariant.0 c.self.invariant.1 c.len-len.ensures.value c.args.bytes.now (gap_bytes c.append.new.self)
     c.min-at.result c.args.at c.append.ensures c.min-at.ensures (omega (arith, c.if-at-self.true, c.len.ensures.value))
 
@@ -43,7 +43,7 @@ returns-then-fits_after-clause-gathered c = λ k few.
 
 pub returns-then-fits_before-clause-text : goal.returns-then-fits_before-clause-text
 returns-then-fits_before-clause-text c = typed_before (text c.self.inside.cord) c.args.self.now.text (gap_bytes c.self.inside.gap)
-    c.self.inside.front c.self.inside.back (text_len c.self.inside.cord) c.len-len.result (ap (λ (g : Growth). g.text) c.self.view_is)
+    c.self.inside.cut_start c.self.inside.cut_end (text_len c.self.inside.cord) c.len-len.result (ap (λ (g : Growth). g.text) c.self.view_is)
     c.self.invariant.3 c.self.invariant.0 c.self.invariant.1 c.len-len.ensures.value c.args.bytes.now (gap_bytes c.prepend.new.self)
     c.min-at.result c.args.at c.prepend.ensures c.min-at.ensures (omega arith)
 

@@ -17,11 +17,11 @@ use Rattle.cord_edit.proofs.buffer.EditBuffer.remove.Goals as goal
 
 pub returns-then-end-until-clause-text : goal.returns-then-end-until-clause-text
 returns-then-end-until-clause-text c = removed_next (text c.self.inside.cord) c.args.self.now.text (gap_bytes c.self.inside.gap)
-    c.self.inside.front c.self.inside.back (text_len c.self.inside.cord) c.len-len.result (ap (λ (g : Growth). g.text) c.self.view_is)
+    c.self.inside.cut_start c.self.inside.cut_end (text_len c.self.inside.cord) c.len-len.result (ap (λ (g : Growth). g.text) c.self.view_is)
     c.self.invariant.3 c.self.invariant.0 c.self.invariant.1 c.len-len.ensures.value (gap_bytes c.truncate.new.self)
-    c.min-self-inside.result c.saturating_sub.result c.min-from.result c.min-until.result (c.self.inside.front + c.len.result) c.args.start
+    c.min-self-inside.result c.saturating_sub.result c.min-from.result c.min-until.result (c.self.inside.cut_start + c.len.result) c.args.start
     c.args.count c.saturating_add.result (2 ^ 64 - 1) c.min-self-inside.ensures c.saturating_sub.ensures c.truncate.ensures
-    (ap (λ (n : ℕ). c.self.inside.front + n) c.len.ensures.value) c.if-from-end.true c.if-end-until.true
+    (ap (λ (n : ℕ). c.self.inside.cut_start + n) c.len.ensures.value) c.if-from-end.true c.if-end-until.true
     (omega (arith, c.len-len.ensures.limit)) c.min-from.ensures c.saturating_add.ensures c.min-until.ensures
 
 pub returns-then-end-until-clause-over : goal.returns-then-end-until-clause-over

@@ -19,7 +19,7 @@ invariant_of-self g c =
     record {
       few = old.few;
       sound = sound_moved (g.F.Files.consistent old.files) (g.F.Files.consistent c.open.new.self) (g.F.Files.opened old.files)
-          (g.F.Files.opened c.open.new.self) old.entries.items old.cache.entries c.open.ensures.earlier
+          (g.F.Files.opened c.open.new.self) old.open_files.items old.cache.entries c.open.ensures.earlier
           (λ n h. c.in_err-no.ensures.none_opened n) old.sound;
     }
 
@@ -29,14 +29,14 @@ invariant_of-self-then-len-gt-MAX_LEN g c =
     record {
       few = old.few;
       sound = sound_moved (g.F.Files.consistent old.files) (g.F.Files.consistent c.open.new.self) (g.F.Files.opened old.files)
-          (g.F.Files.opened c.open.new.self) old.entries.items old.cache.entries c.open.ensures.earlier c.in_ok-no.ensures.opened.kept
+          (g.F.Files.opened c.open.new.self) old.open_files.items old.cache.entries c.open.ensures.earlier c.in_ok-no.ensures.opened.kept
           old.sound;
     }
 
 pub invariant_of-self-2 : goal.invariant_of-self-2
 invariant_of-self-2 g c =
     let old = c.args.self.now in
-    let files = old.entries.items in
+    let files = old.open_files.items in
     let file : OpenFile = record { path = c.in_ok-kept.kept; no = c.in_ok-no.no; len = c.in_ok-no.len } in
     let path : string_bytes file.path ≡ c.args.path.now = c.in_ok-kept.ensures.ok in
     let hands : HandsOut (g.F.Files.opened old.files) (g.F.Files.opened c.open.new.self) file.no.0 c.args.path.now file.len =
@@ -73,7 +73,7 @@ invariant_of-self-2 g c =
 pub returns-clause-opens : goal.returns-clause-opens
 returns-clause-opens g c =
     let old = c.args.self.now in
-    let files = old.entries.items in
+    let files = old.open_files.items in
     let file : OpenFile = record { path = c.in_ok-kept.kept; no = c.in_ok-no.no; len = c.in_ok-no.len } in
     let path : string_bytes file.path ≡ c.args.path.now = c.in_ok-kept.ensures.ok in
     let more : opened_of c.push.new.self.items ≡ opened_of files ++ (c.args.path.now, file.len) ∷ [] =
@@ -89,7 +89,7 @@ returns-clause-opens g c =
 pub returns-clause-file : goal.returns-clause-file
 returns-clause-file g c = λ file_system kept.
     let old = c.args.self.now in
-    let files = old.entries.items in
+    let files = old.open_files.items in
     let file : OpenFile = record { path = c.in_ok-kept.kept; no = c.in_ok-no.no; len = c.in_ok-no.len } in
     let path : string_bytes file.path ≡ c.args.path.now = c.in_ok-kept.ensures.ok in
     let more : opened_of c.push.new.self.items ≡ opened_of files ++ (c.args.path.now, file.len) ∷ [] =

@@ -13,12 +13,12 @@ pub invariant_of-result : goal.invariant_of-result
 invariant_of-result g c = record {
   few = search rules;
   sound = record {
-    handed_out = subst (Each _) (sym c.new-entries.ensures.items) (each_none _);
-    short_enough = subst (Each _) (sym c.new-entries.ensures.items) (each_none _);
-    there = subst (Each _) (sym c.new-entries.ensures.items) (each_none _);
-    as_long = subst (Each _) (sym c.new-entries.ensures.items) (each_none _);
-    cached = subst (λ b. AreCached (g.F.Files.consistent c.args.files) c.new-entries.result.items b.entries) (sym c.in-Ok.ensures)
-        (kept_none (g.F.Files.consistent c.args.files) c.new-entries.result.items);
+    handed_out = subst (Each _) (sym c.new-open_files.ensures.items) (each_none _);
+    short_enough = subst (Each _) (sym c.new-open_files.ensures.items) (each_none _);
+    there = subst (Each _) (sym c.new-open_files.ensures.items) (each_none _);
+    as_long = subst (Each _) (sym c.new-open_files.ensures.items) (each_none _);
+    cached = subst (λ b. AreCached (g.F.Files.consistent c.args.files) c.new-open_files.result.items b.entries) (sym c.in-Ok.ensures)
+        (kept_none (g.F.Files.consistent c.args.files) c.new-open_files.result.items);
   };
 }
 

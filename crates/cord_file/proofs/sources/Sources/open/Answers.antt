@@ -27,7 +27,7 @@ returns-in-None-clause-grows g c = grown _ _ c.args.path.now c.add.result (λ r.
 pub returns-in-Some-clause-opens : goal.returns-in-Some-clause-opens
 returns-in-Some-clause-opens g c =
     let self = c.args.self.now in
-    let files = self.entries.items in
+    let files = self.open_files.items in
     let n = c.in-Some.place in
     let e : OpenFile = c.index.result.now in
     let path = c.args.path.now in
@@ -44,7 +44,7 @@ returns-in-Some-clause-opens g c =
 pub returns-in-Some-clause-file : goal.returns-in-Some-clause-file
 returns-in-Some-clause-file g c = λ file_system kept.
     let self = c.args.self.now in
-    let files = self.entries.items in
+    let files = self.open_files.items in
     let n = c.in-Some.place in
     let e : OpenFile = c.index.result.now in
     let path = c.args.path.now in

@@ -13,12 +13,12 @@ loop-done-preserved g c =
     let part : List ℕ = c.read_one.new.out in
     let size : ℕ = c.size_of-size.result in
     let count : size ≡ length part = search rules in
-    let at : Option OpenFile = slice_get old.entries.items c.args.place in
-    let here : slice_get loop.self.entries.items c.args.place ≡ at = ap (λ xs. slice_get xs c.args.place) loop.invariant.entries in
+    let at : Option OpenFile = slice_get old.open_files.items c.args.place in
+    let here : slice_get loop.self.open_files.items c.args.place ≡ at = ap (λ xs. slice_get xs c.args.place) loop.invariant.open_files in
     record {
       done = search rules;
       earlier = λ file_system kept. loop.invariant.earlier file_system (c.in_ok-read_one.ensures.files.earlier file_system kept);
-      entries = c.read_one.ensures.files.entries ∙ loop.invariant.entries;
+      open_files = c.read_one.ensures.files.open_files ∙ loop.invariant.open_files;
       opened = λ n. c.read_one.ensures.files.opened n ∙ loop.invariant.opened n;
       count = search rules;
       bytes = λ file_system kept.

@@ -10,11 +10,11 @@ invariant-loop-done g l = record {
   done : l.done ≤ length l.out;
   earlier : (file_system : FileSystem) → g.F.Files.consistent l.self.files file_system → g.F.Files.consistent l.initial.self.files
       file_system;
-  entries : l.self.entries.items ≡ l.initial.self.entries.items;
+  open_files : l.self.open_files.items ≡ l.initial.self.open_files.items;
   opened : (n : ℕ) → g.F.Files.opened l.self.files n ≡ g.F.Files.opened l.initial.self.files n;
   count : g.F.Files.failures l.self.files ≡ g.F.Files.failures l.initial.self.files;
   bytes : (file_system : FileSystem) → g.F.Files.consistent l.self.files file_system →
-      IsSomeAnd (slice_get l.initial.self.entries.items l.place)
+      IsSomeAnd (slice_get l.initial.self.open_files.items l.place)
       (λ file. take l.done l.out ≡ take l.done (drop l.start (bytes_at file_system (string_bytes file.path))));
 }
 

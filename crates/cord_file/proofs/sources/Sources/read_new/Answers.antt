@@ -10,19 +10,19 @@ use Rattle.cord_file.proofs.sources.Sources.read_new.Goals as goal
 
 pub read_block-requires : goal.read_block-requires
 read_block-requires g c = record {
-  inside = begins_inside (slice_get c.args.self.now.entries.items c.args.place) c.args.start (length c.args.out.now) c.requires.some
+  inside = begins_inside (slice_get c.args.self.now.open_files.items c.args.place) c.args.start (length c.args.out.now) c.requires.some
       c.requires.inside;
 }
 
 pub invariant_of-self-2-clause-sound : goal.invariant_of-self-2-clause-sound
 invariant_of-self-2-clause-sound g c =
     let self = c.read_block.new.self in
-    let files = self.entries.items in
+    let files = self.open_files.items in
     let consistent = g.F.Files.consistent self.files in
-    let before = c.args.self.now.entries.items in
+    let before = c.args.self.now.open_files.items in
     let inside : c.args.place < length before =
     inside_opened before c.args.place (λ f. c.args.start + length c.args.out.now ≤ f.len) c.requires.inside in
-    let same : files ≡ before = c.read_block.ensures.files.entries in
+    let same : files ≡ before = c.read_block.ensures.files.open_files in
     let key : BlockKey = record { place = c.args.place; number = c.args.start / BLOCK } in
     let block : HeapBlock = with_value c.in-Some.block c.read_block.new.block in
     let kept : IsCached consistent files (key, block) =
@@ -35,7 +35,7 @@ invariant_of-self-2-clause-sound g c =
 
 pub returns-clause-bytes : goal.returns-clause-bytes
 returns-clause-bytes g c = λ file_system is.
-    let files = c.args.self.now.entries.items in
+    let files = c.args.self.now.open_files.items in
     let block : HeapBlock = with_value c.in-Some.block c.read_block.new.block in
     let out : List ℕ = c.copy_from_slice.new.self in
     let same : length out ≡ length c.args.out.now = search rules in

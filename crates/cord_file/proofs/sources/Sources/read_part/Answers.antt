@@ -8,13 +8,13 @@ use Rattle.cord_file.proofs.sources.Sources.read_part.Goals as goal
 pub invariant_of-self-clause-sound : goal.invariant_of-self-clause-sound
 invariant_of-self-clause-sound g c =
     let self = c.args.self.now in
-    sound_keeping (g.F.Files.consistent self.files) (g.F.Files.opened self.files) self.entries.items self.cache.entries
+    sound_keeping (g.F.Files.consistent self.files) (g.F.Files.opened self.files) self.open_files.items self.cache.entries
     c.copy_kept.new.cache.entries (λ e h. self.sound.cached e (c.copy_kept.ensures.kept e h)) self.sound
 
 pub returns-then-copy_kept-clause-bytes : goal.returns-then-copy_kept-clause-bytes
 returns-then-copy_kept-clause-bytes g c = λ file_system kept.
     let self = c.args.self.now in
-    let files = self.entries.items in
+    let files = self.open_files.items in
     let out : List ℕ = c.copy_kept.new.out in
     let same : length out ≡ length c.args.out.now = c.copy_kept.auto.out in
     let key : BlockKey = record { place = c.args.place; number = c.args.start / BLOCK } in

@@ -3,14 +3,14 @@ use Rattle.std.specs.Prelude.{slice_get}
 use Rattle.std.proofs.lemmas.Option.{slice_get_read}
 use Rattle.cord_io.specs.declared.TheConstants.{MAX_LEN}
 use Rattle.cord_file.specs.declared.files.OpenFile.{OpenFile}
-use Rattle.cord_file.proofs.EntryBytes.{of_reported}
+use Rattle.cord_file.proofs.SourceBytes.{of_reported}
 use Rattle.cord_file.proofs.BlockParts.{inside_opened, of_slot, sound_moved}
 use Rattle.cord_file.proofs.Ranges.{read_of_reported}
 use Rattle.cord_file.proofs.sources.Sources.read_past_blocks.Goals as goal
 
 pub index-file-requires : goal.index-file-requires
 index-file-requires g c =
-    let files = c.args.self.now.entries.items in
+    let files = c.args.self.now.open_files.items in
     let inside : c.args.place < length files =
     inside_opened files c.args.place (λ f. c.args.start + length c.args.out.now ≤ f.len) c.requires.inside in
     search rules
@@ -18,7 +18,7 @@ index-file-requires g c =
 pub read_range-requires-clause-inside : goal.read_range-requires-clause-inside
 read_range-requires-clause-inside g c =
     let self = c.args.self.now in
-    let files = self.entries.items in
+    let files = self.open_files.items in
     let file : OpenFile = c.index-file.result.now in
     let inside : c.args.place < length files =
     inside_opened files c.args.place (λ f. c.args.start + length c.args.out.now ≤ f.len) c.requires.inside in
@@ -30,7 +30,7 @@ read_range-requires-clause-inside g c =
 pub read_range-requires-clause-limit : goal.read_range-requires-clause-limit
 read_range-requires-clause-limit g c =
     let self = c.args.self.now in
-    let files = self.entries.items in
+    let files = self.open_files.items in
     let file : OpenFile = c.index-file.result.now in
     let inside : c.args.place < length files =
     inside_opened files c.args.place (λ f. c.args.start + length c.args.out.now ≤ f.len) c.requires.inside in
@@ -45,13 +45,13 @@ pub invariant_of-self-clause-sound : goal.invariant_of-self-clause-sound
 invariant_of-self-clause-sound g c =
     let self = c.args.self.now in
     sound_moved (g.F.Files.consistent self.files) (g.F.Files.consistent c.read_range.new.files) (g.F.Files.opened self.files)
-    (g.F.Files.opened c.read_range.new.files) self.entries.items self.cache.entries c.read_range.ensures.earlier
+    (g.F.Files.opened c.read_range.new.files) self.open_files.items self.cache.entries c.read_range.ensures.earlier
     (λ n h. c.read_range.ensures.opened n) self.sound
 
 pub returns-clause-bytes : goal.returns-clause-bytes
 returns-clause-bytes g c = λ file_system kept.
     let self = c.args.self.now in
-    let files = self.entries.items in
+    let files = self.open_files.items in
     let file : OpenFile = c.index-file.result.now in
     let inside : c.args.place < length files =
     inside_opened files c.args.place (λ f. c.args.start + length c.args.out.now ≤ f.len) c.requires.inside in

@@ -6,13 +6,13 @@ use Rattle.cord_file.proofs.sources.Sources.read_unkept.Goals as goal
 
 pub read_block-requires : goal.read_block-requires
 read_block-requires g c = record {
-  inside = begins_inside (slice_get c.args.self.now.entries.items c.args.place) c.args.start (length c.args.out.now) c.requires.some
+  inside = begins_inside (slice_get c.args.self.now.open_files.items c.args.place) c.args.start (length c.args.out.now) c.requires.some
       c.requires.inside;
 }
 
 pub returns-clause-bytes : goal.returns-clause-bytes
 returns-clause-bytes g c = λ file_system is.
-    let files = c.args.self.now.entries.items in
+    let files = c.args.self.now.open_files.items in
     let block : List ℕ = c.read_block.new.block in
     let out : List ℕ = c.copy_from_slice.new.self in
     let same : length out ≡ length c.args.out.now = search rules in

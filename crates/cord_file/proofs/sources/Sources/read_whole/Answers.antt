@@ -12,13 +12,13 @@ use Rattle.cord_file.specs.FileCords.{IsReadRefusal}
 use Rattle.cord_file.specs.declared.faults.FileError.{FileError}
 use Rattle.cord_file.specs.FileTable.{lengths_in, table_in}
 use Rattle.cord_file.specs.Files.{opened_of, as_long_as_reported}
-use Rattle.cord_file.proofs.EntryBytes.{in_slot, entry_limit}
-use Rattle.cord_file.proofs.CordTexts.{entry_bytes}
+use Rattle.cord_file.proofs.SourceBytes.{in_slot, source_limit}
+use Rattle.cord_file.proofs.CordTexts.{source_bytes}
 use Rattle.cord_file.proofs.sources.Sources.read_whole.Goals as goal
 
 pub read_file_whole-requires : goal.read_file_whole-requires
 read_file_whole-requires g c =
-    let files = c.args.self.now.entries.items in
+    let files = c.args.self.now.open_files.items in
     let reported : IsSomeAnd (lengths_in (opened_of files) c.args.id.0) (λ n. n ≡ c.args.len) =
     subst (λ o. IsSomeAnd o (λ n. n ≡ c.args.len)) (sym c.requires.len) refl in
     record { file = in_slot (λ n. n ≡ c.args.len) files c.args.id.0 c.requires.file reported }
@@ -36,12 +36,12 @@ returns-clause-cord g c =
 pub returns-clause-text : goal.returns-clause-text
 returns-clause-text g c = λ file_system kept.
     let self = c.args.self.now in
-    let files = self.entries.items in
+    let files = self.open_files.items in
     let items : rc_slice_items c.in_ok-shared.shared ≡ c.in_ok-bytes.bytes.items = c.in_ok-shared.ensures in
     let reported = as_long_as_reported (g.F.Files.consistent self.files) files self.sound.as_long file_system
     (c.in_ok-bytes.ensures.files.earlier file_system kept) in
     c.in_ok-cord.ensures.over.bytes (table_in (opened_of files) file_system) ∙ items
-    ∙ entry_bytes file_system files c.args.id.0 c.args.len c.in_ok-bytes.bytes.items c.requires.file reported c.requires.len
+    ∙ source_bytes file_system files c.args.id.0 c.args.len c.in_ok-bytes.bytes.items c.requires.file reported c.requires.len
     c.in_ok-bytes.ensures.len (c.in_ok-bytes.ensures.bytes file_system kept)
 
 -- bytes that aren't too long for a cord are refused only when out of memory
@@ -59,7 +59,7 @@ pub returns-in_err-cord-clause-refused : goal.returns-in_err-cord-clause-refused
 returns-in_err-cord-clause-refused g c =
     let self = c.args.self.now in
     let items : rc_slice_items c.in_ok-shared.shared ≡ c.in_ok-bytes.bytes.items = c.in_ok-shared.ensures in
-    let limit : c.args.len ≤ MAX_LEN = entry_limit self.entries.items self.sound.short_enough c.args.id.0 c.args.len c.requires.len in
+    let limit : c.args.len ≤ MAX_LEN = source_limit self.open_files.items self.sound.short_enough c.args.id.0 c.args.len c.requires.len in
     let same : length (rc_slice_items c.in_ok-shared.shared) ≡ c.args.len = ap length items ∙ c.in_ok-bytes.ensures.len in
     refusal c.from_residual-in_err-cord.result c.in_err-cord.field-0.0 c.from_residual-in_err-cord.ensures.1 c.in_err-cord.ensures.refused
     (λ e. let over : MAX_LEN < length (rc_slice_items c.in_ok-shared.shared) = c.in_err-cord.ensures.too_long (ap (λ x. Err x) e) in

@@ -2,12 +2,12 @@ use Rattle.std.proofs.Common.{◌≡◌, ◌-◌, ◌≤◌, List, Some, None, r
 use Rattle.std.specs.Prelude.{slice_get}
 use Rattle.std.proofs.lemmas.Option.{slice_get_read, slice_get_past}
 use Rattle.cord_file.specs.declared.files.OpenFile.{OpenFile}
-use Rattle.cord_file.proofs.EntryBytes.{length_of_file}
+use Rattle.cord_file.proofs.SourceBytes.{length_of_file}
 use Rattle.cord_file.proofs.sources.SourcesSource.entry_len.Goals as goal
 
 pub returns-in-Some : goal.returns-in-Some
 returns-in-Some g c =
-    let files : List OpenFile = c.args.self.now.entries.items in
+    let files : List OpenFile = c.args.self.now.open_files.items in
     let past : 2 ≤ c.args.id.0 = search rules in
     let value : c.deref.result.now ≡ files = c.deref.ensures.value in
     let file : OpenFile = c.in-Some.file.now in
@@ -18,7 +18,7 @@ returns-in-Some g c =
 
 pub returns-in-None : goal.returns-in-None
 returns-in-None g c =
-    let files : List OpenFile = c.args.self.now.entries.items in
+    let files : List OpenFile = c.args.self.now.open_files.items in
     let past : 2 ≤ c.args.id.0 = search rules in
     let value : c.deref.result.now ≡ files = c.deref.ensures.value in
     let beyond : length c.deref.result.now ≤ c.args.id.0 - 2 = search rules in

@@ -3,7 +3,7 @@ use Rattle.std.proofs.Math.Seq.{drop-length}
 use Rattle.std.proofs.lemmas.Option.{slice_get_within}
 use Rattle.cord_syntax.specs.declared.statements.Statement.{Statement}
 use Rattle.cord_plan.specs.Operands.{read_by, target_of}
-use Rattle.cord_plan.specs.inner.StraightLine.{AreAhead, IsLineLater, later_in}
+use Rattle.cord_plan.specs.inner.StraightLine.{AreNextReads, IsLineLater, later_in}
 use Rattle.cord_plan.specs.inner.Numbering.{IsNumbered}
 use Rattle.cord_plan.specs.declared.flow.straight_line.LineLater.{LineLater}
 use Rattle.cord_plan.proofs.StraightLine.{from_place, line_is, reported_more}
@@ -15,7 +15,7 @@ loop-place-init c =
     let s = c.args.statements.now in
     record {
       size = omega (arith, c.in_ok-lines.ensures.len);
-      ahead = rw (drop-length s) c.in_ok-ahead.ensures;
+      next_reads = rw (drop-length s) c.in_ok-next_reads.ensures;
       reported = λ k l le e. (let lt : k < length s = slice_get_within s k l e in absurd (omega (arith, le, lt)));
     }
 
@@ -35,7 +35,7 @@ loop-place-preserved c =
     let before = c.loop-place.invariant in
     let lines = c.loop-place.lines.items in
     let numbers = c.line-numbers.result in
-    let places = c.loop-place.ahead.read.items in
+    let places = c.loop-place.next_reads.read.items in
     let next : q ≡ p + 1 = omega (arith, c.loop-place-test.true) in
     let lt : p < length s = omega (arith, c.loop-place-test.true, c.loop-place.auto.place) in
     let there = line_there t s c.requires p lt in
@@ -43,11 +43,11 @@ loop-place-preserved c =
     let numbered : IsNumbered t l numbers = c.line-numbers.ensures l there.2 in
     let line : LineLater = record { target = c.has.result; operands = c.operand_bits.result } in
     let reported : IsLineLater l (λ x. later_in (drop q s) x) line =
-    line_is t places (drop q s) l line numbers.target before.ahead c.has.ensures (number_reported t (target_of l) numbers.target numbered.target)
+    line_is t places (drop q s) l line numbers.target before.next_reads c.has.ensures (number_reported t (target_of l) numbers.target numbered.target)
     (c.operand_bits.ensures t (read_by l) numbered.read) in
     record {
       size = length-set lines p line ∙ before.size;
-      ahead = subst (λ (ls : List Statement). AreAhead ls t c.go_back.new.self.read.items) (from_place s p q l next there.1)
-          (c.go_back.ensures t l (drop q s) numbered before.ahead);
+      next_reads = subst (λ (ls : List Statement). AreNextReads ls t c.go_back.new.self.read.items) (from_place s p q l next there.1)
+          (c.go_back.ensures t l (drop q s) numbered before.next_reads);
       reported = reported_more s p q lines line l next (let size = before.size in omega (arith, lt, size)) there.1 reported before.reported;
     }

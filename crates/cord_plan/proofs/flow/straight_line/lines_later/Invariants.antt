@@ -1,11 +1,11 @@
 use Rattle.std.proofs.Common.{◌≡◌, drop, length}
-use Rattle.cord_plan.specs.inner.StraightLine.{AreAhead, AreReportedFrom}
+use Rattle.cord_plan.specs.inner.StraightLine.{AreNextReads, AreReportedFrom}
 use Rattle.cord_plan.proofs.flow.straight_line.lines_later.Given as goal
 
 -- the lines from a place on are reported
 abbrev pub invariant-loop-place : goal.invariant-loop-place
 invariant-loop-place l = record {
   size : length l.lines.items ≡ length l.statements;
-  ahead : AreAhead (drop l.place l.statements) l.numbering l.ahead.read.items;
+  next_reads : AreNextReads (drop l.place l.statements) l.numbering l.next_reads.read.items;
   reported : AreReportedFrom l.statements l.place l.lines.items;
 }

@@ -6,13 +6,13 @@ use Rattle.cord_plan.specs.Exprs.{Expr}
 use Rattle.cord_plan.specs.declared.operations.Operation.{Operation}
 use Rattle.cord_plan.specs.inner.Choices.{choice_view, simple_operands}
 use Rattle.cord_syntax.specs.Readings.{operand_names}
-use Rattle.cord_plan.specs.inner.ExpressionFacts.{IsFrom, IsKnown}
+use Rattle.cord_plan.specs.inner.ExpressionFacts.{IsFrom, AreFactsOf}
 use Rattle.cord_plan.specs.inner.Liveness.{reports}
 use Rattle.cord_plan.specs.inner.Steps.{operation_expression}
 use Rattle.cord_plan.specs.Views.{expr_view, operation_view}
 use Rattle.cord_plan.specs.declared.planner.expressions.LineExpression.{LineExpression}
 use Rattle.cord_io.specs.declared.CordError.{CordError}
-use Rattle.cord_plan.proofs.Known.{choice_from, known_more}
+use Rattle.cord_plan.proofs.ExpressionFacts.{choice_from, known_more}
 use Rattle.cord_plan.proofs.planner.expressions.expression_over.Goals as goal
 
 table_size : (os : List Operation) (n : ℕ) → length os ≡ n → length (map operation_expression (map operation_view os)) ≡ n
@@ -28,7 +28,7 @@ pub returns-in-Nothing-clause-known : goal.returns-in-Nothing-clause-known
 returns-in-Nothing-clause-known c =
     let table = map operation_expression (map operation_view c.args.operations.now) in
     let t = c.args.line.now.recent.now.later.now.numbering in
-    made_with c.taking.result _ (λ o. IsKnown t (table ++ o ∷ []) c.args.known.now) (known_more t table _ c.args.known.now c.requires.known)
+    made_with c.taking.result _ (λ o. AreFactsOf t (table ++ o ∷ []) c.args.known.now) (known_more t table _ c.args.known.now c.requires.known)
     c.taking.ensures.made
 
 pub returns-in-One-clause-known : goal.returns-in-One-clause-known
@@ -42,7 +42,7 @@ returns-in-One-clause-known c =
     let from : IsFrom table x (choice_view c.choose-choice.result) = choice_from line.statements.now (reports line.recent.now.later.now)
     table
     line.place line.statement.now x (operand_names line.operands) [] (choice_view c.choose-choice.result) c.choose-choice.ensures in
-    made_with c.taking-in-One.result _ (λ o. IsKnown t (table ++ o ∷ []) c.note_one.new.self)
+    made_with c.taking-in-One.result _ (λ o. AreFactsOf t (table ++ o ∷ []) c.note_one.new.self)
     (c.note_one.ensures t table x c.requires.known (table_size c.args.operations.now line.place c.requires.long)
     simple c.requires.numbers from) c.taking-in-One.ensures.made
 
@@ -61,7 +61,7 @@ returns-in-Two-clause-known c =
     let right : IsFrom table y (choice_view c.choose-second.result) =
     choice_from line.statements.now (reports line.recent.now.later.now) table line.place line.statement.now y (operand_names line.operands)
     (choice_view c.choose-first.result ∷ []) (choice_view c.choose-second.result) c.choose-second.ensures in
-    made_with c.taking-in-Two.result _ (λ o. IsKnown t (table ++ o ∷ []) c.note_two.new.self)
+    made_with c.taking-in-Two.result _ (λ o. AreFactsOf t (table ++ o ∷ []) c.note_two.new.self)
     (c.note_two.ensures t table x y c.requires.known (table_size c.args.operations.now line.place c.requires.long) simple
     c.requires.numbers left right) c.taking-in-Two.ensures.made
 
@@ -69,5 +69,5 @@ pub returns-in_ok-sources_of-in-Listed-clause-known : goal.returns-in_ok-sources
 returns-in_ok-sources_of-in-Listed-clause-known c =
     let table = map operation_expression (map operation_view c.args.operations.now) in
     let t = c.args.line.now.recent.now.later.now.numbering in
-    made_with c.taking-in-Listed.result _ (λ o. IsKnown t (table ++ o ∷ []) c.args.known.now)
+    made_with c.taking-in-Listed.result _ (λ o. AreFactsOf t (table ++ o ∷ []) c.args.known.now)
     (known_more t table _ c.args.known.now c.requires.known) c.taking-in-Listed.ensures.made

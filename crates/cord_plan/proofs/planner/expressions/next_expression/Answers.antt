@@ -5,7 +5,7 @@ use Rattle.cord_plan.specs.Views.{operation_view}
 use Rattle.cord_plan.specs.inner.Steps.{operation_expression}
 use Rattle.cord_plan.proofs.Extending.{never_reported}
 use Rattle.cord_plan.proofs.Marked.{next_without}
-use Rattle.cord_plan.proofs.Known.{known_more}
+use Rattle.cord_plan.proofs.ExpressionFacts.{known_more}
 use Rattle.cord_plan.proofs.planner.expressions.next_expression.Goals as goal
 
 pub returns-in_default-clause-made : goal.returns-in_default-clause-made

@@ -1,5 +1,5 @@
 use Rattle.std.proofs.Common.{◌≡◌, ◌+◌, ◌*◌, ◌-◌, ◌<◌, not, ap, ◌∙◌, arith}
-use Rattle.cord_plan.proofs.Known.{reported_lacks}
+use Rattle.cord_plan.proofs.ExpressionFacts.{reported_lacks}
 use Rattle.cord_plan.proofs.planner.expression_facts.Facts.lacks.Goals as goal
 
 pub returns-then-number-lt-GROUP : goal.returns-then-number-lt-GROUP

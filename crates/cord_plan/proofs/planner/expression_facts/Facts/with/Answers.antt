@@ -1,5 +1,5 @@
 use Rattle.std.proofs.Common.{arith}
-use Rattle.cord_plan.proofs.Known.{marks_both, parts_two}
+use Rattle.cord_plan.proofs.ExpressionFacts.{marks_both, parts_two}
 use Rattle.cord_plan.proofs.planner.expression_facts.Facts.with.Goals as goal
 
 pub returns-in-Some : goal.returns-in-Some

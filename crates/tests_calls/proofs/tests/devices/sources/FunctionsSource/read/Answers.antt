@@ -1,7 +1,7 @@
 use Rattle.std.proofs.Common.{◌≡◌, ◌+◌, ◌≤◌, ℕ, sym, subst, length}
 use Rattle.std.specs.Prelude.{IsSomeAnd}
 use Rattle.cord_io.specs.inner.Functions.{function_lengths}
-use Rattle.cord_io.proofs.Entries.{function_inside, function_read}
+use Rattle.cord_io.proofs.FunctionRanges.{function_inside, function_read}
 use Rattle.tests_calls.proofs.tests.devices.sources.FunctionsSource.read.Goals as goal
 
 pub fill-requires : goal.fill-requires

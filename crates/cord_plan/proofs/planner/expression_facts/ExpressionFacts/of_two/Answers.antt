@@ -1,6 +1,6 @@
 use Rattle.cord_plan.specs.Inlined.{expr_of}
 use Rattle.cord_plan.specs.inner.Choices.{choice_view}
-use Rattle.cord_plan.proofs.planner.expression_facts.Known.of_two.Goals as goal
+use Rattle.cord_plan.proofs.planner.expression_facts.ExpressionFacts.of_two.Goals as goal
 
 pub returns-in-Some-Some : goal.returns-in-Some-Some
 returns-in-Some-Some c = λ t table x y known first left second right.

@@ -6,14 +6,14 @@ use cord_io::{ReadFault, Source, SourceId};
 // A table whose source 2 is these bytes: it reads so often, and then every read fails, as does one that goes past
 // `cut`.
 #[derive(Drop)]
-pub(super) struct Entry<'a> {
+pub(super) struct ByteSource<'a> {
     pub(super) bytes: &'a [u8],
     pub(super) cut: u64,
     pub(super) reads: u64,
     pub(super) failures: u64,
 }
 
-impl<'a> Source for Entry<'a> {
+impl<'a> Source for ByteSource<'a> {
     ghost use Rattle.std.specs.Prelude.{Some, None, ⊤, [], length, if◌then◌else◌, nat_eq};
     ghost use Rattle.std.proofs.Common.{arith};
     ghost use Rattle.std.proofs.lemmas.Bool.Decides.{nat_tests};
@@ -52,12 +52,12 @@ impl<'a> Source for Entry<'a> {
     }
 }
 
-impl<'a> Entry<'a> {
+impl<'a> ByteSource<'a> {
     // A source of these bytes, which can be read so often.
-    pub(super) fn new(bytes: &'a [u8], reads: u64) -> Entry<'a>
+    pub(super) fn new(bytes: &'a [u8], reads: u64) -> ByteSource<'a>
         ensures { result.bytes.now ≡ bytes.now }
     {
-        Entry {
+        ByteSource {
             bytes,
             cut: u64::MAX,
             reads,
@@ -67,12 +67,12 @@ impl<'a> Entry<'a> {
 }
 
 // Six hundred bytes, which can be read so often, and those before a place alone.
-pub(super) fn six_hundred(case: (u64, u64)) -> Entry<'static>
+pub(super) fn six_hundred(case: (u64, u64)) -> ByteSource<'static>
     ensures { 600 ≤ length result.bytes.now }
 {
     let (reads, cut) = case;
-    Entry {
+    ByteSource {
         cut,
-        ..Entry::new(&[120; 600], reads)
+        ..ByteSource::new(&[120; 600], reads)
     }
 }

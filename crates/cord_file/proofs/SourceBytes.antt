@@ -8,7 +8,7 @@ use Rattle.std.proofs.lemmas.Option.{slice_get-map}
 use Rattle.cord_io.specs.declared.TheConstants.{MAX_LEN}
 use Rattle.cord_io.specs.Device.{FileSystem, bytes_at}
 use Rattle.cord_io.specs.inner.Functions.{function_byte}
-use Rattle.cord_io.proofs.Entries.{function_read}
+use Rattle.cord_io.proofs.FunctionRanges.{function_read}
 use Rattle.cord_file.specs.inner.Blocks.{AreRead}
 use Rattle.cord_file.specs.FileTable.{Opened, lengths_in, table_in}
 use Rattle.cord_file.specs.Files.{AreShortEnough, reported_of, opened_of}
@@ -47,10 +47,10 @@ pub of_reported : (P : ℕ → Type 0) (reported : Option (List ℕ × ℕ)) (fi
 of_reported P reported file e p = subst (λ o. IsSomeAnd o (λ t. P t.1)) (sym e) p
 
 -- no source is longer than a cord can be
-pub entry_limit : (files : List OpenFile) → AreShortEnough files → (id len : ℕ) → lengths_in (opened_of files) id ≡ Some len → len ≤ MAX_LEN
-entry_limit files short zero len e = let same : MAX_LEN ≡ len = cc in omega (arith, same)
-entry_limit files short (suc zero) len e = let same : MAX_LEN ≡ len = cc in omega (arith, same)
-entry_limit files short (suc (suc n)) len e = at files n short e where
+pub source_limit : (files : List OpenFile) → AreShortEnough files → (id len : ℕ) → lengths_in (opened_of files) id ≡ Some len → len ≤ MAX_LEN
+source_limit files short zero len e = let same : MAX_LEN ≡ len = cc in omega (arith, same)
+source_limit files short (suc zero) len e = let same : MAX_LEN ≡ len = cc in omega (arith, same)
+source_limit files short (suc (suc n)) len e = at files n short e where
   at : (files : List OpenFile) (n : ℕ) → AreShortEnough files → option_map (λ file. file.1) (slice_get (opened_of files) n) ≡ Some len →
       len ≤ MAX_LEN
   at [] n short e = cc
@@ -78,22 +78,22 @@ text_of_file file_system files (suc (suc n)) file h e =
     (slice_get-map reported_of files n ∙ ap (option_map reported_of) here)
 
 -- the bytes of a file are those of its source
-pub entry_read : (file_system : FileSystem) (files : List OpenFile) (id start : ℕ) (out : List ℕ) → 2 ≤ id →
+pub source_read : (file_system : FileSystem) (files : List OpenFile) (id start : ℕ) (out : List ℕ) → 2 ≤ id →
     AreRead file_system (slice_get files (id - 2)) start out → out ≡ take (length out)
     (drop start (table_in (opened_of files) file_system id))
-entry_read file_system files id start out h read = at (slice_get files (id - 2)) refl read where
+source_read file_system files id start out h read = at (slice_get files (id - 2)) refl read where
   at : (o : Option OpenFile) → slice_get files (id - 2) ≡ o → AreRead file_system o start out →
       out ≡ take (length out) (drop start (table_in (opened_of files) file_system id))
   at None e read = absurd read
   at (Some file) e read = read ∙ ap (λ b. take (length out) (drop start b)) (sym (text_of_file file_system files id file h e))
 
 -- the same where a read may have failed
-pub entry_read_ok : {A E : Type 0} (r : Result A E) (file_system : FileSystem) (files : List OpenFile) (id start : ℕ) (out : List ℕ) → 2 ≤
+pub source_read_ok : {A E : Type 0} (r : Result A E) (file_system : FileSystem) (files : List OpenFile) (id start : ℕ) (out : List ℕ) → 2 ≤
     id →
     OnOk r (AreRead file_system (slice_get files (id - 2)) start out) →
     OnOk r (out ≡ take (length out) (drop start (table_in (opened_of files) file_system id)))
-entry_read_ok (Err e) file_system files id start out h read = tt
-entry_read_ok (Ok x) file_system files id start out h read = entry_read file_system files id start out h read
+source_read_ok (Err e) file_system files id start out h read = tt
+source_read_ok (Ok x) file_system files id start out h read = source_read file_system files id start out h read
 
 -- the range of a function lies below the greatest length
 pub function_limit : (opened : Opened) (id n : ℕ) → id < 2 → IsSomeAnd (lengths_in opened id) (λ len. n ≤ len) → n ≤ MAX_LEN

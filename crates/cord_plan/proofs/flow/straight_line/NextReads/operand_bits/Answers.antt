@@ -4,7 +4,7 @@ use Rattle.std.proofs.lemmas.Option.{slice_get-get_or, slice_get_within}
 use Rattle.cord_plan.specs.inner.Recent.{entry_at, entry_of}
 use Rattle.cord_plan.proofs.StraightLine.{bits_more, bits_start}
 use Rattle.cord_plan.proofs.Numbers.{as_many, name_at}
-use Rattle.cord_plan.proofs.flow.straight_line.Ahead.operand_bits.Goals as goal
+use Rattle.cord_plan.proofs.flow.straight_line.NextReads.operand_bits.Goals as goal
 
 pub loop-index-init : goal.loop-index-init
 loop-index-init c = λ t xs are. bits_start (λ x. is_some (entry_of t c.args.self.now.read.items x)) xs

@@ -5,7 +5,7 @@ use Rattle.cord_syntax.specs.declared.statements.Statement.{Statement}
 use Rattle.cord_plan.specs.Exprs.{Expr, cat, members, run}
 use Rattle.cord_plan.specs.Inlined.{expr_of, expr_with}
 use Rattle.cord_plan.specs.inner.Choices.{choice_view}
-use Rattle.cord_plan.proofs.planner.expression_facts.Known.of_one.Goals as goal
+use Rattle.cord_plan.proofs.planner.expression_facts.ExpressionFacts.of_one.Goals as goal
 
 pub returns-in-Some-Some : goal.returns-in-Some-Some
 returns-in-Some-Some c = λ t table x known number from.

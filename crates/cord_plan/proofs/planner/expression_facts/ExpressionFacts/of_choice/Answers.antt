@@ -3,7 +3,7 @@ use Rattle.cord_plan.specs.Inlined as plain
 use Rattle.cord_plan.specs.Views.{expr_view}
 use Rattle.cord_plan.specs.inner.Choices.{choice_view, expression_in}
 use Rattle.cord_plan.specs.inner.ExpressionFacts.{IsFrom}
-use Rattle.cord_plan.proofs.planner.expression_facts.Known.of_choice.Goals as goal
+use Rattle.cord_plan.proofs.planner.expression_facts.ExpressionFacts.of_choice.Goals as goal
 
 pub returns-in_ok-at-in-Replaced : goal.returns-in_ok-at-in-Replaced
 returns-in_ok-at-in-Replaced c = λ t table x known number from.

@@ -5,7 +5,7 @@ use Rattle.cord_plan.specs.inner.Places.{AreNumbers}
 use Rattle.cord_plan.specs.inner.Recent.{entry_of}
 use Rattle.cord_plan.specs.declared.flow.numbering.Numbering.{Numbering}
 use Rattle.cord_plan.proofs.StraightLine.{BitsTo}
-use Rattle.cord_plan.proofs.flow.straight_line.Ahead.operand_bits.Given as goal
+use Rattle.cord_plan.proofs.flow.straight_line.NextReads.operand_bits.Given as goal
 
 abbrev pub invariant-loop-index : goal.invariant-loop-index
 invariant-loop-index l = (t : Numbering) (xs : List (List ℕ)) → AreNumbers (names_of t) xs l.numbers →

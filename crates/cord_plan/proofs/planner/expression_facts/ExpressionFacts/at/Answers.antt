@@ -2,8 +2,8 @@ use Rattle.std.proofs.Common.{◌≡◌, Some, length, refl, ap, ◌∙◌}
 use Rattle.std.specs.Prelude.{slice_get}
 use Rattle.std.proofs.lemmas.Option.{slice_get_read}
 use Rattle.cord_plan.specs.inner.Choices.{expression_in}
-use Rattle.cord_plan.proofs.Known.{facts_are}
-use Rattle.cord_plan.proofs.planner.expression_facts.Known.at.Goals as goal
+use Rattle.cord_plan.proofs.ExpressionFacts.{facts_are}
+use Rattle.cord_plan.proofs.planner.expression_facts.ExpressionFacts.at.Goals as goal
 
 pub returns-in-Some-Some : goal.returns-in-Some-Some
 returns-in-Some-Some c = λ t table e known there.

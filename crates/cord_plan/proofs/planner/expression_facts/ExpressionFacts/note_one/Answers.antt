@@ -5,9 +5,9 @@ use Rattle.cord_plan.specs.Inlined.{expr_of, expr_with}
 use Rattle.cord_plan.specs.inner.Choices.{choice_view}
 use Rattle.cord_plan.specs.inner.ExpressionFacts.{HasFacts}
 use Rattle.cord_plan.specs.inner.Numbering.{number_of}
-use Rattle.cord_plan.proofs.Known.{known_more, last_in}
+use Rattle.cord_plan.proofs.ExpressionFacts.{known_more, last_in}
 use Rattle.cord_plan.proofs.Numbers.{operand_number}
-use Rattle.cord_plan.proofs.planner.expression_facts.Known.note_one.Goals as goal
+use Rattle.cord_plan.proofs.planner.expression_facts.ExpressionFacts.note_one.Goals as goal
 
 pub returns : goal.returns
 returns c = λ t table x known size simple numbered from.

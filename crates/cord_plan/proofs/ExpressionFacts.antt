@@ -12,13 +12,13 @@ use Rattle.cord_plan.specs.Exprs.{names, names_of, parts}
 use Rattle.cord_plan.specs.Operands.{has}
 use Rattle.cord_plan.specs.Inlined as plain
 use Rattle.cord_plan.specs.inner.Choices.{Has, IsChoice, expression_in, simple_operands}
-use Rattle.cord_plan.specs.inner.ExpressionFacts.{HasFacts, IsFacts, IsFrom, IsKnown}
+use Rattle.cord_plan.specs.inner.ExpressionFacts.{HasFacts, IsFacts, IsFrom, AreFactsOf}
 use Rattle.cord_plan.specs.inner.NameSets.{IsBit, Marks, bit}
 use Rattle.cord_plan.specs.inner.Numbering.{number_of}
 use Rattle.cord_plan.specs.Exprs.{lacks}
 use Rattle.cord_plan.specs.declared.flow.numbering.Numbering.{Numbering}
 use Rattle.cord_plan.specs.declared.planner.expression_facts.Facts.{Facts}
-use Rattle.cord_plan.specs.declared.planner.expression_facts.Known.{Known}
+use Rattle.cord_plan.specs.declared.planner.expression_facts.ExpressionFacts.{ExpressionFacts}
 use Rattle.cord_plan.proofs.Appending.{names_append}
 use Rattle.cord_plan.proofs.MarkedNames.{has_both, marks_or, marks_same}
 use Rattle.cord_plan.proofs.Named.{no_true, own_bytes, same_bytes}
@@ -88,8 +88,8 @@ last_in (f ∷ table) o (suc n) size = last_in table o n (omega (arith, size))
 
 module _ (t : Numbering) where
   -- a line more
-  pub known_more : (table : List (Option Expr)) (o : Option Expr) (known : Known) → IsKnown t table known →
-      IsKnown t (table ++ o ∷ []) known
+  pub known_more : (table : List (Option Expr)) (o : Option Expr) (known : ExpressionFacts) → AreFactsOf t table known →
+      AreFactsOf t (table ++ o ∷ []) known
   known_more table o known are n entry is =
       let one = are n entry is in
       record {

@@ -4,9 +4,9 @@ use Rattle.cord_plan.specs.Exprs.{cat, members}
 use Rattle.cord_plan.specs.Inlined.{expr_of, expr_with}
 use Rattle.cord_plan.specs.inner.Choices.{choice_view}
 use Rattle.cord_plan.specs.inner.Numbering.{number_of}
-use Rattle.cord_plan.proofs.Known.{known_more, last_in, two_joined}
+use Rattle.cord_plan.proofs.ExpressionFacts.{known_more, last_in, two_joined}
 use Rattle.cord_plan.proofs.Numbers.{operand_number}
-use Rattle.cord_plan.proofs.planner.expression_facts.Known.note_two.Goals as goal
+use Rattle.cord_plan.proofs.planner.expression_facts.ExpressionFacts.note_two.Goals as goal
 
 pub returns : goal.returns
 returns c = λ t table x y known size simple numbered left right.
