@@ -118,7 +118,6 @@ impl Cord {
         ensures within_limit { OnOk result (text_len cord.now + 1 ≤ MAX_LEN) }
         ensures refused { IfErr result IsRefusal }
     {
-        let cord = Cord::cat_bytes(alloc, cord, &[c])?;
-        Ok(cord)
+        Cord::cat_bytes(alloc, cord, &[c])
     }
 }

@@ -120,10 +120,7 @@ impl<'a> LineWords<'a> {
         ensures is_name { IfOk result (λ name. is_name name ≡ true) }
         ensures kind { IfOk result (λ name. kind_of self.now.scope.names name ≡ Some kind) }
     {
-        match self.context.names.known_name(word, kind) {
-            Some(name) => Ok(name),
-            None => Err(NoStatement),
-        }
+        self.context.names.known_name(word, kind).ok_or(NoStatement)
     }
 
     // The name that a word is, which the line assigns first, as of this kind.
@@ -172,8 +169,7 @@ impl<'a> LineWords<'a> {
         ensures { IfOk result (λ name. Gives self.old (Operand kind name) self.new) }
     {
         let word = self.plain()?;
-        let name = self.named(word, kind)?;
-        Ok(name)
+        self.named(word, kind)
     }
 
     /// A number operand.
@@ -214,8 +210,7 @@ impl<'a> LineWords<'a> {
     pub fn text(&mut self) -> Result<Text, NoStatement>
         ensures { IfOk result (λ text. Gives self.old (Literal text) self.new) }
     {
-        let text = self.quoted()?;
-        Ok(text)
+        self.quoted()
     }
 
     /// A path.

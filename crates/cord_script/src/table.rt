@@ -137,10 +137,7 @@ impl Table {
     pub fn kind_of(&self, name: &[u8]) -> Option<Kind>
         ensures { result ≡ kind_of self.now name.now }
     {
-        match self.find(key_of(name), name) {
-            Some(entry) => Some(entry.kind),
-            None => None,
-        }
+        Some(self.find(key_of(name), name)?.kind)
     }
 
     /// The name of these bytes, where they are a name that isn't known, and one more may be.
