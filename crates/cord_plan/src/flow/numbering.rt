@@ -41,10 +41,7 @@ pub(crate) struct LineNumbers<'a> {
 pub(crate) fn number_at(numbers: &[usize], index: usize) -> Option<usize>
     ensures { result ≡ slice_get numbers.now index }
 {
-    match numbers.get(index) {
-        None => None,
-        Some(number) => Some(*number),
-    }
+    numbers.get(index).copied()
 }
 
 // The number of a name, which is taken in where it isn't there.

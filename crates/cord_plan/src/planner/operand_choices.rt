@@ -115,14 +115,10 @@ fn room_left_by(chosen: &[Choice], room: u32) -> Option<u32>
 {
     let mut rest = room;
     for choice in chosen {
-        let after = match choice {
-            Choice::Named(_) => rest.checked_sub(1),
-            Choice::Replaced(_, expression) => room_left(expression, rest),
+        rest = match choice {
+            Choice::Named(_) => rest.checked_sub(1)?,
+            Choice::Replaced(_, expression) => room_left(expression, rest)?,
         };
-        match after {
-            Some(less) => rest = less,
-            None => return None,
-        }
     }
     Some(rest)
 }
