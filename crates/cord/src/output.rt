@@ -1,5 +1,5 @@
 // The bytes of a text in a vector, and in a sink.
-ghost use Rattle.std.specs.Prelude.{◌≡◌, ◌<◌, ◌++◌, OnOk, OnErr, IfOk, IfErr, IsOk, IsOkUnless, is_err};
+ghost use Rattle.std.specs.Prelude.{◌≡◌, ◌++◌, OnOk, OnErr, IfOk, IfErr, IsOkUnless, is_err};
 ghost use Rattle.cord_io.specs.Device.{count_after};
 ghost use Rattle.cord_iter.specs.Output.{IsPrefixOf, Takes};
 
@@ -24,7 +24,6 @@ impl Text {
         ensures prefix { OnErr result (Takes (IsPrefixOf self.now) (W.taken sink.old) (W.taken sink.new)) }
         ensures refused { IfErr result (λ e. e ≡ CordError.WriteFailed) }
         ensures count { W.failures sink.new ≡ count_after (is_err result) (W.failures sink.old) }
-        ensures steady { W.failures sink.old < u64.MAX → W.failures sink.new ≡ W.failures sink.old → IsOk result }
         ensures finished { W.finished sink.new ≡ W.finished sink.old }
     {
         cord_iter::put(&self.cord, &mut NoSource, sink)?;

@@ -1,5 +1,5 @@
 // The byte at a place, and the places of a byte.
-ghost use Rattle.std.specs.Prelude.{◌≡◌, ◌+◌, ◌<◌, ◌≤◌, [], ◌∷◌, Some, slice_get, is_err, IsOk, IfOk, IfErr, IfSome};
+ghost use Rattle.std.specs.Prelude.{◌≡◌, ◌+◌, ◌<◌, ◌≤◌, [], ◌∷◌, Some, slice_get, is_err, IfOk, IfErr, IfSome};
 ghost use Rattle.cord_io.specs.Device.{FileSystem, count_after};
 ghost use Rattle.cord_io.specs.Frames.{LeavesSource};
 ghost use Rattle.cord_core.specs.Cord.{text_len, bytes_of, CordFitsIn};
@@ -24,7 +24,6 @@ pub fn fetch<S: Source>(x: &Cord, i: u64, src: &mut S) -> Result<u8, CordError>
         IfOk result (λ b. slice_get (bytes_of (S.table src.old file_system) x.now) i ≡ Some b) }
     ensures refused { IfErr result (λ e. e ≡ CordError.ReadFailed) }
     ensures count { S.failures src.new ≡ count_after (is_err result) (S.failures src.old) }
-    ensures steady { S.failures src.old < u64.MAX → S.failures src.new ≡ S.failures src.old → IsOk result }
     ensures source { LeavesSource ⟦<S as Source>⟧ src.old src.new }
 {
     let mut byte = [0];
@@ -44,7 +43,6 @@ pub fn chr<S: Source>(x: &Cord, i: u64, c: u8, src: &mut S) -> Result<Option<u64
     ensures within { IfOk result (λ found. IfSome found (λ place. place < text_len x.now)) }
     ensures refused { IfErr result (λ e. e ≡ CordError.ReadFailed) }
     ensures count { S.failures src.new ≡ count_after (is_err result) (S.failures src.old) }
-    ensures steady { S.failures src.old < u64.MAX → S.failures src.new ≡ S.failures src.old → IsOk result }
     ensures source { LeavesSource ⟦<S as Source>⟧ src.old src.new }
 {
     let place = first_byte(x, i, c, src)?;
@@ -63,7 +61,6 @@ pub fn rchr<S: Source>(x: &Cord, i: u64, c: u8, src: &mut S) -> Result<Option<u6
     ensures within { IfOk result (λ found. IfSome found (λ place. place < text_len x.now)) }
     ensures refused { IfErr result (λ e. e ≡ CordError.ReadFailed) }
     ensures count { S.failures src.new ≡ count_after (is_err result) (S.failures src.old) }
-    ensures steady { S.failures src.old < u64.MAX → S.failures src.new ≡ S.failures src.old → IsOk result }
     ensures source { LeavesSource ⟦<S as Source>⟧ src.old src.new }
 {
     let place = last_byte(x, i, c, src)?;

@@ -1,5 +1,5 @@
 // The order of texts.
-ghost use Rattle.std.specs.Prelude.{◌≡◌, ◌+◌, ◌<◌, ◌≤◌, take, drop, is_err, IsOk, IfOk, IfErr};
+ghost use Rattle.std.specs.Prelude.{◌≡◌, ◌+◌, ◌<◌, ◌≤◌, take, drop, is_err, IfOk, IfErr};
 ghost use Rattle.cord_io.specs.Device.{FileSystem, count_after};
 ghost use Rattle.cord_io.specs.Frames.{LeavesSource};
 ghost use Rattle.cord_core.specs.Cord.{text_len, bytes_of, IsCord, CordFitsIn};
@@ -23,7 +23,6 @@ pub fn cmp<S: Source>(x: &Cord, y: &Cord, src: &mut S) -> Result<i8, CordError>
         sign ≡ order (bytes_of (S.table src.old file_system) x.now) (bytes_of (S.table src.old file_system) y.now)) }
     ensures refused { IfErr result (λ e. e ≡ CordError.ReadFailed) }
     ensures count { S.failures src.new ≡ count_after (is_err result) (S.failures src.old) }
-    ensures steady { S.failures src.old < u64.MAX → S.failures src.new ≡ S.failures src.old → IsOk result }
     ensures source { LeavesSource ⟦<S as Source>⟧ src.old src.new }
 {
     let ordering = compare(x, 0, x.len(), y, 0, y.len(), src)?;
@@ -47,7 +46,6 @@ pub fn ncmp<S: Source>(
         (take k (drop j (bytes_of (S.table src.old file_system) y.now)))) }
     ensures refused { IfErr result (λ e. e ≡ CordError.ReadFailed) }
     ensures count { S.failures src.new ≡ count_after (is_err result) (S.failures src.old) }
-    ensures steady { S.failures src.old < u64.MAX → S.failures src.new ≡ S.failures src.old → IsOk result }
     ensures source { LeavesSource ⟦<S as Source>⟧ src.old src.new }
 {
     let left = k.min(x.len().saturating_sub(i));

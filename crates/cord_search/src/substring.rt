@@ -1,5 +1,5 @@
 // The places of a text in another.
-ghost use Rattle.std.specs.Prelude.{◌≡◌, ◌+◌, ◌<◌, ◌≤◌, length, take, true, false, is_err, IsOk, IfOk, IfErr, IfSome};
+ghost use Rattle.std.specs.Prelude.{◌≡◌, ◌+◌, ◌<◌, ◌≤◌, length, take, true, false, is_err, IfOk, IfErr, IfSome};
 ghost use Rattle.cord_io.specs.Device.{FileSystem, count_after};
 ghost use Rattle.cord_io.specs.Frames.{LeavesSource};
 ghost use Rattle.cord_core.specs.Cord.{text_len, bytes_of, IsCord, CordFitsIn};
@@ -63,7 +63,6 @@ pub fn str<S: Source>(x: &Cord, start: u64, s: &Cord, src: &mut S) -> Result<Opt
     ensures within { IfOk result (λ found. IfSome found (λ place. place + text_len s.now ≤ text_len x.now)) }
     ensures refused { IfErr result (λ e. e ≡ CordError.ReadFailed) }
     ensures count { S.failures src.new ≡ count_after (is_err result) (S.failures src.old) }
-    ensures steady { S.failures src.old < u64.MAX → S.failures src.new ≡ S.failures src.old → IsOk result }
     ensures source { LeavesSource ⟦<S as Source>⟧ src.old src.new }
 {
     str_in(x, start, x.len(), s, src)
@@ -89,7 +88,6 @@ pub fn str_in<S: Source>(
     ensures within { IfOk result (λ found. IfSome found (λ place. place + text_len s.now ≤ text_len x.now)) }
     ensures refused { IfErr result (λ e. e ≡ CordError.ReadFailed) }
     ensures count { S.failures src.new ≡ count_after (is_err result) (S.failures src.old) }
-    ensures steady { S.failures src.old < u64.MAX → S.failures src.new ≡ S.failures src.old → IsOk result }
     ensures source { LeavesSource ⟦<S as Source>⟧ src.old src.new }
 {
     let count = s.len();
@@ -124,7 +122,6 @@ pub fn find_bytes<S: Source>(
     ensures within { IfOk result (λ found. IfSome found (λ place. place + length bytes.now ≤ text_len x.now)) }
     ensures refused { IfErr result (λ e. e ≡ CordError.ReadFailed) }
     ensures count { S.failures src.new ≡ count_after (is_err result) (S.failures src.old) }
-    ensures steady { S.failures src.old < u64.MAX → S.failures src.new ≡ S.failures src.old → IsOk result }
     ensures source { LeavesSource ⟦<S as Source>⟧ src.old src.new }
 {
     find_bytes_in(x, start, x.len(), bytes, src)
@@ -148,7 +145,6 @@ pub fn find_bytes_in<S: Source>(
     ensures within { IfOk result (λ found. IfSome found (λ place. place + length bytes.now ≤ text_len x.now)) }
     ensures refused { IfErr result (λ e. e ≡ CordError.ReadFailed) }
     ensures count { S.failures src.new ≡ count_after (is_err result) (S.failures src.old) }
-    ensures steady { S.failures src.old < u64.MAX → S.failures src.new ≡ S.failures src.old → IsOk result }
     ensures source { LeavesSource ⟦<S as Source>⟧ src.old src.new }
 {
     let end = end.min(x.len());
