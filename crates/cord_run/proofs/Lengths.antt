@@ -1,5 +1,5 @@
 -- The lengths known of expressions are those of their texts, over every table that the names fit.
-use Rattle.std.proofs.Common.{◌≡◌, ◌≤◌, ◌-◌, ℕ, Bool, true, false, ◌&&◌, List, [], ◌∷◌, ◌++◌, length, replicate, Result, Ok, Err, refl, sym}
+use Rattle.std.proofs.Common.{◌≡◌, ◌≤◌, ◌+◌, ◌-◌, ℕ, ℤ, Bool, true, false, ◌&&◌, List, [], ◌∷◌, ◌++◌, length, replicate, Result, Ok, Err, refl, sym}
 use Rattle.std.proofs.Common.{ap, subst, ◌∙◌, inl, inr, arith}
 use Rattle.std.specs.Prelude.{nat_le, min, if◌then◌else◌, Some, None}
 use Rattle.std.proofs.lemmas.Bool.{leb-true}
@@ -16,14 +16,14 @@ use Rattle.cord_meaning.specs.declared.ends.FaultKind.{FaultKind}
 use Rattle.cord_meaning.specs.declared.ends.FaultKind.TheVariants.{TooLong}
 use Rattle.cord_meaning.specs.State.{State, number_value, and_then, as_index, as_byte, as_length}
 use Rattle.cord_plan.specs.Exprs.{Expr, name, run, cat, sub}
-use Rattle.cord_plan.specs.Values.{measured, length_of, text_in}
+use Rattle.cord_plan.specs.Values.{measured, measured_members, length_of, text_in}
 use Rattle.cord_plan.specs.Meaning.{Held, Text, Holding, plain, is_text, held_text, held_length, all_texts, cords, extent}
 use Rattle.cord_plan.specs.Meaning as meaning
 use Rattle.cord_plan.proofs.Evaluation.{In, value_same, extent_is}
 use Rattle.cord_run.specs.declared.store.Content.{Content}
 use Rattle.cord_run.specs.declared.store.Content.TheVariants.{Whole, Long}
 use Rattle.cord_run.specs.declared.store.Entry.{Entry}
-use Rattle.cord_run.specs.inner.Extents.{extent_in, members_extent}
+use Rattle.cord_run.specs.inner.Extents.{extent_in, extent_together}
 use Rattle.cord_run.specs.inner.Entries.{content_in, length_in, operand_in, content_length, cord_in, ContentFits, IsOver}
 use Rattle.cord_run.specs.inner.Holdings.{held_over, holding_of, plain_of}
 
@@ -121,28 +121,47 @@ length_passed n len e = by_test (nat_le n MAX_LEN) refl e
         (same, omega arith)
     by_test false t k = let bad : ⊥ = cc in absurd bad
 
+module _ (lengths : List ℕ → ℕ) (numbers : Number → ℤ) (short : (x : List ℕ) → lengths x ≤ MAX_LEN) where
+  -- nor one of an expression of such names
+  pub measured_short : (e : Expr) (len : ℕ) → measured MAX_LEN lengths numbers e ≡ Ok len → len ≤ MAX_LEN
+  measured_short (name x) len e =
+      let same : lengths x ≡ len = cc in
+      subst (λ (n : ℕ). n ≤ MAX_LEN) same (short x)
+  measured_short (run c n) len e = by_checks (as_byte (numbers c)) (as_index (numbers n)) e
+    where
+      by_checks : (rb rn : Result ℕ FaultKind) → and_then rb (λ b. and_then rn (λ k. as_length MAX_LEN k)) ≡ Ok len → len ≤ MAX_LEN
+      by_checks (Err kind) rn h = let bad : ⊥ = cc in absurd bad
+      by_checks (Ok b) (Err kind) h = let bad : ⊥ = cc in absurd bad
+      by_checks (Ok b) (Ok k) h = (length_passed k len h).1
+  measured_short (cat es) len e = by_checks (measured_members MAX_LEN lengths numbers es) e
+    where
+      by_checks : (r : Result ℕ FaultKind) → and_then r (λ k. as_length MAX_LEN k) ≡ Ok len → len ≤ MAX_LEN
+      by_checks (Err kind) h = let bad : ⊥ = cc in absurd bad
+      by_checks (Ok k) h = (length_passed k len h).1
+  measured_short (sub inner i n) len e = by_checks (measured MAX_LEN lengths numbers inner) (as_index (numbers i)) (as_index (numbers n)) e
+    where
+      by_checks : (r ri rn : Result ℕ FaultKind) → and_then r (λ k. and_then ri (λ a. and_then rn (λ m. as_length MAX_LEN (min m (k - a)))))
+          ≡ Ok len → len ≤ MAX_LEN
+      by_checks (Err kind) ri rn h = let bad : ⊥ = cc in absurd bad
+      by_checks (Ok k) (Err kind) rn h = let bad : ⊥ = cc in absurd bad
+      by_checks (Ok k) (Ok a) (Err kind) h = let bad : ⊥ = cc in absurd bad
+      by_checks (Ok k) (Ok a) (Ok m) h = (length_passed (min m (k - a)) len h).1
+
+-- a length that is known of a name is that of a cord
+pub known_short : (lengths : Lengths) (entries : List Entry) → IsOver lengths entries → (x : List ℕ) → length_in entries x ≤ MAX_LEN
+known_short lengths entries over x = cord_short lengths (content_in entries x) (over.contents x)
+
 pub extent_short : (lengths : Lengths) (entries : List Entry) → IsOver lengths entries → (e : Expr) (len : ℕ) →
     extent_in entries e ≡ Ok len → len ≤ MAX_LEN
-extent_short lengths entries over (name x) len e =
-    let same : length_in entries x ≡ len = cc in
-    subst (λ (n : ℕ). n ≤ MAX_LEN) same (cord_short lengths (content_in entries x) (over.contents x))
-extent_short lengths entries over (run c n) len e = by_checks (as_byte (operand_in entries c)) (as_index (operand_in entries n)) e
-  where
-    by_checks : (rb rn : Result ℕ FaultKind) → and_then rb (λ b. and_then rn (λ k. as_length MAX_LEN k)) ≡ Ok len → len ≤ MAX_LEN
-    by_checks (Err kind) rn h = let bad : ⊥ = cc in absurd bad
-    by_checks (Ok b) (Err kind) h = let bad : ⊥ = cc in absurd bad
-    by_checks (Ok b) (Ok k) h = (length_passed k len h).1
-extent_short lengths entries over (cat es) len e = by_checks (members_extent entries es) e
-  where
-    by_checks : (r : Result ℕ FaultKind) → and_then r (λ k. as_length MAX_LEN k) ≡ Ok len → len ≤ MAX_LEN
-    by_checks (Err kind) h = let bad : ⊥ = cc in absurd bad
-    by_checks (Ok k) h = (length_passed k len h).1
-extent_short lengths entries over (sub inner i n) len e = by_checks (extent_in entries inner) (as_index (operand_in entries i))
-    (as_index (operand_in entries n)) e
-  where
-    by_checks : (r ri rn : Result ℕ FaultKind) → and_then r (λ k. and_then ri (λ a. and_then rn (λ m. as_length MAX_LEN (min m (k - a)))))
-        ≡ Ok len → len ≤ MAX_LEN
-    by_checks (Err kind) ri rn h = let bad : ⊥ = cc in absurd bad
-    by_checks (Ok k) (Err kind) rn h = let bad : ⊥ = cc in absurd bad
-    by_checks (Ok k) (Ok a) (Err kind) h = let bad : ⊥ = cc in absurd bad
-    by_checks (Ok k) (Ok a) (Ok m) h = (length_passed (min m (k - a)) len h).1
+extent_short lengths entries over e len is =
+    measured_short (λ x. length_in entries x) (λ n. operand_in entries n) (λ x. known_short lengths entries over x) e len is
+
+-- two lengths together are that of both members
+pub pair_together : (first last : Result ℕ FaultKind) → extent_together first last
+    ≡ and_then (and_then first (λ n. and_then (and_then last (λ m. and_then (Ok 0) (λ z. Ok (m + z)))) (λ others. Ok (n + others))))
+    (λ len. as_length MAX_LEN len)
+pair_together (Err kind) last = refl
+pair_together (Ok n) (Err kind) = refl
+pair_together (Ok n) (Ok m) =
+    let same : n + m ≡ n + (m + 0) = omega arith in
+    ap (λ (k : ℕ). as_length MAX_LEN k) same

@@ -1,10 +1,13 @@
 -- Lengths of expressions by what is known of names, and of members together.
-use Rattle.std.specs.Prelude.{ℕ, ◌+◌, ◌-◌, ◌^◌, min, List, map, Result, Ok, Err}
+use Rattle.std.specs.Prelude.{ℕ, ◌+◌, ◌-◌, ◌^◌, min, List, map, Option, Some, None, Result, Ok, Err, if◌then◌else◌}
+use Rattle.std.specs.Str.{bytes_eq}
 use Rattle.cord_io.specs.declared.TheConstants.{MAX_LEN}
 use Rattle.cord_meaning.specs.declared.ends.FaultKind.{FaultKind}
 use Rattle.cord_plan.specs.Exprs as plain
 use Rattle.cord_plan.specs.Values.{measured, measured_members}
 use Rattle.cord_plan.specs.Views.{Shared, members_of, shared_view}
+use Rattle.cord_meaning.specs.State.{and_then, as_length}
+use Rattle.cord_run.specs.declared.expressions.lengths.Named.{Named}
 use Rattle.cord_run.specs.declared.store.Entry.{Entry}
 use Rattle.cord_run.specs.inner.Entries.{length_in, operand_in}
 
@@ -24,3 +27,23 @@ members_seen members = members_of (map shared_view members)
 abbrev pub counted : ℕ → Result ℕ FaultKind → Result ℕ FaultKind
 counted total (Ok len) = Ok (min (total + len) (2 ^ 64 - 1))
 counted total (Err kind) = Err kind
+
+-- the length of a name, where one name has another length than is known of it
+abbrev pub length_with : List Entry → List ℕ → ℕ → List ℕ → ℕ
+length_with entries target len x = if bytes_eq x target then len else length_in entries x
+
+-- the length of an expression then, or its fault
+abbrev pub extent_with : List Entry → List ℕ → ℕ → plain.Expr → Result ℕ FaultKind
+extent_with entries target len e = measured MAX_LEN (λ x. length_with entries target len x) (λ n. operand_in entries n) e
+
+-- the same where there may be such a name
+abbrev pub length_beside : List Entry → Option Named → List ℕ → ℕ
+length_beside entries None x = length_in entries x
+length_beside entries (Some other) x = length_with entries other.name.now other.len x
+
+abbrev pub extent_beside : List Entry → Option Named → plain.Expr → Result ℕ FaultKind
+extent_beside entries other e = measured MAX_LEN (λ x. length_beside entries other x) (λ n. operand_in entries n) e
+
+-- two lengths together, or the first fault
+abbrev pub extent_together : Result ℕ FaultKind → Result ℕ FaultKind → Result ℕ FaultKind
+extent_together first last = and_then first (λ n. and_then last (λ m. as_length MAX_LEN (n + m)))

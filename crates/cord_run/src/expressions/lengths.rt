@@ -1,13 +1,15 @@
 // The lengths of expressions, by the lengths of their names.
 ghost use Rattle.std.specs.Prelude.{◌≡◌, ◌≤◌, Err, IfErr, IfOk, IfSome, Ok};
 ghost use Rattle.cord_meaning.specs.State as meant;
+ghost use Rattle.cord_plan.specs.Exprs as plain;
 ghost use Rattle.cord_plan.specs.Values.{measured_copies, measured_part};
 ghost use Rattle.cord_plan.specs.Views.{expr_view, members_view};
 ghost use Rattle.cord_run.specs.inner.Entries.{length_in};
-ghost use Rattle.cord_run.specs.inner.Extents.{counted, extent_in, members_extent, members_seen};
+ghost use Rattle.cord_run.specs.inner.Extents.{counted, extent_beside, extent_in, extent_together, length_beside, members_extent};
+ghost use Rattle.cord_run.specs.inner.Extents.{members_seen};
 
 use crate::checks::{as_byte, as_index, as_length};
-use crate::expressions::parts::range_parts;
+use crate::expressions::parts::{pair_of, range_parts};
 use crate::store::Store;
 use cord_io::MAX_LEN;
 use cord_meaning::FaultKind;
@@ -15,18 +17,94 @@ use cord_plan::{Expr, Members};
 use cord_script::Name;
 use std::rc::Rc;
 
-/// The same as `length_of`, which costs less where the expression is a range of a name.
+/// The same as `length_of`, which costs less where the expression is one part, or two.
 #[inline(always)]
 pub(crate) fn measured(expression: &Expr, store: &Store) -> Result<u64, FaultKind>
     ensures { result ≡ extent_in store.now.entries.items (expr_view expression.now) }
 {
-    match range_parts(expression) {
-        Some((name, start, count)) => length_of_range(
-            store.length_of(name),
-            store.value_of(start),
-            store.value_of(count),
-        ),
+    match length_of_few(expression, None, store) {
+        Some(length) => length,
         None => length_of(expression, store),
+    }
+}
+
+/// The length of one part or of two, or their fault, where a name may have another length than the store knows.
+#[inline(always)]
+pub(crate) fn length_of_few(
+    expression: &Expr,
+    other: Option<Named<'_>>,
+    store: &Store,
+) -> Option<Result<u64, FaultKind>>
+    ensures { IfSome result (λ length. length ≡ extent_beside store.now.entries.items other.entry (expr_view expression.now)) }
+{
+    match expression {
+        Expr::Cat(members) => {
+            let (first, last) = pair_of(members)?;
+            length_of_pair(first, last, other, store)
+        }
+        _ => length_of_part(expression, other, store),
+    }
+}
+
+// The length of two parts, joined.
+fn length_of_pair(
+    first: &Expr,
+    last: &Expr,
+    other: Option<Named<'_>>,
+    store: &Store,
+) -> Option<Result<u64, FaultKind>>
+    ensures { IfSome result (λ length. length ≡ extent_beside store.now.entries.items other.entry
+        (plain.cat (plain.member (expr_view first.now) (plain.member (expr_view last.now) plain.nothing)))) }
+{
+    let first = length_of_part(first, other, store)?;
+    let last = length_of_part(last, other, store)?;
+    Some(length_together(first, last))
+}
+
+// A length and another one, or the first fault.
+#[inline(always)]
+fn length_together(
+    first: Result<u64, FaultKind>,
+    last: Result<u64, FaultKind>,
+) -> Result<u64, FaultKind>
+    ensures { result ≡ extent_together first last }
+{
+    let first = first?;
+    let last = last?;
+    as_length(first.saturating_add(last))
+}
+
+// The length of one part.
+#[inline(always)]
+fn length_of_part(
+    expression: &Expr,
+    other: Option<Named<'_>>,
+    store: &Store,
+) -> Option<Result<u64, FaultKind>>
+    ensures { IfSome result (λ length. length ≡ extent_beside store.now.entries.items other.entry (expr_view expression.now)) }
+{
+    match expression {
+        Expr::Name(name) => Some(Ok(length_beside(name, other, store))),
+        Expr::Run { byte, count } => Some(length_of_run(
+            store.value_of(byte),
+            store.value_of(count),
+        )),
+        _ => {
+            let (name, start, count) = range_parts(expression)?;
+            let len = length_beside(name, other, store);
+            Some(length_of_range(len, store.value_of(start), store.value_of(count)))
+        }
+    }
+}
+
+// The length of a name, where one may have another length than the store knows.
+#[inline(always)]
+fn length_beside(name: &Name, other: Option<Named<'_>>, store: &Store) -> u64
+    ensures { result ≡ length_beside store.now.entries.items other.entry name.now }
+{
+    match other {
+        Some(other) if name.is(other.name) => other.len,
+        _ => store.length_of(name),
     }
 }
 
@@ -92,11 +170,11 @@ fn length_after(before: u64, members: &[Rc<Expr>], store: &Store) -> Result<u64,
     Ok(total)
 }
 
-// A name, and the length known of it.
+/// A name, and the length known of it.
 #[derive(Clone, Copy)]
-struct Named<'a> {
-    name: &'a Name,
-    len: u64,
+pub(crate) struct Named<'a> {
+    pub(crate) name: &'a Name,
+    pub(crate) len: u64,
 }
 
 // A name with its length, which isn't looked for where the last name was the same one.
