@@ -58,6 +58,5 @@ fn whole<S: Source>(alloc: Global, src: &S, id: SourceId) -> Result<Cord, CordEr
     if len > MAX_LEN {
         return Err(CordError::TooLong);
     }
-    let cord = Cord::from_fn(alloc, id, 0, len)?;
-    Ok(cord)
+    Cord::from_fn(alloc, id, 0, len)
 }
