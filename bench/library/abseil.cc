@@ -3,6 +3,7 @@
 #include <absl/strings/cord.h>
 #include <malloc.h>
 #include <string.h>
+#include <vector>
 
 namespace {
 
@@ -106,6 +107,23 @@ uint64_t abseil_compare(void *text, void *other) {
     return cord(text) == cord(other);
 }
 
+void *abseil_edited(void *text, const struct edits *edits) {
+    absl::Cord *made = new absl::Cord(cord(text));
+    std::vector<absl::Cord> kept;
+    uint64_t state = 1;
+    for (uint64_t i = 0; i < edits->count; i++) {
+        uint64_t place = edit_place(edits, i, &state);
+        absl::Cord behind = made->Subcord(place, made->size() - place);
+        made->RemoveSuffix(behind.size());
+        made->Append("e");
+        made->Append(std::move(behind));
+        if (edits->are_kept) kept.push_back(*made);
+    }
+    keep(kept.data());
+    new std::vector<absl::Cord>(std::move(kept));  // which stay, as in the other libraries
+    return made;
+}
+
 uint64_t abseil_share(void *text, uint64_t count) {
     uint64_t total = 0;
     for (uint64_t i = 0; i < count; i++) {
@@ -123,7 +141,7 @@ void abseil_release(void *text) {
 const struct library abseil = {
     "Abseil",     begin,        abseil_by_cat, abseil_by_cat,  nullptr,        abseil_cut,   abseil_fetch,
     abseil_make,  abseil_walk,  abseil_lines,  abseil_absent,  abseil_chunks,  abseil_read,  abseil_compare,
-    abseil_share, abseil_release, in_use,
+    abseil_edited, abseil_share, abseil_release, in_use,
 };
 
 }

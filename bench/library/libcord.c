@@ -133,6 +133,19 @@ uint64_t libcord_compare(void *text, void *other) {
     return CORD_cmp(text, other) == 0;
 }
 
+void *libcord_edited(void *text, const struct edits *edits) {
+    CORD made = text, *kept = edits->are_kept ? GC_MALLOC(edits->count * sizeof *kept) : NULL;
+    uint64_t state = 1;
+    for (uint64_t i = 0; i < edits->count; i++) {
+        uint64_t place = edit_place(edits, i, &state);
+        CORD before = CORD_cat_char(CORD_substr(made, 0, place), 'e');
+        made = CORD_cat(before, CORD_substr(made, place, edits->size + i - place));
+        if (kept != NULL) kept[i] = made;
+    }
+    keep(kept);
+    return (void *)made;
+}
+
 static uint64_t in_use(void) {
     GC_gcollect();
     return GC_get_heap_size() - GC_get_free_bytes();
@@ -153,5 +166,6 @@ const struct library libcord = {
     .chunks = libcord_chunks,
     .read = libcord_read,
     .compare = libcord_compare,
+    .edited = libcord_edited,
     .in_use = in_use,
 };

@@ -33,6 +33,17 @@ static inline uint64_t next_place(uint64_t *state, uint64_t bound) {
     return (*state >> 32) * bound >> 32;
 }
 
+/* Single bytes that are put into a text of `size` bytes: each behind the one before, or at places that look random. */
+struct edits {
+    uint64_t size, count;
+    int is_random;
+    int are_kept; /* whether the text after each edit is kept */
+};
+
+static inline uint64_t edit_place(const struct edits *edits, uint64_t done, uint64_t *state) {
+    return edits->is_random ? next_place(state, edits->size + done + 1) : edits->size / 2 + done;
+}
+
 /* What is made is made: a compiler that sees through a call can't leave it out. */
 static inline void keep(const void *made) {
     __asm__ volatile("" : : "r"(made) : "memory");
@@ -54,12 +65,13 @@ struct library {
     uint64_t (*chunks)(void *text);
     uint64_t (*read)(void *text);
     uint64_t (*compare)(void *text, void *other);
+    void *(*edited)(void *text, const struct edits *edits); /* the text with the letter e put in so often */
     uint64_t (*share)(void *text, uint64_t count);
     void (*release)(void *text);
     uint64_t (*in_use)(void); /* the bytes that the library has from the machine and didn't give back */
 };
 
-extern const struct library zomtsje, libcord, abseil;
+extern const struct library zomtsje, libcord, abseil, libstdcxx;
 
 #ifdef __cplusplus
 }

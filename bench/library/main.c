@@ -1,4 +1,4 @@
-/* Times the calls of three libraries, each in a process of its own, and prints a table:
+/* Times the calls of four libraries, each in a process of its own, and prints a table:
 
        calls TURNS SIZE..              (each row at each size in bytes; the least of so many turns)
        calls --one ROW LIBRARY SIZE    (one turn in this process, for a profiler)
@@ -23,7 +23,7 @@
 
 char source[2 * SOURCE_LEN];
 
-static const struct library *const LIBRARIES[] = {&zomtsje, &libcord, &abseil};
+static const struct library *const LIBRARIES[] = {&zomtsje, &libcord, &abseil, &libstdcxx};
 enum { LIBRARY_COUNT = sizeof LIBRARIES / sizeof LIBRARIES[0] };
 
 /* What a turn came to: a figure, and an answer that is the same of each library. */
@@ -57,6 +57,7 @@ static const struct sample NONE = {0, 0, 0};
 /* ---- appends ---- */
 
 static struct sample appended(const struct library *by, int is_growing, uint64_t size, size_t part) {
+    if (by->by_growing == NULL) return NONE;
     double start = nanoseconds();
     void *text = is_growing ? by->by_growing(size, part) : by->by_cat(size, part);
     struct sample it = sample_since(start, (size + part - 1) / part, 0);
@@ -81,6 +82,7 @@ static struct sample grow_100(const struct library *by, uint64_t size) {
 }
 
 static struct sample memory(const struct library *by, int is_growing, uint64_t size) {
+    if (by->in_use == NULL) return NONE;
     uint64_t before = by->in_use();
     void *text = is_growing ? by->by_growing(size, 10) : by->by_cat(size, 10);
     struct sample it = {1, (double)(by->in_use() - before) / (double)size, 0};
@@ -109,6 +111,7 @@ static void *balanced(const struct library *by, uint64_t size) {
 }
 
 static struct sample cut(const struct library *by, void *text, uint64_t size, uint64_t length) {
+    if (by->cut == NULL) return NONE;
     double start = nanoseconds();
     uint64_t answer = by->cut(text, size, CALLS, length);
     return sample_since(start, CALLS, answer);
@@ -141,6 +144,7 @@ static struct sample fetch_balanced(const struct library *by, uint64_t size) {
 }
 
 static struct sample over_all(const struct library *by, uint64_t size, uint64_t (*work)(void *), uint64_t count) {
+    if (work == NULL) return NONE;
     void *text = grown(by, size, PART);
     double start = nanoseconds();
     uint64_t answer = work(text);
@@ -170,16 +174,45 @@ static struct sample read_all(const struct library *by, uint64_t size) {
 }
 
 static struct sample compare(const struct library *by, uint64_t size) {
+    if (by->compare == NULL) return NONE;
     void *text = grown(by, size, PART), *other = grown(by, size, OTHER_PART);
     double start = nanoseconds();
     uint64_t answer = by->compare(text, other);
     return sample_since(start, size / 1024, answer);
 }
 
+/* ---- edits ---- */
+
+static struct sample edited(const struct library *by, const struct edits *edits) {
+    void *text = balanced(by, edits->size);
+    double start = nanoseconds();
+    void *made = by->edited(text, edits);
+    struct sample it = sample_since(start, edits->count, 0);
+    it.answer = by->fetch(made, edits->size + edits->count, 1000);
+    return it;
+}
+
+static struct sample type(const struct library *by, uint64_t size) {
+    return edited(by, &(struct edits){size, 10 * CALLS, 0, 0});
+}
+
+static struct sample type_at_random(const struct library *by, uint64_t size) {
+    return edited(by, &(struct edits){size, CALLS, 1, 0});
+}
+
+static struct sample versions(const struct library *by, uint64_t size) {
+    return edited(by, &(struct edits){size, CALLS, 0, 1});
+}
+
+static struct sample versions_at_random(const struct library *by, uint64_t size) {
+    return edited(by, &(struct edits){size, CALLS, 1, 1});
+}
+
 /* ---- making and freeing ---- */
 
 static struct sample make(const struct library *by, uint64_t size) {
     (void)size;
+    if (by->make == NULL) return NONE;
     double start = nanoseconds();
     uint64_t answer = by->make(10 * CALLS);
     return sample_since(start, 10 * CALLS, answer);
@@ -228,6 +261,10 @@ static const struct row ROWS[] = {
     {"chunks", "go over chunks, a KiB", 0, UINT64_MAX, chunks},
     {"read", "read by 64 KiB, a KiB", 0, UINT64_MAX, read_all},
     {"compare", "compare equal texts that are cut otherwise, a KiB", 0, UINT64_MAX, compare},
+    {"type", "put in a byte behind the last one, a byte", 0, MOST_LEN, type},
+    {"type_at_random", "the same at random places, a byte", 0, MOST_LEN, type_at_random},
+    {"versions", "put in a byte behind the last one, each text kept, a byte", 0, MOST_LEN, versions},
+    {"versions_at_random", "the same at random places, a byte", 0, MOST_LEN, versions_at_random},
     {"share", "copy a handle and free it, a copy", 100000, UINT64_MAX, share},
     {"make", "make and free a cord of 10 bytes, a cord", 10, UINT64_MAX, make},
     {"release", "free leaves of 4,000 bytes, a leaf", 32 * MIB, UINT64_MAX, release},

@@ -134,6 +134,21 @@ uint64_t zomtsje_compare(void *text, void *other) {
     return order == 0;
 }
 
+void *zomtsje_edited(void *text, const struct edits *edits) {
+    zc_cord *made = new_text(), *kept = edits->are_kept ? calloc(edits->count, sizeof *kept) : NULL;
+    zc_edit edit = ZC_EDIT_EMPTY;
+    uint64_t state = 1;
+    must(zc_edit_set(text, &edit));
+    for (uint64_t i = 0; i < edits->count; i++) {
+        must(zc_edit_bytes(&edit, edit_place(edits, i, &state), "e", 1));
+        if (kept != NULL) must(zc_edit_to_cord(&edit, &kept[i]));
+    }
+    must(zc_edit_to_cord(&edit, made));
+    zc_edit_free(&edit);
+    keep(kept);
+    return made;
+}
+
 uint64_t zomtsje_share(void *text, uint64_t count) {
     uint64_t total = 0;
     for (uint64_t i = 0; i < count; i++) {
@@ -170,6 +185,7 @@ const struct library zomtsje = {
     .chunks = zomtsje_chunks,
     .read = zomtsje_read,
     .compare = zomtsje_compare,
+    .edited = zomtsje_edited,
     .share = zomtsje_share,
     .release = zomtsje_release,
     .in_use = in_use,
