@@ -22,7 +22,7 @@ returns-clause-gives g c = λ file_system agrees.
     measured_target (opened_in s) (opened_in c.measure.new.sources) c.in_ok-len.ensures.grows c.args.store.now.entries.items
     c.args.store.now.entries.items c.give_long.new.store.entries.items c.requires.over (nothing_changed c.args.store.now.entries.items)
     c.args.target.now (made_view c.args.made.now) (g.F.Files.consistent (device_in c.measure.new.sources)) file_system agrees
-    (as_long_as_reported (g.F.Files.consistent (device_in s)) s.entries.items s.sound.as_long file_system before)
+    (as_long_as_reported (g.F.Files.consistent (device_in s)) s.open_files.items s.sound.as_long file_system before)
     c.in_ok-len.len c.in_ok-len.ensures.reported c.give_long.result c.give_long.ensures.has c.give_long.ensures.refused
 
 pub returns-clause-stays : goal.returns-clause-stays

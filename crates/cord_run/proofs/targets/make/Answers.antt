@@ -40,7 +40,7 @@ pub returns-in-None : goal.returns-in-None
 returns-in-None g c =
     let s = c.args.sources.now in
     let consistent : FileSystem → Type 0 = g.F.Files.consistent (device_in s) in
-    let reported = as_long_as_reported consistent s.entries.items s.sound.as_long in
+    let reported = as_long_as_reported consistent s.open_files.items s.sound.as_long in
     let entries = c.args.store.now.entries.items in
     let r = c.make_of_names.result in
     let made = made_view c.args.made.now in
