@@ -1,5 +1,6 @@
 /* What calls take as const, in memory that can't be written: a call that writes to it ends the program. The library's
- * memory comes from one array here (the linker wraps malloc, realloc and free), so that the trees can be locked too. */
+ * memory comes from one array here (the linker wraps malloc, realloc and free), so that the trees can be locked too, and
+ * what a call takes is counted. */
 #define _DEFAULT_SOURCE
 #include "testing.h"
 #include <fcntl.h>
@@ -148,6 +149,44 @@ static void make(void) {
     DO(zc_lazy_share(&held->lazy, &lazy));
 }
 
+/* The first call takes more memory than the other. */
+#define TAKES_MORE(call, other)                                                                                        \
+    do {                                                                                                               \
+        size_t begin = used, taken;                                                                                    \
+        EXPECT((call) == ZC_OK);                                                                                       \
+        taken = used - begin, begin = used;                                                                            \
+        EXPECT((other) == ZC_OK);                                                                                      \
+        expect(taken > used - begin, #call, __LINE__);                                                                 \
+    } while (0)
+
+/* Where a second handle that is read is the first one, the call gets a share: it takes a block more. */
+static void share(void) {
+    zc_cord x = ZC_EMPTY, y = ZC_EMPTY, out = ZC_EMPTY;
+    zc_lazy lazy = ZC_LAZY_EMPTY, copy = ZC_LAZY_EMPTY, made = ZC_LAZY_EMPTY;
+    zc_lines lines = ZC_LINES_EMPTY;
+    int32_t order = 7;
+    DO(zc_share(&held->x, &x));
+    DO(zc_share(&held->x, &y));
+    DO(zc_share(&held->x, &out));
+    DO(zc_lines_set(&x, &lines));
+    DO(zc_lazy_share(&held->lazy, &lazy));
+    DO(zc_lazy_share(&held->lazy, &copy));
+    DO(zc_lazy_share(&held->lazy, &made));
+    TAKES_MORE(zc_cat(&x, &x, &out), zc_cat(&x, &y, &out));
+    TAKES_MORE(zc_insert(&x, 7, &x, &out), zc_insert(&x, 7, &y, &out));
+    TAKES_MORE(zc_replace(&x, 7, 9, &x, &out), zc_replace(&x, 7, 9, &y, &out));
+    TAKES_MORE(zc_ncmp(&x, 7, &x, 5000, 9, &order), zc_ncmp(&x, 7, &y, 5000, 9, &order));
+    TAKES_MORE(zc_lines_edited_from(&lines, &x, &x, 1, 2, 2), zc_lines_edited_from(&lines, &x, &y, 1, 2, 2));
+    TAKES_MORE(zc_lazy_cat(&lazy, &lazy, &made), zc_lazy_cat(&lazy, &copy, &made));
+    TAKES_MORE(zc_lazy_insert(&lazy, 7, &lazy, &made), zc_lazy_insert(&lazy, 7, &copy, &made));
+    TAKES_MORE(zc_lazy_replace(&lazy, 7, 9, &lazy, &made), zc_lazy_replace(&lazy, 7, 9, &copy, &made));
+    DO(zc_share(&x, &out));
+    TAKES_MORE(zc_append(&x, &x), zc_append(&out, &y));
+    DO(zc_share(&y, &x));
+    DO(zc_share(&y, &out));
+    TAKES_MORE(zc_splice(&x, 7, 9, &x), zc_splice(&out, 7, 9, &y));
+}
+
 int main(void) {
     int null = open("/dev/null", O_WRONLY);
     size_t handles = (sizeof *held / 4096 + 1) * 4096;
@@ -156,6 +195,7 @@ int main(void) {
     fill();
     EXPECT(mprotect(held, handles, PROT_READ) == 0);
     make();
+    share();
     EXPECT(mprotect(room, ROOM, PROT_READ) == 0);
     ask(null);
     printf("%lu rows\n", rows);

@@ -32,6 +32,7 @@ const char *zc_message(int code) {
     case ZC_BAD_FORMAT: return "bad format";
     case ZC_WRONG_ARGUMENTS: return "wrong arguments";
     case ZC_BAD_VALUE: return "bad value";
+    case ZC_BAD_ARGUMENT: return "bad argument";
     default: return "unknown code";
     }
 }

@@ -138,72 +138,6 @@ static void joins(void) {
     zc_free(&out);
 }
 
-/* One handle twice in a call, and as the result too: the call reads before it writes. */
-static void one_handle_twice(void) {
-    zc_cord x = ZC_EMPTY, y = ZC_EMPTY;
-    uint64_t place = 7;
-    int32_t order = 7;
-    DO(zc_from_bytes("ab\n", 3, &x));
-    DO(zc_from_bytes("cd", 2, &y));
-    DO(zc_cat(&x, &y, &x));
-    EXPECT_TEXT(&x, "ab\ncd");
-    DO(zc_cat(&y, &x, &x));
-    EXPECT_TEXT(&x, "cdab\ncd");
-    DO(zc_cat(&y, &y, &y));
-    EXPECT_TEXT(&y, "cdcd");
-    DO(zc_cat_bytes(&y, "!", 1, &y));
-    DO(zc_cat_char(&y, '?', &y));
-    EXPECT_TEXT(&y, "cdcd!?");
-    DO(zc_substr(&y, 2, 3, &y));
-    EXPECT_TEXT(&y, "cd!");
-    DO(zc_insert(&y, 1, &y, &y));
-    EXPECT_TEXT(&y, "ccd!d!");
-    DO(zc_replace(&y, 1, 4, &y, &y));
-    EXPECT_TEXT(&y, "cccd!d!!");
-    DO(zc_remove(&y, 2, 5, &y));
-    EXPECT_TEXT(&y, "cc!");
-    DO(zc_balance(&y, &y));
-    DO(zc_share(&y, &y));
-    EXPECT_TEXT(&y, "cc!");
-    DO(zc_nth_line(&x, 1, &x));
-    EXPECT_TEXT(&x, "cd");
-    DO(zc_str(&x, 0, &x, &place));
-    DO(zc_cmp(&x, &x, &order));
-    EXPECT(place == 0 && order == 0);
-    DO(zc_ncmp(&x, 0, &x, 1, 1, &order));
-    EXPECT(order == -1);
-    zc_free(&x);
-    zc_free(&y);
-}
-
-/* The same of lists, prints and cords over files. */
-static void one_handle_twice_elsewhere(void) {
-    zc_cord parts[2] = {ZC_EMPTY, ZC_EMPTY};
-    zc_arg arg = ZC_TEXT;
-    zc_lazy x = ZC_LAZY_EMPTY;
-    uint64_t at = 7;
-    DO(zc_from_bytes("ab", 2, &parts[0]));
-    DO(zc_from_bytes("cd", 2, &parts[1]));
-    DO(zc_catn(parts, 2, &parts[0]));
-    EXPECT_TEXT(&parts[0], "abcd");
-    DO(zc_share(&parts[1], &arg.text));
-    DO(zc_sprintf("<%s>", 4, &arg, 1, &arg.text, &at));
-    EXPECT(at == 7);
-    EXPECT_TEXT(&arg.text, "<cd>");
-    DO(zc_lazy_from_cord(&parts[0], &x));
-    DO(zc_lazy_cat(&x, &x, &x));
-    DO(zc_lazy_substr(&x, 3, 3, &x));
-    DO(zc_lazy_balance(&x, &x));
-    DO(zc_lazy_share(&x, &x));
-    zc_files files = ZC_FILES_NONE;
-    DO(zc_lazy_to_cord(&files, &x, &parts[1]));
-    EXPECT_TEXT(&parts[1], "dab");
-    zc_free(&parts[0]);
-    zc_free(&parts[1]);
-    zc_free(&arg.text);
-    zc_lazy_free(&x);
-}
-
 static uint64_t format_at;
 
 static int format(const char *text, zc_arg *args, size_t count, zc_cord *out) {
@@ -1649,6 +1583,7 @@ static void messages(void) {
     EXPECT(strcmp(zc_message(ZC_BAD_FORMAT), "bad format") == 0);
     EXPECT(strcmp(zc_message(ZC_WRONG_ARGUMENTS), "wrong arguments") == 0);
     EXPECT(strcmp(zc_message(ZC_BAD_VALUE), "bad value") == 0);
+    EXPECT(strcmp(zc_message(ZC_BAD_ARGUMENT), "bad argument") == 0);
     EXPECT(strcmp(zc_message(ZC_IN_FILE), "in a file") == 0);
     EXPECT(strcmp(zc_message(ZC_TOO_MANY_FILES), "too many files") == 0);
     EXPECT(strcmp(zc_message(ZC_WOULD_BLOCK), "would block") == 0);
@@ -1864,8 +1799,6 @@ int main(int count, char **words) {
     may_want = count > 1;
     makes();
     joins();
-    one_handle_twice();
-    one_handle_twice_elsewhere();
     cuts();
     changes();
     beginnings();

@@ -82,7 +82,8 @@ enum {
     ZC_NULL = 9,              /* a pointer is null */
     ZC_BAD_FORMAT = 10,       /* the bytes are no format */
     ZC_WRONG_ARGUMENTS = 11,  /* the format takes another number of arguments, or others' kinds */
-    ZC_BAD_VALUE = 12         /* an argument has a value that its conversion doesn't take */
+    ZC_BAD_VALUE = 12,        /* an argument has a value that its conversion doesn't take */
+    ZC_BAD_ARGUMENT = 13      /* one place is given as handles of two kinds */
 };
 
 /* A code in words. */

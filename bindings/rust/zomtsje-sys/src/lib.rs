@@ -31,6 +31,8 @@ pub const ZC_BAD_FORMAT: c_int = 10;
 pub const ZC_WRONG_ARGUMENTS: c_int = 11;
 /// An argument has a value that its conversion doesn't take.
 pub const ZC_BAD_VALUE: c_int = 12;
+/// One place is given as handles of two kinds.
+pub const ZC_BAD_ARGUMENT: c_int = 13;
 
 /// The most bytes of a text.
 pub const ZC_MAX_LEN: u64 = (1 << 40) - 1;
