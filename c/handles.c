@@ -1,5 +1,5 @@
-/* One handle twice in a call. The proofs speak of calls whose pointers lead to different handles. So each call that takes
- * two comes here first, and where they are one the proved call gets another:
+/* One handle twice in a call. The proofs speak of calls whose pointers lead to different handles. So each call that is
+ * given two comes here first, and where they are one the proved call gets another:
  *
  *   for a result that is read too, a handle of its own, which is moved there when the call is done;
  *   for a second handle that is read, a share of the first.
@@ -8,6 +8,11 @@
  * handles of two kinds is ZC_BAD_ARGUMENT. No proof speaks of this file. tools/c-library joins it to the proved calls,
  * where that of zc_cat is named proved_zc_cat. */
 #include "zomtsje.h"
+
+#define share_cord zc_share
+#define free_cord zc_free
+#define share_lazy zc_lazy_share
+#define free_lazy zc_lazy_free
 
 /* One place, and not null. */
 static int is_one(const void *x, const void *y) {
@@ -19,82 +24,58 @@ static int lies_in(const void *place, const void *bytes, size_t count) {
     return (uintptr_t)place - (uintptr_t)bytes < count;
 }
 
-/* Where the call made it, out has what was made. Else it stays. */
-static int moved_cord(int code, zc_cord *made, zc_cord *out) {
-    if (code == ZC_OK) {
-        zc_free(out);
-        *out = *made;
-    } else {
-        zc_free(made);
-    }
-    return code;
-}
-
-static int moved_lazy(int code, zc_lazy *made, zc_lazy *out) {
-    if (code == ZC_OK) {
-        zc_lazy_free(out);
-        *out = *made;
-    } else {
-        zc_lazy_free(made);
-    }
-    return code;
-}
-
-/* The proved call, and what is called where a handle is given twice: apart, so that else a call takes no registers. */
+/* The proved call, and what is called where a handle is given twice: apart, so that else a call saves no registers. */
 #define PROVED(name) extern __typeof__(name) proved_##name
 #define TWICE(name) static __attribute__((noinline, cold)) int twice_##name
 
-/* Makes the call for a handle of its own, which then goes to out. */
-#define MOVES(kind, name, arguments)                                                    \
-    zc_##kind made = {0}, *place = out;                                                 \
-    out = &made;                                                                        \
-    return moved_##kind(proved_##name arguments, &made, place);
+/* Makes the call for a handle of its own. What it made goes to out. */
+#define MOVES(kind, name, arguments)                                                               \
+    zc_##kind made = {0}, *place = out;                                                            \
+    out = &made;                                                                                   \
+    int code = proved_##name arguments;                                                            \
+    free_##kind(code == ZC_OK ? place : &made);                                                    \
+    if (code == ZC_OK) *place = made;                                                              \
+    return code;
 
 /* Makes the call for a share of y. */
-#define SHARES(share, free, second, name, arguments)                                    \
-    int code = share(y, &second);                                                       \
-    y = &second;                                                                        \
-    if (code == ZC_OK) code = name arguments;                                           \
-    free(&second);                                                                      \
+#define SHARES(kind, name, arguments)                                                              \
+    zc_##kind second = {0};                                                                        \
+    int code = share_##kind(y, &second);                                                           \
+    y = &second;                                                                                   \
+    if (code == ZC_OK) code = name arguments;                                                      \
+    free_##kind(&second);                                                                          \
     return code;
 
 /* out is made, and may be read. */
-#define MAKES(kind, name, is_read, parameters, arguments)                               \
-    PROVED(name);                                                                       \
-    TWICE(name) parameters { MOVES(kind, name, arguments) }                             \
+#define MAKES(kind, name, is_read, parameters, arguments)                                          \
+    PROVED(name);                                                                                  \
+    TWICE(name) parameters { MOVES(kind, name, arguments) }                                        \
     int name parameters { return is_read ? twice_##name arguments : proved_##name arguments; }
 
 /* x and y are read, and out is made. */
-#define JOINS(kind, share, free, name, parameters, arguments)                           \
-    PROVED(name);                                                                       \
-    TWICE(name) parameters {                                                            \
-        if (is_one(x, y)) {                                                             \
-            zc_##kind second = {0};                                                     \
-            SHARES(share, free, second, name, arguments)                                \
-        }                                                                               \
-        MOVES(kind, name, arguments)                                                    \
-    }                                                                                   \
-    int name parameters {                                                               \
-        return is_one(x, y) || out == x || out == y ? twice_##name arguments : proved_##name arguments; \
+#define JOINS(kind, name, parameters, arguments)                                                   \
+    PROVED(name);                                                                                  \
+    TWICE(name) parameters {                                                                       \
+        if (is_one(x, y)) { SHARES(kind, name, arguments) }                                        \
+        MOVES(kind, name, arguments)                                                               \
+    }                                                                                              \
+    int name parameters {                                                                          \
+        int is_twice = (is_one(x, y) && out != NULL) || out == x || out == y;                      \
+        return is_twice ? twice_##name arguments : proved_##name arguments;                        \
     }
-#define JOINS_CORDS(name, parameters, arguments) JOINS(cord, zc_share, zc_free, name, parameters, arguments)
-#define JOINS_LAZIES(name, parameters, arguments) JOINS(lazy, zc_lazy_share, zc_lazy_free, name, parameters, arguments)
 
-/* y is read, and x too or changed. */
-#define READS(name, is_wrong, parameters, arguments)                                    \
-    PROVED(name);                                                                       \
-    TWICE(name) parameters {                                                            \
-        zc_cord second = ZC_EMPTY;                                                      \
-        SHARES(zc_share, zc_free, second, name, arguments)                              \
-    }                                                                                   \
-    int name parameters {                                                               \
-        if (is_wrong) return ZC_BAD_ARGUMENT;                                           \
-        return is_one(x, y) ? twice_##name arguments : proved_##name arguments;         \
+/* y is read, and x too or changed; the result is no null pointer. */
+#define READS(name, is_wrong, result, parameters, arguments)                                       \
+    PROVED(name);                                                                                  \
+    TWICE(name) parameters { SHARES(cord, name, arguments) }                                       \
+    int name parameters {                                                                          \
+        if (is_wrong) return ZC_BAD_ARGUMENT;                                                      \
+        return is_one(x, y) && result != NULL ? twice_##name arguments : proved_##name arguments;  \
     }
 
 /* x and y are of different kinds. */
-#define DIFFER(name, parameters, arguments)                                             \
-    PROVED(name);                                                                       \
+#define DIFFER(name, parameters, arguments)                                                        \
+    PROVED(name);                                                                                  \
     int name parameters { return is_one(x, y) ? ZC_BAD_ARGUMENT : proved_##name arguments; }
 
 /* ---- cords ---- */
@@ -116,14 +97,14 @@ MAKES(cord, zc_sprintf, lies_in(out, args, count * sizeof *args),
       (const void *format, size_t format_count, const zc_arg *args, size_t count, zc_cord *out, uint64_t *at),
       (format, format_count, args, count, out, at))
 
-JOINS_CORDS(zc_cat, (const zc_cord *x, const zc_cord *y, zc_cord *out), (x, y, out))
-JOINS_CORDS(zc_insert, (const zc_cord *x, uint64_t start, const zc_cord *y, zc_cord *out), (x, start, y, out))
-JOINS_CORDS(zc_replace, (const zc_cord *x, uint64_t start, uint64_t count, const zc_cord *y, zc_cord *out),
-            (x, start, count, y, out))
+JOINS(cord, zc_cat, (const zc_cord *x, const zc_cord *y, zc_cord *out), (x, y, out))
+JOINS(cord, zc_insert, (const zc_cord *x, uint64_t start, const zc_cord *y, zc_cord *out), (x, start, y, out))
+JOINS(cord, zc_replace, (const zc_cord *x, uint64_t start, uint64_t count, const zc_cord *y, zc_cord *out),
+      (x, start, count, y, out))
 
-READS(zc_append, 0, (zc_cord *x, const zc_cord *y), (x, y))
-READS(zc_splice, 0, (zc_cord *x, uint64_t start, uint64_t count, const zc_cord *y), (x, start, count, y))
-READS(zc_ncmp, 0, (const zc_cord *x, uint64_t i, const zc_cord *y, uint64_t j, uint64_t count, int32_t *order),
+READS(zc_append, 0, x, (zc_cord *x, const zc_cord *y), (x, y))
+READS(zc_splice, 0, x, (zc_cord *x, uint64_t start, uint64_t count, const zc_cord *y), (x, start, count, y))
+READS(zc_ncmp, 0, order, (const zc_cord *x, uint64_t i, const zc_cord *y, uint64_t j, uint64_t count, int32_t *order),
       (x, i, y, j, count, order))
 
 /* ---- a cord and itself ---- */
@@ -142,8 +123,8 @@ static int compared(const zc_cord *x, int32_t answer, int32_t *result) {
 }
 
 /* Answers what is so where y is x. */
-#define ITSELF(name, parameters, arguments, answer)                                     \
-    PROVED(name);                                                                       \
+#define ITSELF(name, parameters, arguments, answer)                                                \
+    PROVED(name);                                                                                  \
     int name parameters { return x == y ? answer : proved_##name arguments; }
 
 ITSELF(zc_str, (const zc_cord *x, uint64_t start, const zc_cord *y, uint64_t *place), (x, start, y, place),
@@ -183,9 +164,9 @@ int zc_lines_line(const zc_lines *x, const zc_cord *y, uint64_t number, zc_cord 
     return is_twice ? twice_zc_lines_line(x, y, number, out) : proved_zc_lines_line(x, y, number, out);
 }
 
-READS(zc_lines_edited_from, is_one(lines, x) || is_one(lines, y),
-          (zc_lines *lines, const zc_cord *x, const zc_cord *y, uint64_t start, uint64_t removed, uint64_t inserted),
-          (lines, x, y, start, removed, inserted))
+READS(zc_lines_edited_from, is_one(lines, x) || is_one(lines, y), lines,
+      (zc_lines *lines, const zc_cord *x, const zc_cord *y, uint64_t start, uint64_t removed, uint64_t inserted),
+      (lines, x, y, start, removed, inserted))
 
 MAKES(lazy, zc_lazy_share, out == x, (const zc_lazy *x, zc_lazy *out), (x, out))
 MAKES(lazy, zc_lazy_balance, out == x, (const zc_lazy *x, zc_lazy *out), (x, out))
@@ -194,7 +175,7 @@ MAKES(lazy, zc_lazy_substr, out == x, (const zc_lazy *x, uint64_t start, uint64_
 MAKES(lazy, zc_lazy_remove, out == x, (const zc_lazy *x, uint64_t start, uint64_t count, zc_lazy *out),
       (x, start, count, out))
 
-JOINS_LAZIES(zc_lazy_cat, (const zc_lazy *x, const zc_lazy *y, zc_lazy *out), (x, y, out))
-JOINS_LAZIES(zc_lazy_insert, (const zc_lazy *x, uint64_t start, const zc_lazy *y, zc_lazy *out), (x, start, y, out))
-JOINS_LAZIES(zc_lazy_replace, (const zc_lazy *x, uint64_t start, uint64_t count, const zc_lazy *y, zc_lazy *out),
-             (x, start, count, y, out))
+JOINS(lazy, zc_lazy_cat, (const zc_lazy *x, const zc_lazy *y, zc_lazy *out), (x, y, out))
+JOINS(lazy, zc_lazy_insert, (const zc_lazy *x, uint64_t start, const zc_lazy *y, zc_lazy *out), (x, start, y, out))
+JOINS(lazy, zc_lazy_replace, (const zc_lazy *x, uint64_t start, uint64_t count, const zc_lazy *y, zc_lazy *out),
+      (x, start, count, y, out))

@@ -246,7 +246,9 @@ static void nulls(void) {
     EXPECT(zc_rstr(none, 0, none, &place) == ZC_NULL && zc_str_in(none, 0, 0, none, &place) == ZC_NULL);
     EXPECT(zc_cmp(none, none, &order) == ZC_NULL && zc_cmp(&x, &x, no_order) == ZC_NULL);
     EXPECT(zc_equal(none, none, &order) == ZC_NULL && zc_ncmp(none, 0, none, 0, 0, &order) == ZC_NULL);
-    EXPECT(zc_ext_cord(NULL, none) == ZC_NULL && zc_edit_set(none, NULL) == ZC_NULL && zc_lines_set(none, NULL) == ZC_NULL);
+    EXPECT(zc_ncmp(&x, 0, &x, 0, 0, no_order) == ZC_NULL && zc_lines_edited_from(NULL, &x, &x, 0, 0, 0) == ZC_NULL);
+    EXPECT(zc_ext_cord(NULL, none) == ZC_NULL && zc_edit_set(none, NULL) == ZC_NULL);
+    EXPECT(zc_lines_set(none, NULL) == ZC_NULL);
     EXPECT(zc_lines_line(NULL, none, 0, none) == ZC_NULL && zc_lazy_cat(NULL, NULL, NULL) == ZC_NULL);
     EXPECT(place == 7 && order == 7);
 }
@@ -274,10 +276,12 @@ static void two_kinds(void) {
     EXPECT(zc_chunks_set(&chunks.text, 0, &chunks) == ZC_BAD_ARGUMENT);
     EXPECT(zc_edit_set(in_edit, &edit) == ZC_BAD_ARGUMENT && zc_edit_cord(&edit, 0, 1, in_edit) == ZC_BAD_ARGUMENT);
     EXPECT(zc_edit_to_cord(&edit, in_edit) == ZC_BAD_ARGUMENT);
-    EXPECT(zc_lines_set(in_lines, &lines) == ZC_BAD_ARGUMENT && zc_lines_start(&lines, in_lines, 0, &n) == ZC_BAD_ARGUMENT);
+    EXPECT(zc_lines_set(in_lines, &lines) == ZC_BAD_ARGUMENT);
+    EXPECT(zc_lines_start(&lines, in_lines, 0, &n) == ZC_BAD_ARGUMENT);
     EXPECT(zc_lines_of(&lines, in_lines, 0, &n) == ZC_BAD_ARGUMENT);
     EXPECT(zc_lines_utf8(&lines, in_lines, 0, 1, &n) == ZC_BAD_ARGUMENT);
-    EXPECT(zc_lines_line(&lines, in_lines, 0, &x) == ZC_BAD_ARGUMENT && zc_lines_line(&lines, &x, 0, in_lines) == ZC_BAD_ARGUMENT);
+    EXPECT(zc_lines_line(&lines, in_lines, 0, &x) == ZC_BAD_ARGUMENT);
+    EXPECT(zc_lines_line(&lines, &x, 0, in_lines) == ZC_BAD_ARGUMENT);
     EXPECT(zc_lines_edited(&lines, in_lines, 0, 1, 1) == ZC_BAD_ARGUMENT);
     EXPECT(zc_lines_edited_from(&lines, in_lines, &x, 0, 1, 1) == ZC_BAD_ARGUMENT);
     EXPECT(zc_lines_edited_from(&lines, &x, in_lines, 0, 1, 1) == ZC_BAD_ARGUMENT);

@@ -13,8 +13,9 @@
  *     zc_free(&both);
  *
  * Handles are owned one by one: a copy of the struct is the handle from then on, and the old one isn't used again.
- * Share the cord by zc_share to have two. One handle may be given twice in a call, and as its result too. What a call
- * takes as const it doesn't write to.
+ * Share the cord by zc_share to have two. One handle may be given twice in a call, and as its result too; one place as
+ * handles of two kinds, as a zc_ext and its first field, is ZC_BAD_ARGUMENT. What a call takes as const it doesn't
+ * write to.
  *
  * Calls that make a cord write it to *out, a handle that was begun. What it held is freed; where the call gives another
  * code than ZC_OK, it holds what it held. A null pointer to a handle or to a result is answered by ZC_NULL, or by
