@@ -317,7 +317,12 @@ static void print_texts(size_t x, size_t out) {
     refuse_in = below(16) == 0 ? 1 + below(4) : 0;
     made = texts[x];
     append(&made, wanted, (size_t)snprintf(wanted, sizeof wanted, "|%+05d%%", (int)args[1].number));
-    check_made(zc_sprintf("%s|%+05d%%", 10, args, 2, &cords[out], &at), out);
+    if (below(2) == 0) { /* the result is the cord of an argument too */
+        int code = zc_sprintf("%s|%+05d%%", 10, args, 2, &args[0].text, &at);
+        check_cord(&args[0].text, is_done(code) ? &made : &texts[x]);
+    } else {
+        check_made(zc_sprintf("%s|%+05d%%", 10, args, 2, &cords[out], &at), out);
+    }
     zc_free(&args[0].text);
 }
 
