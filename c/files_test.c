@@ -160,15 +160,18 @@ static void take_numbers(int fd, uint64_t *place, uint64_t count) {
     }
 }
 
-/* Puts that a full pipe stops part of the way say how far they came, and go on from there. */
+/* Puts that a full pipe stops part of the way, and in a block, say how far they came, and go on from there. */
 static void puts_say_how_much_went_out(zc_files *files, zc_lazy *lazy, zc_cord *x) {
     uint64_t from = 0, place = 0, done = 0, stops = 0;
     int ends[2], code;
+    char before = 0;
     open_pipe(ends);
+    EXPECT(write(ends[1], "x", 1) == 1);
     do {
         code = lazy != NULL ? zc_lazy_put_range(files, lazy, from, UINT64_MAX, ends[1], &done)
                             : zc_put_range(x, from, UINT64_MAX, ends[1], &done);
         EXPECT(code == ZC_OK || (code == ZC_WOULD_BLOCK && done > 0));
+        EXPECT(from > 0 || read(ends[0], &before, 1) == 1);
         take_numbers(ends[0], &place, done);
         from += done;
         stops += code == ZC_WOULD_BLOCK;
