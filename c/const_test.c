@@ -94,6 +94,13 @@ static void ask(int null) {
     EXPECT(zc_lazy_part(&held->lazy, 5000, bytes, 200, &got, &file, &place) == ZC_OK && got == 79);
 }
 
+/* A comparison of a cord with itself looks at no tree, and marks none. */
+static void ask_itself(void) {
+    int32_t answer = 7;
+    EXPECT(zc_cmp(&held->x, &held->x, &answer) == ZC_OK && answer == 0);
+    EXPECT(zc_equal(&held->x, &held->x, &answer) == ZC_OK && answer == 1);
+}
+
 /* Calls that share parts, or compare them: handles alone are locked. */
 static void make(void) {
     zc_cord out = ZC_EMPTY;
@@ -198,6 +205,7 @@ int main(void) {
     share();
     EXPECT(mprotect(room, ROOM, PROT_READ) == 0);
     ask(null);
+    ask_itself();
     printf("%lu rows\n", rows);
     return 0;
 }
