@@ -26,7 +26,7 @@ static int lies_in(const void *place, const void *bytes, size_t count) {
 
 /* The proved call, and what is called where a handle is given twice: apart, so that else a call saves no registers. */
 #define PROVED(name) extern __typeof__(name) proved_##name
-#define TWICE(name) static __attribute__((noinline, cold)) int twice_##name
+#define TWICE(name) static __attribute__((noinline)) int twice_##name
 
 /* Makes the call for a handle of its own. What it made goes to out. */
 #define MOVES(kind, name, arguments)                                                               \
