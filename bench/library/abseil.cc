@@ -117,7 +117,7 @@ void *abseil_edited(void *text, const struct edits *edits) {
         made->RemoveSuffix(behind.size());
         made->Append("e");
         made->Append(std::move(behind));
-        if (edits->are_kept) kept.push_back(*made);
+        if (edits->are_from) kept.push_back(*made);
     }
     keep(kept.data());
     new std::vector<absl::Cord>(std::move(kept));  // which stay, as in the other libraries

@@ -37,7 +37,7 @@ static inline uint64_t next_place(uint64_t *state, uint64_t bound) {
 struct edits {
     uint64_t size, count;
     int is_random;
-    int are_kept; /* whether the text after each edit is kept */
+    int are_from; /* whether the text after each edit is kept */
 };
 
 static inline uint64_t edit_place(const struct edits *edits, uint64_t done, uint64_t *state) {

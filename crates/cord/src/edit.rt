@@ -37,8 +37,7 @@ impl Text {
         ensures within_limit { OnOk result (length self.now + length text.now ≤ MAX_LEN) }
         ensures refused { IfErr result IsRefusal }
     {
-        let edited = self.replace_range(alloc, at, 0, text)?;
-        Ok(edited)
+        self.replace_range(alloc, at, 0, text)
     }
 
     /// This text without at most `count` of its bytes from `start` on: all of it where `start` is at or past the end.

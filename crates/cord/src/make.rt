@@ -28,8 +28,7 @@ impl Text {
         ensures within_limit { OnOk result (length string.now ≤ MAX_LEN) }
         ensures refused { IfErr result IsRefusal }
     {
-        let text = Text::from_bytes(alloc, string.as_bytes())?;
-        Ok(text)
+        Text::from_bytes(alloc, string.as_bytes())
     }
 
     /// `count` times the byte `byte`, which takes the same little memory whatever the count.

@@ -58,11 +58,11 @@ filling_text all f g x i h w a l t =
     let u : forest_cells f ≡ cells x.value = t ∙ ap (λ (ps : List Piece). forest_cells ps ++ cells x.value) e in
     sym u ∙ sym (append-nil (forest_cells f)) ∙ i.text
 
--- and its parts are kept
-pub filling_kept : (all : List Shared) (f g : List Piece) (x : Shared) → IsFilling all [] f → total_len all ≤ MAX_LEN → IsForest g →
+-- and its parts come from theirs
+pub filling_from : (all : List Shared) (f g : List Piece) (x : Shared) → IsFilling all [] f → total_len all ≤ MAX_LEN → IsForest g →
     AllFrom MAX_INDEX g → forest_len f ≡ forest_len g + len_of x.value → PartsFrom (forest_parts f) (forest_parts g ++ parts x.value) →
     PartsFrom (all_parts all) (parts x.value)
-filling_kept all f g x i h w a l k =
+filling_from all f g x i h w a l k =
     let e : g ≡ [] = no_pieces g w a (omega (arith, i.len)) in
     let m : PartsFrom (forest_parts f) (parts x.value) = rw e at k in
     let n : PartsFrom (all_parts all) (forest_parts f) = rw append-nil at i.parts_from in

@@ -13,7 +13,7 @@ use Rattle.cord_node.proofs.PartsFromLemmas.{PartsFrom-self, PartsFrom-both, Par
 use Rattle.cord_balance.specs.declared.forest.Piece.{Piece}
 use Rattle.cord_balance.specs.inner.Forest.{AllFrom, IsForest, IsForm, forest_cells, forest_parts, forest_len}
 use Rattle.cord_balance.proofs.ForestLemmas.{no_pieces}
-use Rattle.cord_balance.proofs.Inserting.{kept_two}
+use Rattle.cord_balance.proofs.Inserting.{two_from}
 
 -- a node was put after pieces
 pub record IsPut (old new : List Piece) (n : Node) : Type 0 where
@@ -40,7 +40,7 @@ cat_put old mid new n p l q r len depth count mark e s one two =
     let put : IsPut old new (Cat' mark depth len p l q r count) = record {
       text = two.text ∙ ap (λ (cs : List Cell). cs ++ cells r) one.text ∙ append_assoc (forest_cells old) (cells l) (cells r);
       len = omega (arith, one.len, two.len, long);
-      parts_from = kept_two (forest_parts old) (parts l) (parts r) (forest_parts mid) (forest_parts new) one.parts_from two.parts_from;
+      parts_from = two_from (forest_parts old) (parts l) (parts r) (forest_parts mid) (forest_parts new) one.parts_from two.parts_from;
     } in
     subst (λ (m : Node). IsPut old new m) (sym e) put
 

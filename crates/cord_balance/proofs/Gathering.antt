@@ -41,9 +41,9 @@ depth_put rest p (Some n) node i r u =
     let e : depth_of node.value ≤ max (depth_of p.node.value) (depth_of n.value) + 1 = u.depth in
     omega arith
 
--- the last piece joined with what stands to its right is kept
-pub kept_put : (a b c j n : List Part) → PartsFrom a (b ++ c ++ j) → PartsFrom (c ++ j) n → PartsFrom a (b ++ n)
-kept_put a b c j n h k =
+-- so for the last piece, joined with what stands to its right
+pub put_from : (a b c j n : List Part) → PartsFrom a (b ++ c ++ j) → PartsFrom (c ++ j) n → PartsFrom a (b ++ n)
+put_from a b c j n h k =
     let l : PartsFrom (b ++ (c ++ j)) (b ++ n) = PartsFrom-both b (c ++ j) b n (PartsFrom-self b) k in
     PartsFrom-trans a (b ++ (c ++ j)) (b ++ n) (rw (← append_assoc b c j) h) l
 
@@ -62,7 +62,7 @@ gathering_step old rest p joined node below g b u =
           ∙ append_assoc (forest_cells rest) (cells p.node.value) (piece_cells joined) ∙ ap (λ (l : List Cell). forest_cells rest ++ l)
           (sym u.text);
       len = omega (arith, g.len, u.len);
-      parts_from = kept_put (forest_parts old) (forest_parts rest) (parts p.node.value) (piece_parts joined) (parts node.value)
+      parts_from = put_from (forest_parts old) (forest_parts rest) (parts p.node.value) (piece_parts joined) (parts node.value)
           (rw (← forest_parts-snoc rest p) g.parts_from) u.parts_from;
       gathered = (u.sound, u.shallow, j);
       right = AllFrom-lower (depth_of node.value + 1) (p.slot + 1) rest k (IsForest-falls rest p g.forest);

@@ -56,18 +56,18 @@ joined_depth_in_slot slot len dr d None i g b n s = let k : dr + 2 < slot + 1 = 
 joined_depth_in_slot slot len dr d (Some x) i g b n s = let k : dr + 2 < slot + 1 =
     fib_below (dr + 2) (slot + 1) (omega (arith, i.below)) in let h : depth_of x.value < slot = g.2 in omega arith
 
--- what is put into a forest is kept
-pub kept_insert : (old rest small n joined new : List Part) → PartsFrom old (rest ++ small) → PartsFrom (small ++ n) joined →
+-- parts of what is put into a forest come from there
+pub insert_from : (old rest small n joined new : List Part) → PartsFrom old (rest ++ small) → PartsFrom (small ++ n) joined →
     PartsFrom (rest ++ joined) new → PartsFrom (old ++ n) new
-kept_insert old rest small n joined new a b c =
+insert_from old rest small n joined new a b c =
     let p : PartsFrom (old ++ n) ((rest ++ small) ++ n) = PartsFrom-both old n (rest ++ small) n a (PartsFrom-self n) in
     let q : PartsFrom (rest ++ (small ++ n)) (rest ++ joined) = PartsFrom-both rest (small ++ n) rest joined (PartsFrom-self rest) b in
     let e : PartsFrom ((rest ++ small) ++ n) (rest ++ joined) = rw (append_assoc rest small n) q in
     PartsFrom-trans (old ++ n) ((rest ++ small) ++ n) new p (PartsFrom-trans ((rest ++ small) ++ n) (rest ++ joined) new e c)
 
 -- two parts of a tree, one after the other
-pub kept_two : (old l r mid new : List Part) → PartsFrom (old ++ l) mid → PartsFrom (mid ++ r) new → PartsFrom (old ++ (l ++ r)) new
-kept_two old l r mid new a b =
+pub two_from : (old l r mid new : List Part) → PartsFrom (old ++ l) mid → PartsFrom (mid ++ r) new → PartsFrom (old ++ (l ++ r)) new
+two_from old l r mid new a b =
     let p : PartsFrom ((old ++ l) ++ r) (mid ++ r) = PartsFrom-both (old ++ l) r mid r a (PartsFrom-self r) in
     let q : PartsFrom (old ++ (l ++ r)) (mid ++ r) = rw (← append_assoc old l r) p in
     PartsFrom-trans (old ++ (l ++ r)) (mid ++ r) new q b

@@ -16,7 +16,7 @@ use Rattle.cord_balance.proofs.States.{IsMerging, IsJoinOf}
 use Rattle.cord_balance.proofs.FibLemmas.{fib_mono, fib_sum, fib_index}
 use Rattle.cord_balance.proofs.ForestLemmas.{forest_cells-snoc, forest_parts-snoc, forest_len-snoc, IsForest-init, IsForest-last}
 use Rattle.cord_balance.proofs.ForestLemmas.{IsForest-falls, IsForest-push, AllFrom-lower, AllFrom-last, joined_shallow}
-use Rattle.cord_balance.proofs.Gathering.{depth_in_slot, kept_put}
+use Rattle.cord_balance.proofs.Gathering.{depth_in_slot, put_from}
 
 -- two that are both in slot t or above
 pub merged_shallow : (de dy le ly t : ℕ) → fib_of (de + 1) ≤ le → fib_of (dy + 1) ≤ ly → de ≤ t → dy ≤ t → fib_of t ≤ le → fib_of t ≤ ly →
@@ -91,7 +91,7 @@ merging_step old rest p node joined next slot slot' g b u s =
           ∙ append_assoc (forest_cells rest) (cells p.node.value) (cells joined.value) ∙ ap (λ (l : List Cell). forest_cells rest ++ l)
           (sym u.text);
       len = omega (arith, g.len, u.len);
-      parts_from = kept_put (forest_parts old ++ parts node.value) (forest_parts rest) (parts p.node.value) (parts joined.value)
+      parts_from = put_from (forest_parts old ++ parts node.value) (forest_parts rest) (parts p.node.value) (parts joined.value)
           (parts next.value) (rw (← forest_parts-snoc rest p) g.parts_from) u.parts_from;
     }
 

@@ -207,8 +207,7 @@ impl Extensible {
         ensures refused { IsOkUnless result CordError.NoMemory }
     {
         let built = self.built.read(alloc)?;
-        let whole = built.append_bytes(alloc, &self.bytes[..self.count])?;
-        Ok(whole)
+        built.append_bytes(alloc, &self.bytes[..self.count])
     }
 
     // Has these bytes from now on, and none that are gathered.

@@ -112,8 +112,7 @@ fn shallow(alloc: Global, cord: &Cord) -> Result<Cord, CordError>
         let same = cord.share(alloc)?;
         Ok(same)
     } else {
-        let balanced = cord.balance(alloc)?;
-        Ok(balanced)
+        cord.balance(alloc)
     }
 }
 

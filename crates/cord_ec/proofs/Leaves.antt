@@ -12,7 +12,7 @@ use Rattle.cord_core.specs.Cord.{parts_of, IsCord}
 use Rattle.cord_core.specs.Forms.{IsLeafOf}
 use Rattle.cord_raw.specs.declared.buffer.TheConstants.RawBuf.{CAP}
 use Rattle.cord_ec.specs.Gathered.{leaf_parts, IsGathered, AreFromOr, Gathered}
-use Rattle.cord_ec.proofs.MadeLemmas.{IsOwn, are_through, made_kept, made_more, made_through, made_after, made_self}
+use Rattle.cord_ec.proofs.MadeLemmas.{IsOwn, are_through, made_from, made_more, made_through, made_after, made_self}
 
 gathered_range : (p q : Part) → IsRangeOf p q → IsGathered q → IsGathered p
 gathered_range (leaf_part bytes start len) (leaf_part bytes' start' len') h k = omega (arith, h.1, k)
@@ -69,29 +69,29 @@ leaf_after ps b fits = subst (λ (old : List Part). Gathered 1 old (ps ++ leaf_p
 
 pub leaf_added : (ps new : List Part) (b : List ℕ) → length b ≤ CAP → PartsFrom (ps ++ leaf_parts b) new → Gathered 1 ps new
 leaf_added ps new b fits k = made_through IsGathered gathered_own 1 0 ps (ps ++ leaf_parts b) new (leaf_after ps b fits)
-    (made_kept IsGathered gathered_own (ps ++ leaf_parts b) new k)
+    (made_from IsGathered gathered_own (ps ++ leaf_parts b) new k)
 
--- a leaf of its own after what is kept
+-- a leaf of its own after old parts
 pub leaf_begun : (old longer : List Part) (b : List ℕ) → length b ≤ CAP → PartsFrom old longer → Gathered 1 old (longer ++ leaf_parts b)
 leaf_begun old longer b fits k = made_through IsGathered gathered_own 0 1 old longer (longer ++ leaf_parts b)
-    (made_kept IsGathered gathered_own old longer k) (leaf_after longer b fits)
+    (made_from IsGathered gathered_own old longer k) (leaf_after longer b fits)
 
 -- no bytes after parts
 no_bytes : (P : List Part → Type 0) (ps : List Part) (b : List ℕ) → b ≡ [] → P ps → P (ps ++ leaf_parts b)
 no_bytes P ps b none h = subst (λ (x : List ℕ). P (ps ++ leaf_parts x)) (sym none) (subst P (sym (append-nil ps)) h)
 
--- what is gathered after what is kept, and no bytes after that
+-- what is gathered after old parts, and no bytes after that
 pub leaves_added : (old so_far new : List Part) (b : List ℕ) (m : ℕ) → b ≡ [] → PartsFrom old so_far → Gathered m so_far new →
     Gathered m old (new ++ leaf_parts b)
 leaves_added old so_far new b m none k h = no_bytes (λ (ps : List Part). Gathered m old ps) new b none
     (made_more IsGathered gathered_own (0 + m) m old new (omega arith)
-    (made_through IsGathered gathered_own 0 m old so_far new (made_kept IsGathered gathered_own old so_far k) h))
+    (made_through IsGathered gathered_own 0 m old so_far new (made_from IsGathered gathered_own old so_far k) h))
 
--- what is kept, and no bytes after that
+-- old parts, and no bytes after them
 pub flushed : (old new : List Part) (b : List ℕ) → b ≡ [] → PartsFrom old new → PartsFrom old (new ++ leaf_parts b)
 flushed old new b none k = no_bytes (λ (ps : List Part). PartsFrom old ps) new b none k
 
--- a cord after what is kept, and no bytes after that
+-- a cord after old parts, and no bytes after that
 pub cord_added : (old so_far x longer : List Part) (b : List ℕ) → b ≡ [] → PartsFrom old so_far → PartsFrom (so_far ++ x) longer →
     PartsFrom (old ++ x) (longer ++ leaf_parts b)
 cord_added old so_far x longer b none k j = flushed (old ++ x) longer b none (PartsFrom-join old x so_far x longer k (PartsFrom-self x) j)

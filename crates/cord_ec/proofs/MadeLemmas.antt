@@ -57,17 +57,17 @@ module _ (own : Part → Type 0) (laws : IsOwn own) where
   are_through [] qs rs h k = tt
   are_through (p ∷ ps) qs rs h k = (from_through p qs rs h.0 k, are_through ps qs rs h.1 k)
 
-  -- what is kept is so too
-  from_kept : (p : Part) (qs : List Part) → IsFrom p qs → IsFromOr own p qs
-  from_kept p [] h = laws.small p h
-  from_kept p (q ∷ qs) h = ⊎_elim (λ a. inl a) (λ b. inr (from_kept p qs b)) h
+  -- what comes from parts is so too
+  or_from : (p : Part) (qs : List Part) → IsFrom p qs → IsFromOr own p qs
+  or_from p [] h = laws.small p h
+  or_from p (q ∷ qs) h = ⊎_elim (λ a. inl a) (λ b. inr (or_from p qs b)) h
 
-  pub are_kept : (ps qs : List Part) → AreFrom ps qs → AreFromOr own ps qs
-  are_kept [] qs h = tt
-  are_kept (p ∷ ps) qs h = (from_kept p qs h.0, are_kept ps qs h.1)
+  pub are_from : (ps qs : List Part) → AreFrom ps qs → AreFromOr own ps qs
+  are_from [] qs h = tt
+  are_from (p ∷ ps) qs h = (or_from p qs h.0, are_from ps qs h.1)
 
-  pub made_kept : (old new : List Part) → PartsFrom old new → MadeOf own 0 old new
-  made_kept old new k = record { no_more = omega (arith, k.no_more); from_there = are_kept new old k.from_there }
+  pub made_from : (old new : List Part) → PartsFrom old new → MadeOf own 0 old new
+  made_from old new k = record { no_more = omega (arith, k.no_more); from_there = are_from new old k.from_there }
 
   pub made_self : (ps : List Part) → MadeOf own 0 ps ps
   made_self ps = record { no_more = omega arith; from_there = are_self ps }

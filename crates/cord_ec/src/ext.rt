@@ -267,8 +267,7 @@ fn cat_within(alloc: Global, left: &Cord, right: &Cord) -> Result<Cord, CordErro
     ensures sound { IfOk result IsCord }
     ensures refused { IsOkUnless result CordError.NoMemory }
 {
-    let both = Cord::cat(alloc, left, right)?;
-    Ok(both)
+    Cord::cat(alloc, left, right)
 }
 
 // The bytes of a buffer as one leaf.

@@ -6,7 +6,7 @@ use Rattle.cord_node.proofs.PartsFromLemmas.{PartsFrom-self}
 use Rattle.cord_raw.specs.declared.buffer.TheConstants.RawBuf.{CAP}
 use Rattle.cord_ec.specs.Gathered.{leaf_parts, IsGathered, AreFromOr, Gathered}
 use Rattle.cord_ec.proofs.Leaves.{gathered_own, leaf_begun}
-use Rattle.cord_ec.proofs.MadeLemmas.{made_kept, are_kept, are_self, are_left, are_right, are_both, made_self, made_more, made_through, made_after, made_beside}
+use Rattle.cord_ec.proofs.MadeLemmas.{made_from, are_from, are_self, are_left, are_right, are_both, made_self, made_more, made_through, made_after, made_beside}
 
 leaf_small : (b : List ℕ) → length b ≤ CAP → AreFromOr IsGathered (leaf_parts b) []
 leaf_small [] h = tt
@@ -46,7 +46,7 @@ tail_cut ps a n fits = made_after IsGathered gathered_own 1 ps (leaf_parts a) (l
 pub spliced : (old middle new : List Part) → AtMostOneMore old middle new → AreFrom new (old ++ middle) → Gathered 1 (old ++ middle) new
 spliced old middle new few from = record {
   no_more = omega (arith, few, length-append old middle);
-  from_there = are_kept IsGathered gathered_own new (old ++ middle) from;
+  from_there = are_from IsGathered gathered_own new (old ++ middle) from;
 }
 
 -- leaves beside what was there
@@ -97,10 +97,10 @@ untouched n ps middle = record {
   from_there = are_left IsGathered gathered_own ps ps middle (are_self IsGathered gathered_own ps);
 }
 
--- what is kept of leaves that were gathered
-pub kept_gathered : (k : ℕ) (old ps new : List Part) → Gathered k old ps → PartsFrom ps new → Gathered k old new
-kept_gathered k old ps new g h = more (k + 0) k old new (omega arith)
-    (made_through IsGathered gathered_own k 0 old ps new g (made_kept IsGathered gathered_own ps new h))
+-- what comes from leaves that were gathered
+pub gathered_then_from : (k : ℕ) (old ps new : List Part) → Gathered k old ps → PartsFrom ps new → Gathered k old new
+gathered_then_from k old ps new g h = more (k + 0) k old new (omega arith)
+    (made_through IsGathered gathered_own k 0 old ps new g (made_from IsGathered gathered_own ps new h))
 
 -- the same parts
 pub unchanged_parts : (n : ℕ) (all old new : List Part) → old ≡ all → new ≡ old → Gathered n all new

@@ -71,8 +71,8 @@ pub kept_of_read : (consistent : FileSystem → Type 0) (files : List OpenFile) 
     IsCached consistent files (key, block)
 kept_of_read consistent files key block opened read = record {
   opened = opened;
-  block = λ f e file_system kept. of_slot (λ f. IsBlock f.len (bytes_at file_system (string_bytes f.path)) key.number block.value) e
-      (read file_system kept);
+  block = λ f e file_system agrees. of_slot (λ f. IsBlock f.len (bytes_at file_system (string_bytes f.path)) key.number block.value) e
+      (read file_system agrees);
 }
 
 -- what is copied of a block is the file's
@@ -135,7 +135,7 @@ pub kept_earlier : (old new : FileSystem → Type 0) (files : List OpenFile) (en
     ((file_system : FileSystem) → new file_system → old file_system) → AreCached old files entries → AreCached new files entries
 kept_earlier old new files entries earlier all e h =
     let was = all e h in
-    record { opened = was.opened; block = λ f here file_system kept. was.block f here file_system (earlier file_system kept) }
+    record { opened = was.opened; block = λ f here file_system agrees. was.block f here file_system (earlier file_system agrees) }
 
 -- the table stays sound where no other file system is consistent, and the numbers that were handed out stay
 pub sound_moved : (old new : FileSystem → Type 0) (before after : ℕ → Option (List ℕ × ℕ)) (files : List OpenFile) (blocks : List Slotted) →
@@ -145,8 +145,8 @@ pub sound_moved : (old new : FileSystem → Type 0) (before after : ℕ → Opti
 sound_moved old new before after files blocks earlier stays sound = record {
   handed_out = λ k f h. let was = sound.handed_out k f h in stays f.no.0 (ap is_some was) ∙ was;
   short_enough = sound.short_enough;
-  there = λ k f h file_system kept. sound.there k f h file_system (earlier file_system kept);
-  as_long = λ k f h file_system kept. sound.as_long k f h file_system (earlier file_system kept);
+  there = λ k f h file_system agrees. sound.there k f h file_system (earlier file_system agrees);
+  as_long = λ k f h file_system agrees. sound.as_long k f h file_system (earlier file_system agrees);
   cached = kept_earlier old new files blocks earlier sound.cached;
 }
 

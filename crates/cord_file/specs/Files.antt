@@ -57,4 +57,4 @@ lengths_of_table file_system files h (suc (suc n)) = lengths_of_one file_system 
 pub as_long_as_reported : (consistent : FileSystem → Type 0) (files : List OpenFile) → AreAsLong consistent files →
     (file_system : FileSystem) → consistent file_system →
     HasLengths (lengths_in (opened_of files)) (table_in (opened_of files) file_system)
-as_long_as_reported consistent files h file_system kept = lengths_of_table file_system files (λ k file e. h k file e file_system kept)
+as_long_as_reported consistent files h file_system agrees = lengths_of_table file_system files (λ k file e. h k file e file_system agrees)

@@ -63,8 +63,8 @@ pub func_text : {before consistent : FileSystem → Type 0} (table : FileSystem 
     IsTextOver consistent table (Func id b (s + a)) y → IsTextOver consistent table (Func id (a + b) s) (x ++ y)
 func_text table id s a b x y earlier h k = record {
   len = length-append x y ∙ (let i : length x ≡ a = h.len in let j : length y ≡ b = k.len in omega arith);
-  text = λ file_system kept. func_range (table file_system id.0) x y s a b (h.text file_system (earlier file_system kept))
-      (k.text file_system kept);
+  text = λ file_system agrees. func_range (table file_system id.0) x y s a b (h.text file_system (earlier file_system agrees))
+      (k.text file_system agrees);
 }
 
 -- a range of a source and a prefix of the range after it
@@ -83,8 +83,8 @@ pub func_prefix : {before consistent : FileSystem → Type 0} (table : FileSyste
     IsPrefixOver consistent table (Func id b (s + a)) y → IsPrefixOver consistent table (Func id n s) (x ++ y)
 func_prefix table id s a b n x y e earlier h k = record {
   len = rw (length-append x y) (let i : length x ≡ a = h.len in let j : length y ≤ b = k.len in omega arith);
-  prefix = λ file_system kept. range_prefix (table file_system id.0) x y s a b n e (h.text file_system (earlier file_system kept))
-      (k.prefix file_system kept);
+  prefix = λ file_system agrees. range_prefix (table file_system id.0) x y s a b n e (h.text file_system (earlier file_system agrees))
+      (k.prefix file_system agrees);
 }
 
 -- the two sides of a concatenation
@@ -100,7 +100,7 @@ pub cat_text : {before consistent : FileSystem → Type 0} (table : FileSystem �
 cat_text table l r n x y e earlier h k = record {
   len = length-append x y ∙ (let i : length x ≡ len_of l = h.len in let j : length y ≡ len_of r = k.len in
       let m : len_of n ≡ len_of l + len_of r = e.len in omega arith);
-  text = λ file_system kept. rw (h.text file_system (earlier file_system kept), k.text file_system kept)
+  text = λ file_system agrees. rw (h.text file_system (earlier file_system agrees), k.text file_system agrees)
       (sym (e.bytes (table file_system)));
 }
 
@@ -109,8 +109,8 @@ pub cat_left : {consistent : FileSystem → Type 0} (table : FileSystem → Tabl
     IsPrefixOver consistent table l x → IsPrefixOver consistent table n x
 cat_left table l r n x e h = record {
   len = let i : length x ≤ len_of l = h.len in let m : len_of n ≡ len_of l + len_of r = e.len in omega arith;
-  prefix = λ file_system kept. let t = table file_system in
-      prefix_more (bytes_over t n) (bytes_over t l) (bytes_over t r) x (e.bytes t) (h.prefix file_system kept);
+  prefix = λ file_system agrees. let t = table file_system in
+      prefix_more (bytes_over t n) (bytes_over t l) (bytes_over t r) x (e.bytes t) (h.prefix file_system agrees);
 }
 
 -- the left one and a prefix of the right one
@@ -121,9 +121,9 @@ pub cat_right : {before consistent : FileSystem → Type 0} (table : FileSystem 
 cat_right table l r n x y e earlier h k = record {
   len = rw (length-append x y) (let i : length x ≡ len_of l = h.len in let j : length y ≤ len_of r = k.len in
       let m : len_of n ≡ len_of l + len_of r = e.len in omega arith);
-  prefix = λ file_system kept. let t = table file_system in
-      rw (h.text file_system (earlier file_system kept))
-      (prefix_join (bytes_over t n) (bytes_over t l) (bytes_over t r) y (e.bytes t) (k.prefix file_system kept));
+  prefix = λ file_system agrees. let t = table file_system in
+      rw (h.text file_system (earlier file_system agrees))
+      (prefix_join (bytes_over t n) (bytes_over t l) (bytes_over t r) y (e.bytes t) (k.prefix file_system agrees));
 }
 
 -- what holds where there is an error

@@ -40,8 +40,7 @@ pub fn iter5<S: Source, V: Visitor>(
     let Some(root) = cord.root() else {
         unreachable!()
     };
-    let stopped = walk_node(root.as_ref(), i, src, visitor)?;
-    Ok(stopped)
+    Ok(walk_node(root.as_ref(), i, src, visitor)?)
 }
 
 /// Hands a visitor the bytes of a cord until it stops, as `iter5` from place 0 on: the empty cord answers false without
@@ -65,8 +64,7 @@ pub fn iter<S: Source, V: Visitor>(
     let Some(root) = cord.root() else {
         return Ok(false);
     };
-    let stopped = walk_node(root.as_ref(), 0, src, visitor)?;
-    Ok(stopped)
+    Ok(walk_node(root.as_ref(), 0, src, visitor)?)
 }
 
 // Walks over the text of a node from a place on.

@@ -299,17 +299,17 @@ module _ (xs fresh : List Block) (s : ℕ) where
   pub one_replaced : (now : List Block) (i : ℕ) (d : Block) → now ≡ replaced i → i < length fresh → s + length fresh ≤ length xs →
       set now (s + i) (get_or fresh i d) ≡ replaced (i + 1)
   one_replaced now i d is lt le =
-      let front : List Block = take s xs ++ take i fresh in
-      let len : length front ≡ s + i = omega (arith, lt, le, length-append (take s xs) (take i fresh), length-take s xs, length-take i fresh) in
+      let prefix : List Block = take s xs ++ take i fresh in
+      let len : length prefix ≡ s + i = omega (arith, lt, le, length-append (take s xs) (take i fresh), length-take s xs, length-take i fresh) in
       let some : 0 < length (drop (s + i) xs) = omega (arith, lt, le, length-drop (s + i) xs) in
       let here : (s + i) - (s + i) ≡ 0 = omega arith in
       let next : (s + i) + 1 ≡ s + (i + 1) = omega arith in
       ap (λ (w : List Block). set w (s + i) (get_or fresh i d)) is
-      ∙ set-append_right front (drop (s + i) xs) (s + i) (s + i) (get_or fresh i d) len (omega arith)
-      ∙ ap (λ (n : ℕ). front ++ set (drop (s + i) xs) n (get_or fresh i d)) here
-      ∙ ap (λ (w : List Block). front ++ w) (set_one (drop (s + i) xs) 0 (get_or fresh i d) some)
-      ∙ ap (λ (w : List Block). front ++ ((get_or fresh i d ∷ []) ++ w)) (drop-drop 1 (s + i) xs ∙ ap (λ (n : ℕ). drop n xs) next)
-      ∙ sym (append_assoc front (get_or fresh i d ∷ []) (drop (s + (i + 1)) xs))
+      ∙ set-append_right prefix (drop (s + i) xs) (s + i) (s + i) (get_or fresh i d) len (omega arith)
+      ∙ ap (λ (n : ℕ). prefix ++ set (drop (s + i) xs) n (get_or fresh i d)) here
+      ∙ ap (λ (w : List Block). prefix ++ w) (set_one (drop (s + i) xs) 0 (get_or fresh i d) some)
+      ∙ ap (λ (w : List Block). prefix ++ ((get_or fresh i d ∷ []) ++ w)) (drop-drop 1 (s + i) xs ∙ ap (λ (n : ℕ). drop n xs) next)
+      ∙ sym (append_assoc prefix (get_or fresh i d ∷ []) (drop (s + (i + 1)) xs))
       ∙ ap (λ (w : List Block). w ++ drop (s + (i + 1)) xs) (append_assoc (take s xs) (take i fresh) (get_or fresh i d ∷ [])
       ∙ ap (λ (w : List Block). take s xs ++ w) (sym (take_more fresh i d lt)))
 

@@ -47,7 +47,7 @@ AreFrom-self (p ∷ ps) = (inl (IsRangeOf-self p), AreFrom-append_right ps (p �
 pub AreFrom_same : (old new : List Part) → new ≡ old → AreFrom new old
 AreFrom_same old new e = rw e (AreFrom-self old)
 
--- what stays as it is, is kept
+-- parts come from themselves
 pub PartsFrom-self : (ps : List Part) → PartsFrom ps ps
 PartsFrom-self ps = record { no_more = omega arith; from_there = AreFrom-self ps }
 
@@ -102,11 +102,11 @@ pub AreFrom-trans : (ps qs rs : List Part) → AreFrom ps qs → AreFrom qs rs �
 AreFrom-trans [] qs rs h k = tt
 AreFrom-trans (p ∷ ps) qs rs h k = (IsFrom-through p qs rs h.0 k, AreFrom-trans ps qs rs h.1 k)
 
--- what is kept from what is kept
+-- through parts between
 pub PartsFrom-trans : (a b c : List Part) → PartsFrom a b → PartsFrom b c → PartsFrom a c
 PartsFrom-trans a b c h k = record { no_more = omega arith; from_there = AreFrom-trans c b a k.from_there h.from_there }
 
--- kept from the first of two lists
+-- from the first of two lists
 pub PartsFrom-left : (a b ps : List Part) → PartsFrom a ps → PartsFrom (a ++ b) ps
 PartsFrom-left a b ps h = record {
   no_more = omega (arith, h.no_more, length-append a b);
@@ -114,25 +114,25 @@ PartsFrom-left a b ps h = record {
       h.from_there;
 }
 
--- kept from the second of two lists
+-- from the second of two lists
 pub PartsFrom-right : (a b ps : List Part) → PartsFrom b ps → PartsFrom (a ++ b) ps
 PartsFrom-right a b ps h = record {
   no_more = omega (arith, h.no_more, length-append a b);
   from_there = AreFrom-append_right ps a b h.from_there;
 }
 
--- two that are kept, one after the other
+-- two lists, one after the other
 pub PartsFrom-both : (a b ps qs : List Part) → PartsFrom a ps → PartsFrom b qs → PartsFrom (a ++ b) (ps ++ qs)
 PartsFrom-both a b ps qs h k = record {
   no_more = omega (arith, h.no_more, k.no_more, length-append a b, length-append ps qs);
   from_there = AreFrom-append ps qs (a ++ b) (AreFrom-append_left ps a b h.from_there) (AreFrom-append_right qs a b k.from_there);
 }
 
--- two that are kept, joined to a third
+-- two lists, joined to a third
 pub PartsFrom-join : (a b ps qs rs : List Part) → PartsFrom a ps → PartsFrom b qs → PartsFrom (ps ++ qs) rs → PartsFrom (a ++ b) rs
 PartsFrom-join a b ps qs rs h k j = PartsFrom-trans (a ++ b) (ps ++ qs) rs (PartsFrom-both a b ps qs h k) j
 
--- one more of a list that is kept in order
+-- one more of a list in order
 pub PartsFrom-more : (all old x rest new : List Part) → PartsFrom all (old ++ (x ++ rest)) → PartsFrom (old ++ x) new → PartsFrom all
     (new ++ rest)
 PartsFrom-more all old x rest new a b =

@@ -26,7 +26,7 @@ pub fn leaf_range(
         (leaf_part (rc_slice_items bytes) start len ∷ [])) }
 {
     let mark = Mark::new(&bytes, &(start, len));
-    let node = Rc::new(
+    Ok(Rc::new(
         alloc,
         Node::Leaf {
             bytes,
@@ -34,8 +34,7 @@ pub fn leaf_range(
             len,
             mark,
         },
-    )?;
-    Ok(node)
+    )?)
 }
 
 /// A part that is the whole of these bytes: 1 to `MAX_LEN` of them. Refused where memory was refused.
@@ -60,8 +59,7 @@ pub fn run(alloc: Global, byte: u8, len: u64) -> Result<Rc<Node>, AllocError>
     ensures sound { IfOk result (λ node. IsSound node.value) }
     ensures depth { IfOk result (λ node. depth_of node.value ≡ 0) }
 {
-    let node = Rc::new(alloc, Node::Run { byte, len })?;
-    Ok(node)
+    Ok(Rc::new(alloc, Node::Run { byte, len })?)
 }
 
 /// A part that is `len` bytes of the source `id`, from its byte `start` on: at least one byte, none
@@ -73,8 +71,7 @@ pub fn func(alloc: Global, id: SourceId, start: u64, len: u64) -> Result<Rc<Node
     ensures sound { IfOk result (λ node. IsSound node.value) }
     ensures depth { IfOk result (λ node. depth_of node.value ≡ 0) }
 {
-    let node = Rc::new(alloc, Node::Func { id, start, len })?;
-    Ok(node)
+    Ok(Rc::new(alloc, Node::Func { id, start, len })?)
 }
 
 // What a concatenation of these two sides stores: its length, its depth, how many parts it has, and its mark.
@@ -117,7 +114,7 @@ fn cat(alloc: Global, left: &Rc<Node>, right: &Rc<Node>) -> Result<Rc<Node>, All
     let (len, depth, part_count, mark) = stored(left, right);
     let left = left.clone()?;
     let right = right.clone()?;
-    let node = Rc::new(
+    Ok(Rc::new(
         alloc,
         Node::Cat {
             mark,
@@ -127,8 +124,7 @@ fn cat(alloc: Global, left: &Rc<Node>, right: &Rc<Node>) -> Result<Rc<Node>, All
             len,
             part_count,
         },
-    )?;
-    Ok(node)
+    )?)
 }
 
 // One leaf of the bytes of two.
@@ -146,8 +142,7 @@ fn merged(alloc: Global, left: &[u8], right: &[u8]) -> Result<Rc<Node>, AllocErr
     let mut bytes = Vec::with_capacity(alloc, left.len() + right.len())?;
     bytes.extend_from_slice(left)?;
     bytes.extend_from_slice(right)?;
-    let node = leaf(alloc, RcSlice::from_vec(bytes)?)?;
-    Ok(node)
+    leaf(alloc, RcSlice::from_vec(bytes)?)
 }
 
 /// The text of `left` and then that of `right`, which are shared. Two nodes of the form `Leaf`, of at

@@ -122,8 +122,7 @@ fn merged_three(
     bytes.extend_from_slice(prefix)?;
     bytes.extend_from_slice(middle)?;
     bytes.extend_from_slice(back)?;
-    let node = leaf(alloc, RcSlice::from_vec(bytes)?)?;
-    Ok(node)
+    leaf(alloc, RcSlice::from_vec(bytes)?)
 }
 
 // The bytes of a leaf, and none where there is no node.

@@ -134,10 +134,10 @@ pub leaf_span : (m : Node) (s : Span) (items xs : List ℕ) (start len from at k
     ((t : Table) → bytes_over t m ≡ take len (drop start items)) → len_of m ≡ len → start + len ≤ length items → from ≡ start + at →
     at + k ≤ len → 0 < k → xs ≡ take k (drop from items) → span_len s ≡ length xs → ((t : Table) → span_bytes t s ≡ xs) →
     ((lengths : Lengths) → SpanFitsIn lengths s) → IsSpanAt m at s
-leaf_span m s items xs start len from at k e long behind f h some is count bytes fits =
+leaf_span m s items xs start len from at k e long covered f h some is count bytes fits =
     let whole : span_len s ≡ k =
     count ∙ ap (λ (ys : List ℕ). length ys) is
-    ∙ length-take-le k (drop from items) (omega (arith, f, h, behind, length-drop from items)) in
+    ∙ length-take-le k (drop from items) (omega (arith, f, h, covered, length-drop from items)) in
     record {
       some = omega (arith, whole, some);
       inside = omega (arith, whole, long, h);

@@ -10,7 +10,7 @@ use Rattle.cord_node.specs.PartsFrom.{Part, leaf_part, run_part, func_part, IsSm
 use Rattle.cord_core.specs.Cord.{parts_of}
 use Rattle.cord_core.specs.Forms.{IsRunOf}
 use Rattle.cord_ec.specs.Gathered.{leaf_bytes, leaf_parts, IsGathered, AreFromOr, MadeOf, Gathered}
-use Rattle.cord_ec.proofs.MadeLemmas.{IsOwn, are_both, are_left, are_right, are_self, are_kept, are_through, made_kept, made_self}
+use Rattle.cord_ec.proofs.MadeLemmas.{IsOwn, are_both, are_left, are_right, are_self, are_from, are_through, made_from, made_self}
 use Rattle.cord_ec.proofs.MadeLemmas.{made_through, made_more, made_beside, made_without, made_wider}
 use Rattle.cord_ec.proofs.Leaves.{gathered_own, tail_grown}
 use Rattle.cord_printf.specs.declared.errors.PrintError.{PrintError}
@@ -52,9 +52,9 @@ gathered_printed (func_part id start len) h = absurd h
 pub gathered_from : (k : ℕ) (old new : List Part) → Gathered k old new → IsPrintedFrom k old new
 gathered_from k old new h = made_wider IsGathered IsPrinted gathered_printed k old new h
 
--- what is kept is printed
-pub kept_from : (old new : List Part) → PartsFrom old new → IsPrintedFrom 0 old new
-kept_from old new h = made_kept IsPrinted printed_own old new h
+-- what comes from parts is printed
+pub printed_from : (old new : List Part) → PartsFrom old new → IsPrintedFrom 0 old new
+printed_from old new h = made_from IsPrinted printed_own old new h
 
 -- nothing was added
 pub same_from : (n : ℕ) (ps : List Part) → IsPrintedFrom n ps ps
@@ -72,13 +72,13 @@ twice_from m n a b c h k = made_through IsPrinted printed_own m n a b c h k
 pub beside_from : (m n : ℕ) (a b c ps : List Part) → IsPrintedFrom m a b → IsPrintedFrom n (b ++ ps) c → IsPrintedFrom (m + n) (a ++ ps) c
 beside_from m n a b c ps h k = made_through IsPrinted printed_own m n (a ++ ps) (b ++ ps) c (made_beside IsPrinted printed_own m a b ps h) k
 
--- parts that are kept of a cord
+-- parts that come from a cord
 pub start_from : (old ps qs new : List Part) → PartsFrom ps qs → IsPrintedFrom 0 (old ++ qs) new → IsPrintedFrom 0 (old ++ ps) new
 start_from old ps qs new k h = record {
   no_more = omega (arith, k.no_more, h.no_more, length-append old ps, length-append old qs);
   from_there = are_through IsPrinted printed_own new (old ++ qs) (old ++ ps) h.from_there
       (are_both IsPrinted printed_own old qs (old ++ ps) (are_left IsPrinted printed_own old old ps (are_self IsPrinted printed_own old))
-      (are_right IsPrinted printed_own qs old ps (are_kept IsPrinted printed_own qs ps k.from_there)));
+      (are_right IsPrinted printed_own qs old ps (are_from IsPrinted printed_own qs ps k.from_there)));
 }
 
 -- a leaf that is gathered in the place of a cord of one part
@@ -151,7 +151,7 @@ pub cord_from : (old middle new x : List Part) (b : List ℕ) → b ≡ [] → I
 cord_from old middle new x b none made k =
     subst (λ (y : List ℕ). IsPrintedFrom 0 (old ++ x) (new ++ leaf_parts y)) (sym none)
     (subst (λ (ps : List Part). IsPrintedFrom 0 (old ++ x) ps) (sym (append-nil new))
-    (beside_from 0 0 old middle new x made (kept_from (middle ++ x) new k)))
+    (beside_from 0 0 old middle new x made (printed_from (middle ++ x) new k)))
 
 -- each byte in a leaf of its own would be enough
 pub each_byte : (n : ℕ) (b : List ℕ) (old new : List Part) → length b ≡ n → ((k : ℕ) → length b ≤ leaf_bytes k → IsPrintedFrom k old new) →
@@ -206,14 +206,14 @@ pub printing_step : (all : List Part) (own : ℕ) (made next given others ps res
     → IsPrintedFrom n (made ++ ps) next → IsPrinting all own next others after
 printing_step all own made next given others ps rest n left after h split k count step =
     let own_laws = printed_own in
-    let kept_parts : AreFromOr IsPrinted (made ++ ps) (made ++ given) =
+    let others_from : AreFromOr IsPrinted (made ++ ps) (made ++ given) =
     (start_from made given ps (made ++ ps) k (made_self IsPrinted own_laws (made ++ ps))).from_there in
     let before : AreFromOr IsPrinted (made ++ (given ++ others)) all =
     subst (λ x. AreFromOr IsPrinted (made ++ x) all) split h.from_there in
     let there : AreFromOr IsPrinted ((made ++ given) ++ others) all = rw (append_assoc made given others) before in
     let mine : MadeOf IsPrinted 0 (made ++ given) (made ++ given) = made_self IsPrinted own_laws (made ++ given) in
     let grown : AreFromOr IsPrinted next (made ++ given) =
-    are_through IsPrinted own_laws next (made ++ ps) (made ++ given) step.from_there kept_parts in
+    are_through IsPrinted own_laws next (made ++ ps) (made ++ given) step.from_there others_from in
     let both : AreFromOr IsPrinted (next ++ others) ((made ++ given) ++ others) =
     are_both IsPrinted own_laws next others ((made ++ given) ++ others) (are_left IsPrinted own_laws next (made ++ given) others grown)
     (are_right IsPrinted own_laws others (made ++ given) others (are_self IsPrinted own_laws others)) in

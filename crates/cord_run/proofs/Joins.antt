@@ -46,16 +46,16 @@ parts_more (x ∷ cs) c = ap (λ (ps : List Part). parts_of x ++ ps) (parts_more
     ∙ sym (append_assoc (parts_of x) (all_parts cs) (parts_of c))
 
 -- one leaf of few bytes has its part from any parts that there are
-pub leaf_kept : (b : List ℕ) (c : Option Node) → IsLeafOf b c → length b ≤ SMALL_LEN → (ps : List Part) → 0 < length ps →
+pub leaf_from : (b : List ℕ) (c : Option Node) → IsLeafOf b c → length b ≤ SMALL_LEN → (ps : List Part) → 0 < length ps →
     PartsFrom ps (parts_of c)
-leaf_kept b None is few ps some = record { no_more = omega arith; from_there = tt }
-leaf_kept b (Some (Leaf len bytes start mark)) is few ps some = record {
+leaf_from b None is few ps some = record { no_more = omega arith; from_there = tt }
+leaf_from b (Some (Leaf len bytes start mark)) is few ps some = record {
   no_more = omega (arith, some);
   from_there = (IsFrom-small (leaf_part (rc_slice_items bytes) start len) ps (omega (arith, is.2, few)), tt);
 }
-leaf_kept b (Some (Run byte len)) is few ps some = absurd is
-leaf_kept b (Some (Func id len start)) is few ps some = absurd is
-leaf_kept b (Some (Cat' mark depth len p left q right count)) is few ps some = absurd is
+leaf_from b (Some (Run byte len)) is few ps some = absurd is
+leaf_from b (Some (Func id len start)) is few ps some = absurd is
+leaf_from b (Some (Cat' mark depth len p left q right count)) is few ps some = absurd is
 
 module _ (cords : List (Option Node)) where
   -- none are in front
@@ -93,7 +93,7 @@ module _ (cords : List (Option Node)) where
     sound = sound;
     text = leaf_text bytes leaf is ∙ sym prefix.text;
     len = leaf_len bytes leaf is ∙ sym prefix.len;
-    parts_from = leaf_kept bytes leaf is prefix.few (all_parts (take n cords)) (omega (arith, some, prefix.parts));
+    parts_from = leaf_from bytes leaf is prefix.few (all_parts (take n cords)) (omega (arith, some, prefix.parts));
   }
 
 -- the first one alone

@@ -2,7 +2,7 @@
 mod appends;
 mod contents;
 pub(crate) mod cords;
-mod places;
+mod slots;
 
 ghost use Rattle.std.specs.Prelude.{◌≡◌, ◌+◌, ◌<◌, ◌≤◌, ℕ, List, true, false, [], length, IfOk, IfSome, IfNone, OnOk};
 ghost use Rattle.std.specs.Prelude.{Err, None, Some, IfErr, IsErr};
@@ -16,7 +16,7 @@ ghost use Rattle.cord_run.specs.inner.Entries.{HasNoEntry, HasNumber, IsEntryAt,
 
 use crate::store::appends::append_at;
 use crate::store::contents::{set_content, set_extensible, set_length, set_number, splice_content};
-use crate::store::places::{entry_by, place_by, place_for};
+use crate::store::slots::{entry_by, slot_by, slot_for};
 use cord_core::Cord;
 use cord_ec::ExtCord;
 use cord_io::{CordError, MAX_LEN};
@@ -90,7 +90,7 @@ impl Store {
         ensures some { IfSome result (IsEntryAt self.now.entries.items name.now) }
         ensures none { IfNone result (HasNoEntry self.now.entries.items name.now) }
     {
-        place_by(&self.entries, name)
+        slot_by(&self.entries, name)
     }
 
     // The entry of a name.
@@ -193,7 +193,7 @@ impl Store {
     pub(crate) fn assign(&mut self, name: &Name, content: Content) -> Result<(), AllocError>
         ensures { IfOk result (λ _. HasContent name.now content self.old.entries.items self.new.entries.items) }
     {
-        let place = place_for(&mut self.entries, name)?;
+        let place = slot_for(&mut self.entries, name)?;
         set_content(&mut self.entries, place, content);
         Ok(())
     }
@@ -204,7 +204,7 @@ impl Store {
         ensures { IfOk result (λ _. HasContent name.now (Content.Long len) self.old.entries.items
             self.new.entries.items) }
     {
-        let place = place_for(&mut self.entries, name)?;
+        let place = slot_for(&mut self.entries, name)?;
         set_length(&mut self.entries, place, len);
         Ok(())
     }
@@ -214,7 +214,7 @@ impl Store {
     pub(crate) fn assign_number(&mut self, name: &Name, number: i64) -> Result<(), AllocError>
         ensures { IfOk result (λ _. HasNumber name.now number self.old.entries.items self.new.entries.items) }
     {
-        let place = place_for(&mut self.entries, name)?;
+        let place = slot_for(&mut self.entries, name)?;
         set_number(&mut self.entries, place, number);
         Ok(())
     }
@@ -228,7 +228,7 @@ impl Store {
         ensures { IfOk result (λ _. HasExtensible name.now (Some extensible.text) self.old.entries.items
             self.new.entries.items) }
     {
-        let place = place_for(&mut self.entries, name)?;
+        let place = slot_for(&mut self.entries, name)?;
         let _ = set_extensible(&mut self.entries, name, place, Some(extensible));
         Ok(())
     }
@@ -247,7 +247,7 @@ impl Store {
         ensures too_long { result ≡ Err CordError.TooLong →
             MAX_LEN < length (cells_of (extensible_in self.old.entries.items name.now)) + length bytes.now }
     {
-        let place = place_for(&mut self.entries, name)?;
+        let place = slot_for(&mut self.entries, name)?;
         append_at(alloc, &mut self.entries, name, place, bytes)
     }
 

@@ -194,7 +194,7 @@ fn measure<F: Files>(
     ensures fails { IfErr result (FailsBy (IsFileMade (made_view made.now)) ⊥) }
     ensures counts { F.failures (device_in sources.new)
         ≡ count_after (has_failed result) (F.failures (device_in sources.old)) }
-    ensures unread { OnErr result (opened_in sources.new ≡ opened_in sources.old) }
+    ensures unopened { OnErr result (opened_in sources.new ≡ opened_in sources.old) }
     ensures unbuilt { TakesNoMemory (made_view made.now) → result ≢ Err Stop.NoMemory }
 {
     match file_of(made) {

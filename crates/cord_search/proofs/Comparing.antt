@@ -42,9 +42,9 @@ cmp_prefix [] u v = refl
 cmp_prefix (b ∷ f) u v = ap (λ (r : Ordering). ordering_then r (slice_cmp nat_cmp (f ++ u) (f ++ v))) (same_byte b) ∙ cmp_prefix f u v
 
 -- the order of two texts is that of what comes after a prefix that both have
-pub cmp_behind : (xs ys : List ℕ) (n : ℕ) → take n xs ≡ take n ys →
+pub cmp_after : (xs ys : List ℕ) (n : ℕ) → take n xs ≡ take n ys →
     slice_cmp nat_cmp (take (length xs - n) (drop n xs)) (take (length ys - n) (drop n ys)) ≡ slice_cmp nat_cmp xs ys
-cmp_behind xs ys n prefix =
+cmp_after xs ys n prefix =
     let left = take_all (length xs - n) (drop n xs) (omega (arith, length-drop n xs)) in
     let right = take_all (length ys - n) (drop n ys) (omega (arith, length-drop n ys)) in
     ap (λ (zs : List ℕ). slice_cmp nat_cmp zs (take (length ys - n) (drop n ys))) left ∙ ap (slice_cmp nat_cmp (drop n xs)) right

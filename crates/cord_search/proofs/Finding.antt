@@ -134,11 +134,11 @@ last_found t x xs c at p k end r is h seam high e none =
     let text = bytes_of t x in
     let here : NoneAfter (Passes (is_byte c) xs) 0 (length xs) k × Passes (is_byte c) xs k = rw is at h in
     let below : k < length xs = here.0.high in
-    let behind : (q : ℕ) → p + k < q → q ≤ at → slice_get text q ≢ Some c =
+    let later : (q : ℕ) → p + k < q → q ≤ at → slice_get text q ≢ Some c =
     λ q low to there.
     ⊎_elim (λ (lt : q < end). here.0.after (q - p) (omega arith) (omega arith)
     (passes text xs c p q e (omega arith) (omega arith) there)) (λ (le : end ≤ q). none q le (omega arith) there) (cases_lt q end) in
-    last_only text at c (Some (p + k)) (omega arith, found text xs c p k e below here.1, behind)
+    last_only text at c (Some (p + k)) (omega arith, found text xs c p k e below here.1, later)
 
 pub last_none : (t : Table) (x : Option Node) (c at end : ℕ) → end ≤ 0 → HasNot t x c end (at + 1) → None ≡ last (bytes_of t x) at c
 last_none t x c at end low none = last_only (bytes_of t x) at c None (λ q to there. none q (omega arith) (omega arith) there)

@@ -64,9 +64,9 @@ module _ (t : Table) (x : Option Node) (s : List ℕ) where
   best_found middle e q is = (refl, (first_stands (bytes_of t x) s e middle q is).2)
 
   -- or none, so there is none after
-  pub none_behind : (middle high limit e : ℕ) → high + length s ≤ e + 1 → None ≡ first (take e (bytes_of t x)) middle s →
+  pub none_after : (middle high limit e : ℕ) → high + length s ≤ e + 1 → None ≡ first (take e (bytes_of t x)) middle s →
       StandsNot t x s high limit → StandsNot t x s middle limit
-  none_behind middle high limit e fits is none = λ q low to at. ⊎_elim
+  none_after middle high limit e fits is none = λ q low to at. ⊎_elim
       (λ (lt : q < high). first_nowhere (bytes_of t x) s e middle is q low (omega (arith, fits)) at)
       (λ (le : high ≤ q). none q le to at) (cases_lt q high)
 

@@ -110,5 +110,5 @@ passed_none t x s place = λ q low to at. omega (arith, low, to)
 -- a search goes on after what it passes over
 pub passed_on : (t : Table) (x : Option Node) (s : List ℕ) (start place next : ℕ) → StandsNot t x s start (place + 1) →
     StandsNot t x s (place + 1) next → StandsNot t x s start next
-passed_on t x s start place next before behind = λ q low to at. ⊎_elim (λ (lt : q < place + 1). before q low lt at)
-    (λ (le : place + 1 ≤ q). behind q le to at) (cases_lt q (place + 1))
+passed_on t x s start place next before later = λ q low to at. ⊎_elim (λ (lt : q < place + 1). before q low lt at)
+    (λ (le : place + 1 ≤ q). later q le to at) (cases_lt q (place + 1))

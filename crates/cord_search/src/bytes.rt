@@ -45,8 +45,7 @@ pub fn chr<S: Source>(x: &Cord, i: u64, c: u8, src: &mut S) -> Result<Option<u64
     ensures count { S.failures src.new ≡ count_after (is_err result) (S.failures src.old) }
     ensures source { LeavesSource ⟦<S as Source>⟧ src.old src.new }
 {
-    let place = first_byte(x, i, c, src)?;
-    Ok(place)
+    Ok(first_byte(x, i, c, src)?)
 }
 
 /// The last place of the byte `c` at `i` or earlier, after `CORD_rchr` of `cord.h`. The place `i` is below the
@@ -63,8 +62,7 @@ pub fn rchr<S: Source>(x: &Cord, i: u64, c: u8, src: &mut S) -> Result<Option<u6
     ensures count { S.failures src.new ≡ count_after (is_err result) (S.failures src.old) }
     ensures source { LeavesSource ⟦<S as Source>⟧ src.old src.new }
 {
-    let place = last_byte(x, i, c, src)?;
-    Ok(place)
+    Ok(last_byte(x, i, c, src)?)
 }
 
 // The first place of a byte, from a place on: in the first bytes from there, or after them.

@@ -377,10 +377,10 @@ fn first_of<S: Source>(
         return Ok(None);
     }
     let Span::Bytes(leaf) = cord_span_at(x, start) else {
-        return first_behind(x, start, end, start, finder, room, src);
+        return first_at_or_after(x, start, end, start, finder, room, src);
     };
     if leaf.len() < head.len() {
-        return first_behind(x, start, end, start, finder, room, src);
+        return first_at_or_after(x, start, end, start, finder, room, src);
     }
     let most = leaf.len().min((end - start) as usize);
     let prefix = &leaf[..most];
@@ -388,7 +388,7 @@ fn first_of<S: Source>(
         Some(found) => Ok(Some(start + found as u64)),
         None => {
             let after = start + (prefix.len() - head.len() + 1) as u64;
-            first_behind(x, start, end, after, finder, room, src)
+            first_at_or_after(x, start, end, after, finder, room, src)
         }
     }
 }
@@ -398,7 +398,7 @@ fn first_of<S: Source>(
 // window is small, since bytes are often found near. It stands apart, so that a search which ends in its first leaf
 // keeps no path.
 #[inline(never)]
-fn first_behind<S: Source>(
+fn first_at_or_after<S: Source>(
     x: &Cord,
     start: u64,
     end: u64,

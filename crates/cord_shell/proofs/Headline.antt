@@ -99,7 +99,7 @@ refused_memory a refusal is status reports = (
       Reports [] a.err.taken (err_counts_of a) (line_text refusal.line (text_of k))) is reports,
 )
 
-module _ (consistent : FileSystem → Type 0) (file_system : FileSystem) (kept : consistent file_system) (path : List ℕ) (u : Bool)
+module _ (consistent : FileSystem → Type 0) (file_system : FileSystem) (agrees : consistent file_system) (path : List ℕ) (u : Bool)
     (a : Answer) where
   module _ (one : OneScript) (sound : ReadHasNoError) (b : List ℕ) (ss : List Statement) (at : file_at file_system path ≡ Some b)
       (reads : Reads b ss) where
@@ -124,17 +124,17 @@ module _ (consistent : FileSystem → Type 0) (file_system : FileSystem) (kept :
         → Reports [] a.err.taken (err_counts_of a) (message_of outcome) → RunsOver b ss file_system a
     runs (outcomes.Ended end_) h status reports =
         let run = h.2.0 in
-        let is : run.0 ≡ ss = one whole b run.0 ss (subst (λ (x : List ℕ). Reads x run.0) (same_bytes h.0 (h.1 file_system kept)) run.1)
+        let is : run.0 ≡ ss = one whole b run.0 ss (subst (λ (x : List ℕ). Reads x run.0) (same_bytes h.0 (h.1 file_system agrees)) run.1)
         reads in
         record {
           reported = end_;
           answers = (status, reports);
           faithful =
               inl (subst (λ (x : List Statement). EndsFaithfully x file_system [] a.out.taken (counts_of a) end_) is
-              (run.2 file_system kept));
+              (run.2 file_system agrees));
         }
     runs (outcomes.Refused refusal) h status reports =
-        let wrong = h.1 file_system kept in
+        let wrong = h.1 file_system agrees in
         let is = memory_refused refusal wrong.0 wrong.1 wrong.2 in
         let at_line = refused_at refusal wrong.0 wrong.1 wrong.2 in
         record {
@@ -143,7 +143,7 @@ module _ (consistent : FileSystem → Type 0) (file_system : FileSystem) (kept :
           faithful = inr
               (inr at_line, h.0);
         }
-    runs outcomes.NoScript h status reports = there (file_at file_system path) (h.1 file_system kept) at
+    runs outcomes.NoScript h status reports = there (file_at file_system path) (h.1 file_system agrees) at
     runs outcomes.Unreadable h status reports = record {
       reported = ends.ReadFailed 0;
       answers = (status, reports);
@@ -174,7 +174,7 @@ module _ (consistent : FileSystem → Type 0) (file_system : FileSystem) (kept :
         → Reports [] a.err.taken (err_counts_of a) (message_of outcome) → ShowsOver u b ss a
     shows_plan (outcomes.Ended end_) h status reports = absurd h.2.0
     shows_plan (outcomes.Refused refusal) h status reports =
-        let wrong = h.1 file_system kept in
+        let wrong = h.1 file_system agrees in
         let is = memory_refused refusal wrong.0 wrong.1 wrong.2 in
         let at_line = refused_at refusal wrong.0 wrong.1 wrong.2 in
         record {
@@ -182,7 +182,7 @@ module _ (consistent : FileSystem → Type 0) (file_system : FileSystem) (kept :
           answers = refused_memory a refusal is status reports;
           shows = inr (inr at_line, h.0);
         }
-    shows_plan outcomes.NoScript h status reports = there (file_at file_system path) (h.1 file_system kept) at
+    shows_plan outcomes.NoScript h status reports = there (file_at file_system path) (h.1 file_system agrees) at
     shows_plan outcomes.Unreadable h status reports = record {
       reported = ends.ReadFailed 0;
       answers = (status, reports);
@@ -199,14 +199,14 @@ module _ (consistent : FileSystem → Type 0) (file_system : FileSystem) (kept :
         record {
           reported = ends.Done;
           answers = (status, reports);
-          shows = inl (planned_so plan.0 h.0 (h.1 file_system kept) plan.1 ends.Done plan.2);
+          shows = inl (planned_so plan.0 h.0 (h.1 file_system agrees) plan.1 ends.Done plan.2);
         }
     shows_plan outcomes.PlanUnwritten h status reports =
         let plan = h.2.0 in
         record {
           reported = ends.WriteFailed 0;
           answers = (status, reports);
-          shows = inl (planned_so plan.0 h.0 (h.1 file_system kept) plan.1 (ends.WriteFailed 0) (refl, plan.2));
+          shows = inl (planned_so plan.0 h.0 (h.1 file_system agrees) plan.1 (ends.WriteFailed 0) (refl, plan.2));
         }
     shows_plan outcomes.HelpPrinted h status reports = absurd h.2.0
     shows_plan outcomes.HelpUnwritten h status reports = absurd h.2.0
@@ -214,23 +214,23 @@ module _ (consistent : FileSystem → Type 0) (file_system : FileSystem) (kept :
 
   -- no script has these bytes
   module _ (b : List ℕ) (at : file_at file_system path ≡ Some b) (none : (ss : List Statement) → Reads b ss → ⊥) where
-    unread : {P : Type 0} (c : List ℕ) → file_at file_system path ≡ Some c → (ss : List Statement) → Reads c ss → P
-    unread c other ss reads = absurd (none ss (subst (λ (x : List ℕ). Reads x ss) (same_some (sym other ∙ at)) reads))
+    not_read : {P : Type 0} (c : List ℕ) → file_at file_system path ≡ Some c → (ss : List Statement) → Reads c ss → P
+    not_read c other ss reads = absurd (none ss (subst (λ (x : List ℕ). Reads x ss) (same_some (sym other ∙ at)) reads))
 
     pub refuses : (s : Bool) (outcome : Outcome) → Serves consistent path u s [] a.out.taken (counts_of a) outcome →
         a.status ≡ status_of_outcome outcome
         → Reports [] a.err.taken (err_counts_of a) (message_of outcome) → RefusesOver b a
     refuses true (outcomes.Ended end_) h status reports = absurd h.2.0
-    refuses false (outcomes.Ended end_) h status reports = unread h.0 (h.1 file_system kept) h.2.0.0 h.2.0.1
+    refuses false (outcomes.Ended end_) h status reports = not_read h.0 (h.1 file_system agrees) h.2.0.0 h.2.0.1
     refuses s (outcomes.Refused refusal) h status reports =
-        let wrong = h.1 file_system kept in
+        let wrong = h.1 file_system agrees in
         inl (refusal, subst (λ (x : List ℕ). IsWrong x refusal) (same_some (sym wrong.1 ∙ at)) wrong.2, status, reports, h.0)
-    refuses s outcomes.NoScript h status reports = there (file_at file_system path) (h.1 file_system kept) at
+    refuses s outcomes.NoScript h status reports = there (file_at file_system path) (h.1 file_system agrees) at
     refuses s outcomes.Unreadable h status reports = inr (ends.ReadFailed 0, (status, reports), (refl, h.0, h.1))
     refuses s outcomes.NoMemory h status reports = inr (ends.NoMemory 0, (status, reports), (refl, h))
-    refuses true outcomes.PlanPrinted h status reports = let plan = h.2.0.1 in unread h.0 (h.1 file_system kept) plan.0 plan.1
+    refuses true outcomes.PlanPrinted h status reports = let plan = h.2.0.1 in not_read h.0 (h.1 file_system agrees) plan.0 plan.1
     refuses false outcomes.PlanPrinted h status reports = absurd h.2
-    refuses true outcomes.PlanUnwritten h status reports = let plan = h.2.0.1 in unread h.0 (h.1 file_system kept) plan.0 plan.1
+    refuses true outcomes.PlanUnwritten h status reports = let plan = h.2.0.1 in not_read h.0 (h.1 file_system agrees) plan.0 plan.1
     refuses false outcomes.PlanUnwritten h status reports = absurd h.2
     refuses true outcomes.HelpPrinted h status reports = absurd h.2.0
     refuses false outcomes.HelpPrinted h status reports = absurd h.2
@@ -244,16 +244,16 @@ module _ (consistent : FileSystem → Type 0) (file_system : FileSystem) (kept :
     pub misses : (s : Bool) (outcome : Outcome) → Serves consistent path u s [] a.out.taken (counts_of a) outcome →
         a.status ≡ status_of_outcome outcome
         → Reports [] a.err.taken (err_counts_of a) (message_of outcome) → MissesOver a
-    misses s (outcomes.Ended end_) h status reports = there (file_at file_system path) gone (h.1 file_system kept)
-    misses s (outcomes.Refused refusal) h status reports = there (file_at file_system path) gone (h.1 file_system kept).1
+    misses s (outcomes.Ended end_) h status reports = there (file_at file_system path) gone (h.1 file_system agrees)
+    misses s (outcomes.Refused refusal) h status reports = there (file_at file_system path) gone (h.1 file_system agrees).1
     misses s outcomes.NoScript h status reports = inl (status, reports, h.0)
     misses s outcomes.Unreadable h status reports = inr (ends.ReadFailed 0, (status, reports), (refl, h.0, h.1))
     misses s outcomes.NoMemory h status reports = inr (ends.NoMemory 0, (status, reports), (refl, h))
-    misses s outcomes.PlanPrinted h status reports = there (file_at file_system path) gone (h.1 file_system kept)
-    misses s outcomes.PlanUnwritten h status reports = there (file_at file_system path) gone (h.1 file_system kept)
-    misses s outcomes.HelpPrinted h status reports = there (file_at file_system path) gone (h.1 file_system kept)
-    misses s outcomes.HelpUnwritten h status reports = there (file_at file_system path) gone (h.1 file_system kept)
-    misses s outcomes.BadCommandLine h status reports = there (file_at file_system path) gone (h.1 file_system kept)
+    misses s outcomes.PlanPrinted h status reports = there (file_at file_system path) gone (h.1 file_system agrees)
+    misses s outcomes.PlanUnwritten h status reports = there (file_at file_system path) gone (h.1 file_system agrees)
+    misses s outcomes.HelpPrinted h status reports = there (file_at file_system path) gone (h.1 file_system agrees)
+    misses s outcomes.HelpUnwritten h status reports = there (file_at file_system path) gone (h.1 file_system agrees)
+    misses s outcomes.BadCommandLine h status reports = there (file_at file_system path) gone (h.1 file_system agrees)
 
 -- new devices have counted nothing and taken nothing
 pub comes_of_new : (consistent : FileSystem → Type 0) (words : List (List ℕ)) (outcome : Outcome) (out old : List ℕ) (n : Counts)
@@ -279,26 +279,26 @@ reports_of_new message said old n failed ended taken h =
 
 module _ (consistent : FileSystem → Type 0) (words : List (List ℕ)) (a : Answer) (drove : Drove consistent words a)
     (file_system : FileSystem)
-    (kept : consistent file_system) (path : List ℕ) where
+    (agrees : consistent file_system) (path : List ℕ) where
   pub runs_over : OneScript → ReadHasNoError → (b : List ℕ) (unplanned : Bool) (ss : List Statement) → AsksFor words path unplanned false
       → file_at file_system path ≡ Some b → Reads b ss → RunsOver b ss file_system a
   runs_over one sound b unplanned ss asks at reads =
-      runs consistent file_system kept path unplanned a one sound b ss at reads drove.outcome
+      runs consistent file_system agrees path unplanned a one sound b ss at reads drove.outcome
       (served consistent words path unplanned false asks a drove.outcome drove.comes) drove.status drove.reports
 
   pub shows_over : OneScript → ReadHasNoError → (b : List ℕ) (unplanned : Bool) (ss : List Statement) → AsksFor words path unplanned true
       → file_at file_system path ≡ Some b → Reads b ss → ShowsOver unplanned b ss a
   shows_over one sound b unplanned ss asks at reads =
-      shows_plan consistent file_system kept path unplanned a one sound b ss at reads drove.outcome
+      shows_plan consistent file_system agrees path unplanned a one sound b ss at reads drove.outcome
       (served consistent words path unplanned true asks a drove.outcome drove.comes) drove.status drove.reports
 
   pub refuses_over : (b : List ℕ) (unplanned show_plan : Bool) → AsksFor words path unplanned show_plan → file_at file_system path ≡ Some b
       → ((ss : List Statement) → Reads b ss → ⊥) → RefusesOver b a
   refuses_over b unplanned show_plan asks at none =
-      refuses consistent file_system kept path unplanned a b at none show_plan drove.outcome
+      refuses consistent file_system agrees path unplanned a b at none show_plan drove.outcome
       (served consistent words path unplanned show_plan asks a drove.outcome drove.comes) drove.status drove.reports
 
   pub misses_over : (unplanned show_plan : Bool) → AsksFor words path unplanned show_plan → file_at file_system path ≡ None → MissesOver a
   misses_over unplanned show_plan asks gone =
-      misses consistent file_system kept path unplanned a gone show_plan drove.outcome
+      misses consistent file_system agrees path unplanned a gone show_plan drove.outcome
       (served consistent words path unplanned show_plan asks a drove.outcome drove.comes) drove.status drove.reports

@@ -29,7 +29,7 @@ module _ (consistent : FileSystem → Type 0) (path : List ℕ) (unplanned : Boo
     shows : (outcome : Outcome) → IsPrinted unplanned b before after (sink_of n) outcome → FilesKept n →
         Serves consistent path unplanned true before after n outcome
     shows (outcomes.Ended end_) h kept = absurd h
-    shows (outcomes.Refused refusal) h kept = ((h.0, kept), (λ file_system keeping. (b, at file_system keeping, h.1)))
+    shows (outcomes.Refused refusal) h kept = ((h.0, kept), (λ file_system agrees. (b, at file_system agrees, h.1)))
     shows outcomes.NoScript h kept = absurd h
     shows outcomes.Unreadable h kept = absurd h
     shows outcomes.NoMemory h kept = (h, kept)
@@ -41,7 +41,7 @@ module _ (consistent : FileSystem → Type 0) (path : List ℕ) (unplanned : Boo
 
     went : (outcome : Outcome) → IsRun consistent b before after n outcome → Serves consistent path unplanned false before after n outcome
     went (outcomes.Ended end_) h = (b, at, h)
-    went (outcomes.Refused refusal) h = (h.0, (λ file_system keeping. (b, at file_system keeping, h.1)))
+    went (outcomes.Refused refusal) h = (h.0, (λ file_system agrees. (b, at file_system agrees, h.1)))
     went outcomes.NoScript h = absurd h
     went outcomes.Unreadable h = absurd h
     went outcomes.NoMemory h = absurd h

@@ -50,8 +50,7 @@ impl Layout {
             TextArg::Num((entry.amount() / 100) as i64),
             TextArg::Num((entry.amount() % 100) as i64),
         ];
-        let row = Text::print(alloc, &self.row, &args)?;
-        Ok(row)
+        Ok(Text::print(alloc, &self.row, &args)?)
     }
 
     /// A sum of cents.

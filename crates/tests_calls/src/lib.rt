@@ -15,8 +15,7 @@ pub fn leaf(alloc: Global, bytes: &[u8]) -> Result<Cord, CordError>
     ensures fits { IfOk result (λ c. (lengths : Lengths) → CordFitsIn lengths c) }
     ensures len { IfOk result (λ c. text_len c ≡ length bytes.now) }
 {
-    let cord = Cord::from_bytes(alloc, bytes)?;
-    Ok(cord)
+    Cord::from_bytes(alloc, bytes)
 }
 
 #[cfg(test)]

@@ -11,8 +11,7 @@ use std::alloc::Global;
 pub fn text_of(alloc: Global, bytes: &[u8]) -> Result<Text, CordError>
     ensures text { IfOk result (λ t. t ≡ bytes.now) }
 {
-    let text = Text::from_bytes(alloc, bytes)?;
-    Ok(text)
+    Text::from_bytes(alloc, bytes)
 }
 
 #[cfg(test)]

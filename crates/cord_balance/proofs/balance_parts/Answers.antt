@@ -5,7 +5,7 @@ use Rattle.cord_balance.specs.declared.forest.balanced_trees.Known.{Known}
 use Rattle.std.proofs.lemmas.List.{drop_more, drop_all}
 use Rattle.cord_balance.specs.declared.TheConstants.{MAX_INDEX}
 use Rattle.cord_balance.proofs.States.{IsFilling}
-use Rattle.cord_balance.proofs.Filling.{filling_start, filling_step, filling_none, filling_text, filling_kept, filling_len}
+use Rattle.cord_balance.proofs.Filling.{filling_start, filling_step, filling_none, filling_text, filling_from, filling_len}
 use Rattle.std.proofs.Common.{ℕ, ◌<◌, ◌≤◌}
 use Rattle.std.specs.Prelude.{Some, length}
 use Rattle.cord_node.specs.Tree.{len_of, depth_of, count_of}
@@ -55,7 +55,7 @@ pub returns-clause-parts_from : goal.returns-clause-parts_from
 returns-clause-parts_from c =
     let e : drop c.loop-rope.rope-index c.args.ropes.now ≡ [] = drop_all c.loop-rope.rope-index c.args.ropes.now (omega arith) in
     let i : IsFilling c.args.ropes.now [] c.loop-rope.forest.items = rw (← e) c.loop-rope.invariant.filling in
-    filling_kept c.args.ropes.now c.loop-rope.forest.items c.gather.new.forest.items c.in-Some.node i c.requires.within_limit
+    filling_from c.args.ropes.now c.loop-rope.forest.items c.gather.new.forest.items c.in-Some.node i c.requires.within_limit
     c.in_ok-node.ensures.rest c.in_ok-node.ensures.from (rw c.in-Some.is at c.in_ok-node.ensures.len)
     (rw c.in-Some.is at c.in_ok-node.ensures.parts_from)
 

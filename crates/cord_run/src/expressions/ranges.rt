@@ -277,10 +277,8 @@ pub(crate) fn copies_of(alloc: Global, byte: u8, count: u64) -> Result<Cord, Cor
     ensures refused { IsOkUnless result CordError.NoMemory }
 {
     if count > FEW {
-        let run = Cord::chars(alloc, byte, count)?;
-        return Ok(run);
+        return Cord::chars(alloc, byte, count);
     }
     let few = [byte; FEW as usize];
-    let leaf = Cord::from_bytes(alloc, &few[..count as usize])?;
-    Ok(leaf)
+    Cord::from_bytes(alloc, &few[..count as usize])
 }

@@ -22,8 +22,7 @@ pub(crate) fn literal(alloc: Global, text: &[u8]) -> Result<Cord, CordError>
     ensures refused { IfErr result IsRefusal }
 {
     if text.len() <= LEAF {
-        let leaf = Cord::from_bytes(alloc, text)?;
-        return Ok(leaf);
+        return Cord::from_bytes(alloc, text);
     }
     gathered(alloc, text)
 }

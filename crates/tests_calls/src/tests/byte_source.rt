@@ -26,7 +26,7 @@ impl<'a> Source for ByteSource<'a> {
 
     ghost failures = { λ s. s.failures };
 
-    ghost lengths_of_table = { λ s file_system kept id. Prim.grind (arith, nat_tests) };
+    ghost lengths_of_table = { λ s file_system agrees id. Prim.grind (arith, nat_tests) };
 
     fn failures(&self) -> u64 {
         self.failures

@@ -162,7 +162,7 @@ fn refused_sprintf_that_pads(rt: HostRuntime) {
 }
 
 // 300 times the byte "a", and a text after them.
-fn behind_letters(rt: &impl Abort, alloc: Global, text: &[u8]) -> Vec<u8> {
+fn after_letters(rt: &impl Abort, alloc: Global, text: &[u8]) -> Vec<u8> {
     let mut bytes = again!(rt, Vec::from_elem(alloc, 97, 300));
     again!(rt, bytes.extend_from_slice(text));
     bytes
@@ -170,7 +170,7 @@ fn behind_letters(rt: &impl Abort, alloc: Global, text: &[u8]) -> Vec<u8> {
 
 // 300 times the byte "a", 42 in five digits, a text, 298 blanks, -7 and a bar.
 fn long_text(rt: &impl Abort, alloc: Global, text: &[u8]) -> Vec<u8> {
-    let mut want = behind_letters(rt, alloc, b"00042");
+    let mut want = after_letters(rt, alloc, b"00042");
     again!(rt, want.extend_from_slice(text));
     again!(rt, want.extend_from_slice(&[b' '; 298]));
     again!(rt, want.extend_from_slice(b"-7|"));
@@ -199,7 +199,7 @@ fn print_three(rt: &impl Abort, alloc: Global, format: &Format, args: &Three, te
 #[test]
 fn refused_sprintf_of_long_texts(rt: HostRuntime) {
     let alloc = rt.alloc();
-    let format = format_of(&rt, alloc, &behind_letters(&rt, alloc, b"%05d%s%300d|"));
+    let format = format_of(&rt, alloc, &after_letters(&rt, alloc, b"%05d%s%300d|"));
     let text = pattern(&rt, alloc, 300);
     let args = [Arg::Num(42), text_of(&rt, alloc, &text), Arg::Num(-7)];
     let cord = print_three(&rt, alloc, &format, &args, &text);

@@ -5,7 +5,7 @@ use Rattle.cord_node.specs.Tree.{known}
 use Rattle.cord_core.specs.Cord.{text, parts_of}
 use Rattle.cord_core.proofs.OverLemmas.{length-text}
 use Rattle.cord_ec.specs.Gathered.{Gathered}
-use Rattle.cord_edit.proofs.Parting.{kept_gathered}
+use Rattle.cord_edit.proofs.Parting.{gathered_then_from}
 use Rattle.cord_edit.proofs.buffer.leaves_of.Goals as goal
 
 pub returns-clause-text : goal.returns-clause-text
@@ -18,4 +18,4 @@ returns-clause-len c = sym (length-text c.in_ok-leaves.leaves c.in_ok-leaves.ens
 
 pub returns-clause-gathered : goal.returns-clause-gathered
 returns-clause-gathered c = λ k few. subst (λ (old : List Part). Gathered k old (parts_of c.in_ok-leaves.leaves))
-    c.in_ok-grown.ensures.parts (kept_gathered k _ _ _ (c.in_ok-append_bytes.ensures.gathered k few) c.in_ok-leaves.ensures.parts_from)
+    c.in_ok-grown.ensures.parts (gathered_then_from k _ _ _ (c.in_ok-append_bytes.ensures.gathered k few) c.in_ok-leaves.ensures.parts_from)

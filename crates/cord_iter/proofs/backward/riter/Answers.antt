@@ -4,28 +4,28 @@ use Rattle.cord_iter.proofs.Backs.{cord_len, empty_walk, all_walk, all_prefix}
 use Rattle.cord_iter.proofs.backward.riter.Goals as goal
 
 pub returns-then-len-eq0-clause-walked : goal.returns-then-len-eq0-clause-walked
-returns-then-len-eq0-clause-walked g c file_system kept =
+returns-then-len-eq0-clause-walked g c file_system agrees =
     let t = g.S.Source.table c.args.src.now file_system in
-    let reported = g.met.S.Source.lengths_of_table c.args.src.now file_system kept in
+    let reported = g.met.S.Source.lengths_of_table c.args.src.now file_system agrees in
     let len = cord_len (g.S.Source.lengths c.args.src.now) t c.args.cord.now reported c.len-len.ensures.sound c.requires.fits in
     empty_walk g.V.Visitor.step (g.V.Visitor.state c.args.visitor.now) t c.args.cord.now len
     (sym c.len-len.ensures.stored ∙ c.if-len-eq0.true)
 
 pub returns-in_err-stopped-clause-prefix : goal.returns-in_err-stopped-clause-prefix
-returns-in_err-stopped-clause-prefix g c file_system kept =
+returns-in_err-stopped-clause-prefix g c file_system agrees =
     let t = g.S.Source.table c.args.src.now file_system in
-    let reported = g.met.S.Source.lengths_of_table c.args.src.now file_system (c.riter4.ensures.source.earlier file_system kept) in
+    let reported = g.met.S.Source.lengths_of_table c.args.src.now file_system (c.riter4.ensures.source.earlier file_system agrees) in
     let len = cord_len (g.S.Source.lengths c.args.src.now) t c.args.cord.now reported c.len-len.ensures.sound c.requires.fits in
     let some : 0 < c.len-len.result = omega (arith, c.if-len-eq0.false) in
     on_err c.from_residual.result (all_prefix g.V.Visitor.step (g.V.Visitor.state c.args.visitor.now)
     (g.V.Visitor.state c.riter4.new.visitor) t c.args.cord.now c.len-len.result len c.len-len.ensures.stored some
-    (c.in_err-stopped.ensures.prefix file_system kept))
+    (c.in_err-stopped.ensures.prefix file_system agrees))
 
 pub returns-clause-walked : goal.returns-clause-walked
-returns-clause-walked g c file_system kept =
+returns-clause-walked g c file_system agrees =
     let t = g.S.Source.table c.args.src.now file_system in
-    let reported = g.met.S.Source.lengths_of_table c.args.src.now file_system (c.riter4.ensures.source.earlier file_system kept) in
+    let reported = g.met.S.Source.lengths_of_table c.args.src.now file_system (c.riter4.ensures.source.earlier file_system agrees) in
     let len = cord_len (g.S.Source.lengths c.args.src.now) t c.args.cord.now reported c.len-len.ensures.sound c.requires.fits in
     let some : 0 < c.len-len.result = omega (arith, c.if-len-eq0.false) in
     all_walk g.V.Visitor.step (g.V.Visitor.state c.args.visitor.now) _ t c.args.cord.now c.len-len.result len c.len-len.ensures.stored some
-    (c.in_ok-stopped.ensures.walked file_system kept)
+    (c.in_ok-stopped.ensures.walked file_system agrees)

@@ -18,10 +18,10 @@ use Rattle.cord_iter.proofs.forward.+walk_node.Goals as goal
 -- the text of the node is that of its two sides
 cut_is : (g : Over) (t : ℕ) (c : In-Cat g t) (file_system : FileSystem) → g.S.Source.consistent c.args.src.now file_system →
     IsCut (g.S.Source.table c.args.src.now file_system) c.in-Cat.left.value c.in-Cat.right.value c.args.node.now
-cut_is g t c file_system kept = cut_of (g.S.Source.lengths c.args.src.now) (g.S.Source.table c.args.src.now file_system) _
+cut_is g t c file_system agrees = cut_of (g.S.Source.lengths c.args.src.now) (g.S.Source.table c.args.src.now file_system) _
     c.in-Cat.left.value _
     c.in-Cat.right.value _ _ _ _ c.args.node.now c.in-Cat.is c.requires.sound c.requires.fits
-    (g.met.S.Source.lengths_of_table c.args.src.now file_system kept)
+    (g.met.S.Source.lengths_of_table c.args.src.now file_system agrees)
 
 -- the seam is where the left side ends
 seam_is : (g : Over) (t : ℕ) (c : After-len-seam g t) → c.len-seam.result ≡ len_of c.in-Cat.left.value
@@ -32,7 +32,7 @@ in_left : (g : Over) (t : ℕ) (c : Else-seam-from g t) → c.args.from ≤ len_
 in_left g t c = omega (arith, c.len-seam.ensures.stored ∙ ap len_of c.deref.ensures, c.if-seam-from.false)
 
 pub returns-in_err-walk_node-in-Cat-clause-prefix : goal.returns-in_err-walk_node-in-Cat-clause-prefix
-returns-in_err-walk_node-in-Cat-clause-prefix g t c file_system kept =
+returns-in_err-walk_node-in-Cat-clause-prefix g t c file_system agrees =
     let step = g.V.Visitor.step in
     let state = g.V.Visitor.state in
     let text = g.S.Source.table c.args.src.now file_system in
@@ -41,13 +41,13 @@ returns-in_err-walk_node-in-Cat-clause-prefix g t c file_system kept =
     let right = c.in-Cat.right.value in
     let path = goal.at.returns-in_err-walk_node-in-Cat-clause-prefix g t c in
     let cut : IsCut text left right node = cut_is g t path.In-Cat file_system
-    (c.walk_node-else-seam-from.ensures.source.earlier file_system kept) in
+    (c.walk_node-else-seam-from.ensures.source.earlier file_system agrees) in
     let inside : c.args.from ≤ len_of left = in_left g t path.Else-seam-from in
     on_err c.from_residual.result (cut_prefix step (state c.args.visitor.now) (state c.walk_node-else-seam-from.new.visitor) text left right
-    node c.args.from cut inside (rw c.as_ref-else-seam-from.ensures at c.in_err-walk_node-in-Cat.ensures.prefix file_system kept))
+    node c.args.from cut inside (rw c.as_ref-else-seam-from.ensures at c.in_err-walk_node-in-Cat.ensures.prefix file_system agrees))
 
 pub returns-in-Leaf-clause-walked : goal.returns-in-Leaf-clause-walked
-returns-in-Leaf-clause-walked g t c file_system kept =
+returns-in-Leaf-clause-walked g t c file_system agrees =
     let step = g.V.Visitor.step in
     let state = g.V.Visitor.state in
     let text = g.S.Source.table c.args.src.now file_system in
@@ -66,7 +66,7 @@ returns-in-Leaf-clause-walked g t c file_system kept =
     (sym c.bytes.ensures)
 
 pub returns-in-Run-clause-walked : goal.returns-in-Run-clause-walked
-returns-in-Run-clause-walked g t c file_system kept =
+returns-in-Run-clause-walked g t c file_system agrees =
     let step = g.V.Visitor.step in
     let state = g.V.Visitor.state in
     let text = g.S.Source.table c.args.src.now file_system in
@@ -77,7 +77,7 @@ returns-in-Run-clause-walked g t c file_system kept =
     c.walk_run.ensures
 
 pub returns-then-branch-clause-walked : goal.returns-then-branch-clause-walked
-returns-then-branch-clause-walked g t c file_system kept =
+returns-then-branch-clause-walked g t c file_system agrees =
     let step = g.V.Visitor.step in
     let state = g.V.Visitor.state in
     let text = g.S.Source.table c.args.src.now file_system in
@@ -86,13 +86,13 @@ returns-then-branch-clause-walked g t c file_system kept =
     let right = c.in-Cat.right.value in
     let path = goal.at.returns-then-branch-clause-walked g t c in
     let cut : IsCut text left right node = cut_is g t path.In-Cat file_system
-    (c.walk_node-else-seam-from.ensures.source.earlier file_system kept) in
+    (c.walk_node-else-seam-from.ensures.source.earlier file_system agrees) in
     let inside : c.args.from ≤ len_of left = in_left g t path.Else-seam-from in
     cut_stop step (state c.args.visitor.now) (state c.walk_node-else-seam-from.new.visitor) text left right node c.args.from cut inside
-    (rw (c.as_ref-else-seam-from.ensures, c.if-branch.true) at c.in_ok-walk_node-in-Cat.ensures.walked file_system kept)
+    (rw (c.as_ref-else-seam-from.ensures, c.if-branch.true) at c.in_ok-walk_node-in-Cat.ensures.walked file_system agrees)
 
 pub returns-in-Func-clause-walked : goal.returns-in-Func-clause-walked
-returns-in-Func-clause-walked g t c file_system kept =
+returns-in-Func-clause-walked g t c file_system agrees =
     let step = g.V.Visitor.step in
     let state = g.V.Visitor.state in
     let text = g.S.Source.table c.args.src.now file_system in
@@ -101,10 +101,10 @@ returns-in-Func-clause-walked g t c file_system kept =
     let rest = range_rest (text c.in-Func.id.0) c.in-Func.start c.in-Func.len c.args.from inside
     ∙ ap (λ (n : Node). drop c.args.from (bytes_over text n)) (sym c.in-Func.is) in
     subst (λ xs. IfOk c.walk_func.result (λ stopped. walk step (state c.args.visitor.now) xs ≡ (state c.walk_func.new.visitor, stopped)))
-    rest (c.walk_func.ensures.walked file_system kept)
+    rest (c.walk_func.ensures.walked file_system agrees)
 
 pub returns-in-Func-clause-prefix : goal.returns-in-Func-clause-prefix
-returns-in-Func-clause-prefix g t c file_system kept =
+returns-in-Func-clause-prefix g t c file_system agrees =
     let step = g.V.Visitor.step in
     let state = g.V.Visitor.state in
     let text = g.S.Source.table c.args.src.now file_system in
@@ -113,10 +113,10 @@ returns-in-Func-clause-prefix g t c file_system kept =
     let rest = range_rest (text c.in-Func.id.0) c.in-Func.start c.in-Func.len c.args.from inside
     ∙ ap (λ (n : Node). drop c.args.from (bytes_over text n)) (sym c.in-Func.is) in
     subst (λ xs. OnErr c.walk_func.result (WalkedPrefix step (state c.args.visitor.now) (state c.walk_func.new.visitor) xs)) rest
-    (c.walk_func.ensures.prefix file_system kept)
+    (c.walk_func.ensures.prefix file_system agrees)
 
 pub returns-then-seam-from-clause-walked : goal.returns-then-seam-from-clause-walked
-returns-then-seam-from-clause-walked g t c file_system kept =
+returns-then-seam-from-clause-walked g t c file_system agrees =
     let step = g.V.Visitor.step in
     let state = g.V.Visitor.state in
     let text = g.S.Source.table c.args.src.now file_system in
@@ -124,15 +124,15 @@ returns-then-seam-from-clause-walked g t c file_system kept =
     let left = c.in-Cat.left.value in
     let right = c.in-Cat.right.value in
     let path = goal.at.returns-then-seam-from-clause-walked g t c in
-    let cut : IsCut text left right node = cut_is g t path.In-Cat file_system (c.walk_node.ensures.source.earlier file_system kept) in
+    let cut : IsCut text left right node = cut_is g t path.In-Cat file_system (c.walk_node.ensures.source.earlier file_system agrees) in
     let seam : c.len-seam.result ≡ len_of left = seam_is g t path.After-len-seam in
     let inside : len_of left ≤ c.args.from = subst (λ k. k ≤ c.args.from) seam c.if-seam-from.true in
     cut_past (λ xs. IfOk c.walk_node.result (λ stopped. walk step (state c.args.visitor.now) xs
     ≡ (state c.walk_node.new.visitor, stopped))) text left right node c.args.from cut inside
-    (rw (c.as_ref.ensures, seam) at c.walk_node.ensures.walked file_system kept)
+    (rw (c.as_ref.ensures, seam) at c.walk_node.ensures.walked file_system agrees)
 
 pub returns-then-seam-from-clause-prefix : goal.returns-then-seam-from-clause-prefix
-returns-then-seam-from-clause-prefix g t c file_system kept =
+returns-then-seam-from-clause-prefix g t c file_system agrees =
     let step = g.V.Visitor.step in
     let state = g.V.Visitor.state in
     let text = g.S.Source.table c.args.src.now file_system in
@@ -140,21 +140,21 @@ returns-then-seam-from-clause-prefix g t c file_system kept =
     let left = c.in-Cat.left.value in
     let right = c.in-Cat.right.value in
     let path = goal.at.returns-then-seam-from-clause-prefix g t c in
-    let cut : IsCut text left right node = cut_is g t path.In-Cat file_system (c.walk_node.ensures.source.earlier file_system kept) in
+    let cut : IsCut text left right node = cut_is g t path.In-Cat file_system (c.walk_node.ensures.source.earlier file_system agrees) in
     let seam : c.len-seam.result ≡ len_of left = seam_is g t path.After-len-seam in
     let inside : len_of left ≤ c.args.from = subst (λ k. k ≤ c.args.from) seam c.if-seam-from.true in
     cut_past (λ xs. OnErr c.walk_node.result (WalkedPrefix step (state c.args.visitor.now) (state c.walk_node.new.visitor) xs)) text left
-    right node c.args.from cut inside (rw (c.as_ref.ensures, seam) at c.walk_node.ensures.prefix file_system kept)
+    right node c.args.from cut inside (rw (c.as_ref.ensures, seam) at c.walk_node.ensures.prefix file_system agrees)
 
 pub returns-else-branch-clause-walked : goal.returns-else-branch-clause-walked
-returns-else-branch-clause-walked g t c file_system kept =
+returns-else-branch-clause-walked g t c file_system agrees =
     let step = g.V.Visitor.step in
     let state = g.V.Visitor.state in
     let text = g.S.Source.table c.args.src.now file_system in
     let node = c.args.node.now in
     let left = c.in-Cat.left.value in
     let right = c.in-Cat.right.value in
-    let before = c.walk_node-else-branch.ensures.source.earlier file_system kept in
+    let before = c.walk_node-else-branch.ensures.source.earlier file_system agrees in
     let path = goal.at.returns-else-branch-clause-walked g t c in
     let cut : IsCut text left right node =
     cut_is g t path.In-Cat file_system (c.walk_node-else-seam-from.ensures.source.earlier file_system before) in
@@ -163,17 +163,17 @@ returns-else-branch-clause-walked g t c file_system kept =
     IfOk-weaker c.walk_node-else-branch.result _ _ (λ stopped on.
     cut_on step (state c.args.visitor.now) (state c.walk_node-else-seam-from.new.visitor) _ text left right node c.args.from cut inside
     stays on) (rw (c.as_ref-else-branch.ensures, c.walk_node-else-seam-from.ensures.source.table) at c.walk_node-else-branch.ensures.walked
-    file_system kept)
+    file_system agrees)
 
 pub returns-else-branch-clause-prefix : goal.returns-else-branch-clause-prefix
-returns-else-branch-clause-prefix g t c file_system kept =
+returns-else-branch-clause-prefix g t c file_system agrees =
     let step = g.V.Visitor.step in
     let state = g.V.Visitor.state in
     let text = g.S.Source.table c.args.src.now file_system in
     let node = c.args.node.now in
     let left = c.in-Cat.left.value in
     let right = c.in-Cat.right.value in
-    let before = c.walk_node-else-branch.ensures.source.earlier file_system kept in
+    let before = c.walk_node-else-branch.ensures.source.earlier file_system agrees in
     let path = goal.at.returns-else-branch-clause-prefix g t c in
     let cut : IsCut text left right node =
     cut_is g t path.In-Cat file_system (c.walk_node-else-seam-from.ensures.source.earlier file_system before) in
@@ -182,4 +182,4 @@ returns-else-branch-clause-prefix g t c file_system kept =
     on_err_weaker c.walk_node-else-branch.result (λ prefix. cut_on_prefix step (state c.args.visitor.now)
     (state c.walk_node-else-seam-from.new.visitor) (state c.walk_node-else-branch.new.visitor) text left right node c.args.from cut
     inside stays prefix) (rw (c.as_ref-else-branch.ensures, c.walk_node-else-seam-from.ensures.source.table) at
-    c.walk_node-else-branch.ensures.prefix file_system kept)
+    c.walk_node-else-branch.ensures.prefix file_system agrees)

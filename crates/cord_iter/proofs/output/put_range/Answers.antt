@@ -43,6 +43,6 @@ loop-done-preserved g c =
       puts = c.in_ok-put_piece.ensures.faults.1 ∙ c.loop-done.invariant.puts;
       lengths = c.put_piece.ensures.source.lengths ∙ c.loop-done.invariant.lengths;
       table = c.put_piece.ensures.source.table ∙ c.loop-done.invariant.table;
-      earlier = λ file_system kept. c.loop-done.invariant.earlier file_system (c.put_piece.ensures.source.earlier file_system kept);
+      earlier = λ file_system agrees. c.loop-done.invariant.earlier file_system (c.put_piece.ensures.source.earlier file_system agrees);
       finished = c.put_piece.ensures.finished ∙ c.loop-done.invariant.finished;
     }

@@ -18,9 +18,9 @@ byte-requires-clause-fits g c = (spot_part (g.S.Source.lengths c.args.src.now) _
     (rw (← c.self.view_is) at c.requires.fits)
 
 pub returns-clause-byte : goal.returns-clause-byte
-returns-clause-byte g c file_system kept =
+returns-clause-byte g c file_system agrees =
     let lengths = g.S.Source.lengths c.args.src.now in
-    let reported = g.met.S.Source.lengths_of_table c.args.src.now file_system (c.byte.ensures.source.earlier file_system kept) in
+    let reported = g.met.S.Source.lengths_of_table c.args.src.now file_system (c.byte.ensures.source.earlier file_system agrees) in
     rw (← c.self.view_is, c.in-Some.is)
     (spot_byte lengths (g.S.Source.table c.args.src.now file_system) _ _ _ _ (rw c.in-Some.is at c.self.invariant) reported
-    (rw (← c.self.view_is) at c.requires.fits) (c.in_ok-byte.ensures.byte file_system kept))
+    (rw (← c.self.view_is) at c.requires.fits) (c.in_ok-byte.ensures.byte file_system agrees))

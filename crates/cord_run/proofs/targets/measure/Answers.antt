@@ -34,7 +34,7 @@ returns-in-Some g c =
       fails = subst (λ (m : Made). IfErr r (FailsBy (IsFileMade m) ⊥)) is
           (fails_reading _ _ ⊥ (of_file c.in-Some.reading c.in-Some.path.now) r reported.refused);
       counts = reported.counts;
-      unread = reported.unopened;
+      unopened = reported.unopened;
       unbuilt = λ free. absurd (takes_memory c.in-Some.reading c.in-Some.path.now (subst TakesNoMemory (sym is) free));
     }
 
@@ -56,6 +56,6 @@ returns-in-None g c =
       grows = search rules;
       fails = never_fails _ _ _ r c.measure_of_names.ensures.refused;
       counts = no_device _ (g.F.Files.failures (device_in s)) r c.measure_of_names.ensures.refused;
-      unread = search rules;
+      unopened = search rules;
       unbuilt = c.measure_of_names.ensures.unbuilt;
     }

@@ -16,7 +16,7 @@ loop-place-init g c = record {
   reads = refl;
   lengths = refl;
   table = refl;
-  earlier = λ file_system kept. kept;
+  earlier = λ file_system agrees. agrees;
 }
 
 pub span_from-span-requires-clause-inside : goal.span_from-span-requires-clause-inside
@@ -40,12 +40,12 @@ loop-place-preserved-in-Some g c =
     record {
       low = omega (arith, c.loop-place.invariant.low);
       high = omega (arith, whole, span.inside, c.len-len.ensures.stored);
-      none = λ file_system kept.
-          let reported = g.met.S.Source.lengths_of_table c.args.src.now file_system (c.loop-place.invariant.earlier file_system kept) in
+      none = λ file_system agrees.
+          let reported = g.met.S.Source.lengths_of_table c.args.src.now file_system (c.loop-place.invariant.earlier file_system agrees) in
           let none = first_past (g.S.Source.lengths c.args.src.now) (g.S.Source.table c.args.src.now file_system) x s c.args.byte
           c.args.from
           c.loop-place.place reported c.requires.fits c.set-position.ensures.sound span c.in-Some.ensures.without
-          (c.loop-place.invariant.none file_system kept) in
+          (c.loop-place.invariant.none file_system agrees) in
           rw whole none;
       cord = c.span_from-span.ensures.cord ∙ c.loop-place.invariant.cord;
       valid = c.span_from-span.ensures.valid;
@@ -56,19 +56,19 @@ loop-place-preserved-in-Some g c =
     }
 
 pub returns-in-Some-memchr-clause-first : goal.returns-in-Some-memchr-clause-first
-returns-in-Some-memchr-clause-first g c = λ file_system kept.
+returns-in-Some-memchr-clause-first g c = λ file_system agrees.
     let t = g.S.Source.table c.args.src.now file_system in
     let x = c.args.x.now in
     let place = c.loop-place.place in
     let piece = c.in_ok-piece.piece.now in
-    let before = c.in_ok-piece.ensures.read.earlier file_system kept in
+    let before = c.in_ok-piece.ensures.read.earlier file_system agrees in
     let reported = g.met.S.Source.lengths_of_table c.args.src.now file_system (c.loop-place.invariant.earlier file_system before) in
     let span : IsSpanOf x place c.span_from-span.result =
     rw c.loop-place.invariant.cord at c.span_from-span.ensures.span in
     let block = c.in_block-block.ensures in
     let text = block_piece (g.S.Source.lengths c.args.src.now) t x place c.span_from-span.result c.in_block-block.result piece reported
     c.requires.fits span block.some block.few block.prefix c.in_ok-piece.ensures.inside
-    (rw c.loop-place.invariant.table at c.in_ok-piece.ensures.text file_system kept) in
+    (rw c.loop-place.invariant.table at c.in_ok-piece.ensures.text file_system agrees) in
     first_found t x piece c.args.byte c.args.from place c.in-Some-memchr.found _ c.in-Some-memchr.is c.memchr.ensures
     c.loop-place.invariant.low text (c.loop-place.invariant.none file_system before)
 
@@ -82,14 +82,14 @@ loop-place-preserved g c =
     record {
       low = omega (arith, c.loop-place.invariant.low);
       high = omega (arith, c.in_ok-piece.ensures.inside, block.few, span.inside, c.len-len.ensures.stored);
-      none = λ file_system kept.
+      none = λ file_system agrees.
           let t = g.S.Source.table c.args.src.now file_system in
           let piece = c.in_ok-piece.piece.now in
-          let before = c.in_ok-piece.ensures.read.earlier file_system kept in
+          let before = c.in_ok-piece.ensures.read.earlier file_system agrees in
           let reported = g.met.S.Source.lengths_of_table c.args.src.now file_system (c.loop-place.invariant.earlier file_system before) in
           let text = block_piece (g.S.Source.lengths c.args.src.now) t x place c.span_from-span.result c.in_block-block.result piece
           reported c.requires.fits span block.some block.few block.prefix c.in_ok-piece.ensures.inside
-          (rw c.loop-place.invariant.table at c.in_ok-piece.ensures.text file_system kept) in
+          (rw c.loop-place.invariant.table at c.in_ok-piece.ensures.text file_system agrees) in
           first_on t x piece c.args.byte c.args.from place _ c.in-None.is c.memchr.ensures text
           (c.loop-place.invariant.none file_system before);
       cord = c.span_from-span.ensures.cord ∙ c.loop-place.invariant.cord;
@@ -97,13 +97,13 @@ loop-place-preserved g c =
       reads = c.in_ok-piece.ensures.read.count ∙ c.loop-place.invariant.reads;
       lengths = c.first_piece.ensures.read.lengths ∙ c.loop-place.invariant.lengths;
       table = c.first_piece.ensures.read.table ∙ c.loop-place.invariant.table;
-      earlier = λ file_system kept. c.loop-place.invariant.earlier file_system (c.in_ok-piece.ensures.read.earlier file_system kept);
+      earlier = λ file_system agrees. c.loop-place.invariant.earlier file_system (c.in_ok-piece.ensures.read.earlier file_system agrees);
     }
 
 pub returns-clause-first : goal.returns-clause-first
-returns-clause-first g c = λ file_system kept.
+returns-clause-first g c = λ file_system agrees.
     let t = g.S.Source.table c.args.src.now file_system in
-    let reported = g.met.S.Source.lengths_of_table c.args.src.now file_system (c.loop-place.invariant.earlier file_system kept) in
+    let reported = g.met.S.Source.lengths_of_table c.args.src.now file_system (c.loop-place.invariant.earlier file_system agrees) in
     let len = cord_len (g.S.Source.lengths c.args.src.now) t c.args.x.now reported c.set-position.ensures.sound c.requires.fits in
     first_none t c.args.x.now c.args.byte c.args.from c.loop-place.place (omega (arith, c.loop-place-test.false, c.len-len.ensures.stored))
-    len (c.loop-place.invariant.none file_system kept)
+    len (c.loop-place.invariant.none file_system agrees)

@@ -15,7 +15,7 @@ loop-end-init g c = record {
   reads = refl;
   lengths = refl;
   table = refl;
-  earlier = λ file_system kept. kept;
+  earlier = λ file_system agrees. agrees;
 }
 
 pub span_up_to-span-requires-clause-inside : goal.span_up_to-span-requires-clause-inside
@@ -39,13 +39,13 @@ loop-end-preserved-in-Some g c =
     let inside : span_len s ≤ end = c.span_up_to-span.ensures.inside in
     record {
       high = omega (arith, c.loop-end.invariant.high);
-      none = λ file_system kept.
+      none = λ file_system agrees.
           let t = g.S.Source.table c.args.src.now file_system in
-          let reported = g.met.S.Source.lengths_of_table c.args.src.now file_system (c.loop-end.invariant.earlier file_system kept) in
+          let reported = g.met.S.Source.lengths_of_table c.args.src.now file_system (c.loop-end.invariant.earlier file_system agrees) in
           let none : HasNot t x c.args.byte (end - span_len s) (c.args.at + 1) =
           last_past (g.S.Source.lengths c.args.src.now) t x s c.args.byte c.args.at (end - span_len s) end reported c.requires.fits
           c.set-position.ensures.sound (omega (arith, inside)) span c.in-Some.ensures.without
-          (c.loop-end.invariant.none file_system kept) in
+          (c.loop-end.invariant.none file_system agrees) in
           rw whole none;
       cord = c.span_up_to-span.ensures.cord ∙ c.loop-end.invariant.cord;
       valid = c.span_up_to-span.ensures.valid;
@@ -56,7 +56,7 @@ loop-end-preserved-in-Some g c =
     }
 
 pub returns-in-Some-memrchr-clause-last : goal.returns-in-Some-memrchr-clause-last
-returns-in-Some-memrchr-clause-last g c = λ file_system kept.
+returns-in-Some-memrchr-clause-last g c = λ file_system agrees.
     let t = g.S.Source.table c.args.src.now file_system in
     let x = c.args.x.now in
     let piece = c.in_ok-piece.piece.now in
@@ -65,12 +65,12 @@ returns-in-Some-memrchr-clause-last g c = λ file_system kept.
     let span : IsSpanOf x (end - span_len s) s = rw c.loop-end.invariant.cord at c.span_up_to-span.ensures.span in
     let inside : span_len s ≤ end = c.span_up_to-span.ensures.inside in
     let short : length piece ≤ span_len s = c.in_ok-piece.ensures.inside in
-    let before = c.in_ok-piece.ensures.read.earlier file_system kept in
+    let before = c.in_ok-piece.ensures.read.earlier file_system agrees in
     let reported = g.met.S.Source.lengths_of_table c.args.src.now file_system (c.loop-end.invariant.earlier file_system before) in
     let text : IsPieceOf t x (end - length piece) piece =
     piece_within (g.S.Source.lengths c.args.src.now) t x (end - span_len s) s (span_len s - length piece) (end - length piece)
     piece reported c.requires.fits span (omega (arith, short)) (omega (arith, short, inside))
-    (rw c.loop-end.invariant.table at c.in_ok-piece.ensures.text file_system kept) in
+    (rw c.loop-end.invariant.table at c.in_ok-piece.ensures.text file_system agrees) in
     last_found t x piece c.args.byte c.args.at (end - length piece) c.in-Some-memrchr.found end _ c.in-Some-memrchr.is c.memrchr.ensures
     (omega (arith, short, inside)) c.loop-end.invariant.high text (c.loop-end.invariant.none file_system before)
 
@@ -85,14 +85,14 @@ loop-end-preserved g c =
     let short : length piece ≤ span_len s = c.in_ok-piece.ensures.inside in
     record {
       high = omega (arith, c.loop-end.invariant.high);
-      none = λ file_system kept.
+      none = λ file_system agrees.
           let t = g.S.Source.table c.args.src.now file_system in
-          let before = c.in_ok-piece.ensures.read.earlier file_system kept in
+          let before = c.in_ok-piece.ensures.read.earlier file_system agrees in
           let reported = g.met.S.Source.lengths_of_table c.args.src.now file_system (c.loop-end.invariant.earlier file_system before) in
           let text : IsPieceOf t x (end - length piece) piece =
           piece_within (g.S.Source.lengths c.args.src.now) t x (end - span_len s) s (span_len s - length piece)
           (end - length piece) piece reported c.requires.fits span (omega (arith, short)) (omega (arith, short, inside))
-          (rw c.loop-end.invariant.table at c.in_ok-piece.ensures.text file_system kept) in
+          (rw c.loop-end.invariant.table at c.in_ok-piece.ensures.text file_system agrees) in
           last_on t x piece c.args.byte c.args.at (end - length piece) end _ c.in-None.is c.memrchr.ensures
           (omega (arith, short, inside)) text (c.loop-end.invariant.none file_system before);
       cord = c.span_up_to-span.ensures.cord ∙ c.loop-end.invariant.cord;
@@ -100,9 +100,9 @@ loop-end-preserved g c =
       reads = c.in_ok-piece.ensures.read.count ∙ c.loop-end.invariant.reads;
       lengths = c.last_piece.ensures.read.lengths ∙ c.loop-end.invariant.lengths;
       table = c.last_piece.ensures.read.table ∙ c.loop-end.invariant.table;
-      earlier = λ file_system kept. c.loop-end.invariant.earlier file_system (c.in_ok-piece.ensures.read.earlier file_system kept);
+      earlier = λ file_system agrees. c.loop-end.invariant.earlier file_system (c.in_ok-piece.ensures.read.earlier file_system agrees);
     }
 
 pub returns-clause-last : goal.returns-clause-last
-returns-clause-last g c = λ file_system kept. last_none (g.S.Source.table c.args.src.now file_system) c.args.x.now c.args.byte c.args.at
-    c.loop-end.end c.loop-end-test.false (c.loop-end.invariant.none file_system kept)
+returns-clause-last g c = λ file_system agrees. last_none (g.S.Source.table c.args.src.now file_system) c.args.x.now c.args.byte c.args.at
+    c.loop-end.end c.loop-end-test.false (c.loop-end.invariant.none file_system agrees)

@@ -7,20 +7,20 @@ use Rattle.cord_search.proofs.Lasts.{last_none, last_empty, last_from, ends_befo
 use Rattle.cord_search.proofs.last.rstr.Goals as goal
 
 pub returns-then-end-count-clause-last : goal.returns-then-end-count-clause-last
-returns-then-end-count-clause-last g c = λ file_system kept.
+returns-then-end-count-clause-last g c = λ file_system agrees.
     let t = g.S.Source.table c.args.src.now file_system in
     let lengths = g.S.Source.lengths c.args.src.now in
-    let reported = g.met.S.Source.lengths_of_table c.args.src.now file_system kept in
+    let reported = g.met.S.Source.lengths_of_table c.args.src.now file_system agrees in
     let len = cord_len lengths t c.args.x.now reported c.len.ensures.sound c.requires.fits in
     let pattern = cord_len lengths t c.args.s.now reported c.len-count.ensures.sound c.requires.pattern_fits in
     last_none (bytes_of t c.args.x.now) (bytes_of t c.args.s.now) c.args.end c.min-end.result
     (omega (arith, len, c.len.ensures.stored, c.min-end.ensures)) (omega (arith, pattern, c.len-count.ensures.stored, c.if-end-count.true))
 
 pub returns-then-count-eq0-clause-last : goal.returns-then-count-eq0-clause-last
-returns-then-count-eq0-clause-last g c = λ file_system kept.
+returns-then-count-eq0-clause-last g c = λ file_system agrees.
     let t = g.S.Source.table c.args.src.now file_system in
     let lengths = g.S.Source.lengths c.args.src.now in
-    let reported = g.met.S.Source.lengths_of_table c.args.src.now file_system kept in
+    let reported = g.met.S.Source.lengths_of_table c.args.src.now file_system agrees in
     let len = cord_len lengths t c.args.x.now reported c.len.ensures.sound c.requires.fits in
     let pattern = cord_len lengths t c.args.s.now reported c.len-count.ensures.sound c.requires.pattern_fits in
     let here : IsStanding t c.args.x.now c.min-end.result c.args.s.now true =
@@ -30,13 +30,13 @@ returns-then-count-eq0-clause-last g c = λ file_system kept.
     (omega (arith, len, c.len.ensures.stored, c.min-end.ensures)) (pattern ∙ sym c.len-count.ensures.stored ∙ c.if-count-eq0.true) here
 
 pub returns-clause-last : goal.returns-clause-last
-returns-clause-last g c = λ file_system kept.
+returns-clause-last g c = λ file_system agrees.
     let t = g.S.Source.table c.args.src.now file_system in
     let lengths = g.S.Source.lengths c.args.src.now in
-    let reported = g.met.S.Source.lengths_of_table c.args.src.now file_system (c.in_ok-place.ensures.read.earlier file_system kept) in
+    let reported = g.met.S.Source.lengths_of_table c.args.src.now file_system (c.in_ok-place.ensures.read.earlier file_system agrees) in
     let len = cord_len lengths t c.args.x.now reported c.len.ensures.sound c.requires.fits in
     let pattern = cord_len lengths t c.args.s.now reported c.len-count.ensures.sound c.requires.pattern_fits in
-    c.in_ok-place.ensures.last file_system kept
+    c.in_ok-place.ensures.last file_system agrees
     ∙ last_from (bytes_of t c.args.x.now) (bytes_of t c.args.s.now) c.args.end c.min-end.result c.len-count.result
     (omega (arith, len, c.len.ensures.stored, c.min-end.ensures)) (omega (arith, pattern, c.len-count.ensures.stored)) c.if-end-count.false
 

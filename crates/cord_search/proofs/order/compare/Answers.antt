@@ -16,15 +16,15 @@ ranges_are : (g : Over) (c : In_ok-ordering-in-Apart g) (file_system : FileSyste
     g.S.Source.consistent c.order_of_spans.new.src file_system →
     IsOrderOf (g.S.Source.table c.args.src.now file_system) c.args.x.now (c.args.i + c.loop-done.done) (span_len c.in-Apart.span)
     c.args.y.now (c.args.j + c.loop-done.done) (span_len c.in-Apart.span) c.in_ok-ordering-in-Apart.ordering
-ranges_are g c file_system kept =
+ranges_are g c file_system agrees =
     let t = g.S.Source.table c.args.src.now file_system in
     let lengths = g.S.Source.lengths c.args.src.now in
-    let before = c.in_ok-ordering-in-Apart.ensures.read.earlier file_system kept in
+    let before = c.in_ok-ordering-in-Apart.ensures.read.earlier file_system agrees in
     let reported = g.met.S.Source.lengths_of_table c.args.src.now file_system (c.loop-done.invariant.earlier file_system before) in
     order_of_ranges t c.args.x.now (c.args.i + c.loop-done.done) c.args.y.now (c.args.j + c.loop-done.done) c.in-Apart.span c.in-Apart.other
     c.in_ok-ordering-in-Apart.ordering (cord_reported lengths t c.args.x.now reported c.requires.left_fits)
     (cord_reported lengths t c.args.y.now reported c.requires.right_fits) c.in-Apart.ensures.ahead.0 c.in-Apart.ensures.ahead.1
-    c.in-Apart.ensures.ahead.2 (rw c.loop-done.invariant.table at c.in_ok-ordering-in-Apart.ensures.order file_system kept)
+    c.in-Apart.ensures.ahead.2 (rw c.loop-done.invariant.table at c.in_ok-ordering-in-Apart.ensures.order file_system agrees)
 
 pub overflow_add-i : goal.overflow_add-i
 overflow_add-i g c =
@@ -49,11 +49,11 @@ order_of_spans-requires-clause-right_fits g c = rw c.loop-done.invariant.lengths
 pub loop-done-preserved-in-Same : goal.loop-done-preserved-in-Same
 loop-done-preserved-in-Same g c = record {
   in_range = omega (arith, c.in-Same.ensures.ahead.1, c.loop-done-test.true, c.loop-done.invariant.in_range);
-  same = λ file_system kept.
-      let reported = g.met.S.Source.lengths_of_table c.args.src.now file_system (c.loop-done.invariant.earlier file_system kept) in
+  same = λ file_system agrees.
+      let reported = g.met.S.Source.lengths_of_table c.args.src.now file_system (c.loop-done.invariant.earlier file_system agrees) in
       alike_on (g.S.Source.lengths c.args.src.now) (g.S.Source.table c.args.src.now file_system) c.args.x.now c.args.i c.args.y.now c.args.j
       c.loop-done.done c.in-Same.count reported c.requires.left_fits c.requires.right_fits c.in-Same.ensures.ahead.2
-      (c.loop-done.invariant.same file_system kept);
+      (c.loop-done.invariant.same file_system agrees);
   left_way = c.in-Same.ensures.left_way;
   right_way = c.in-Same.ensures.right_way;
   reads = c.loop-done.invariant.reads;
@@ -65,36 +65,36 @@ loop-done-preserved-in-Same g c = record {
 pub loop-done-preserved : goal.loop-done-preserved
 loop-done-preserved g c = record {
   in_range = omega (arith, c.len-done.ensures, c.in-Apart.ensures.ahead.3, c.loop-done-test.true);
-  same = λ file_system kept.
+  same = λ file_system agrees.
       let t = g.S.Source.table c.args.src.now file_system in
       let x = c.args.x.now in
       let y = c.args.y.now in
       let done = c.loop-done.done in
       let n = span_len c.in-Apart.span in
-      let order = ranges_are g (goal.at.loop-done-preserved g c).In_ok-ordering-in-Apart file_system kept in
+      let order = ranges_are g (goal.at.loop-done-preserved g c).In_ok-ordering-in-Apart file_system agrees in
       let next = cmp_equal (take n (drop (c.args.i + done) (bytes_of t x))) (take n (drop (c.args.j + done) (bytes_of t y)))
       (sym order ∙ c.in-Equal.is) in
       rw c.len-done.ensures (same_on t x c.args.i y c.args.j done n next
-      (c.loop-done.invariant.same file_system (c.in_ok-ordering-in-Apart.ensures.read.earlier file_system kept)));
+      (c.loop-done.invariant.same file_system (c.in_ok-ordering-in-Apart.ensures.read.earlier file_system agrees)));
   left_way = c.in-Apart.ensures.left_way;
   right_way = c.in-Apart.ensures.right_way;
   reads = c.in_ok-ordering-in-Apart.ensures.read.count ∙ c.loop-done.invariant.reads;
   lengths = c.order_of_spans.ensures.read.lengths ∙ c.loop-done.invariant.lengths;
   table = c.order_of_spans.ensures.read.table ∙ c.loop-done.invariant.table;
-  earlier = λ file_system kept. c.loop-done.invariant.earlier file_system
-      (c.in_ok-ordering-in-Apart.ensures.read.earlier file_system kept);
+  earlier = λ file_system agrees. c.loop-done.invariant.earlier file_system
+      (c.in_ok-ordering-in-Apart.ensures.read.earlier file_system agrees);
 }
 
 pub returns-in_default : goal.returns-in_default
 returns-in_default g c = record {
-  order = λ file_system kept.
+  order = λ file_system agrees.
       let t = g.S.Source.table c.args.src.now file_system in
       let lengths = g.S.Source.lengths c.args.src.now in
       let x = c.args.x.now in
       let y = c.args.y.now in
       let done = c.loop-done.done in
       let n = span_len c.in-Apart.span in
-      let before = c.in_ok-ordering-in-Apart.ensures.read.earlier file_system kept in
+      let before = c.in_ok-ordering-in-Apart.ensures.read.earlier file_system agrees in
       let reported = g.met.S.Source.lengths_of_table c.args.src.now file_system (c.loop-done.invariant.earlier file_system before) in
       let left : (c.args.i + done) + n ≤ text_len x = c.in-Apart.ensures.ahead.0.inside in
       let right : (c.args.j + done) + n ≤ text_len y = omega (arith, c.in-Apart.ensures.ahead.1.inside, c.in-Apart.ensures.ahead.2) in
@@ -104,26 +104,26 @@ returns-in_default g c = record {
       different t x c.args.i c.args.left y c.args.j c.args.right done n c.in_ok-ordering-in-Apart.ordering
       (omega (arith, c.in-Apart.ensures.ahead.3, c.min-both.ensures, c.loop-done-test.true))
       (omega (arith, c.in-Apart.ensures.ahead.3, c.min-both.ensures, c.loop-done-test.true)) len
-      (ranges_are g (goal.at.returns-in_default g c).In_ok-ordering-in-Apart file_system kept) c.in_default.not-Equal
+      (ranges_are g (goal.at.returns-in_default g c).In_ok-ordering-in-Apart file_system agrees) c.in_default.not-Equal
       (c.loop-done.invariant.same file_system before);
   read = record {
     count = c.in_ok-ordering-in-Apart.ensures.read.count ∙ c.loop-done.invariant.reads;
     lengths = c.order_of_spans.ensures.read.lengths ∙ c.loop-done.invariant.lengths;
     table = c.order_of_spans.ensures.read.table ∙ c.loop-done.invariant.table;
-    earlier = λ file_system kept. c.loop-done.invariant.earlier file_system
-        (c.in_ok-ordering-in-Apart.ensures.read.earlier file_system kept);
+    earlier = λ file_system agrees. c.loop-done.invariant.earlier file_system
+        (c.in_ok-ordering-in-Apart.ensures.read.earlier file_system agrees);
   };
 }
 
 pub returns-clause-order : goal.returns-clause-order
-returns-clause-order g c = λ file_system kept.
+returns-clause-order g c = λ file_system agrees.
     let t = g.S.Source.table c.args.src.now file_system in
     let lengths = g.S.Source.lengths c.args.src.now in
-    let reported = g.met.S.Source.lengths_of_table c.args.src.now file_system (c.loop-done.invariant.earlier file_system kept) in
+    let reported = g.met.S.Source.lengths_of_table c.args.src.now file_system (c.loop-done.invariant.earlier file_system agrees) in
     let left = range_len t c.args.x.now c.args.i c.args.left
     (cord_len lengths t c.args.x.now reported c.requires.left_sound c.requires.left_fits) c.requires.left_inside in
     let right = range_len t c.args.y.now c.args.j c.args.right
     (cord_len lengths t c.args.y.now reported c.requires.right_sound c.requires.right_fits) c.requires.right_inside in
     rw c.cmp.ensures (no_different t c.args.x.now c.args.i c.args.left c.args.y.now c.args.j c.args.right c.loop-done.done
     (omega (arith, c.min-both.ensures, c.loop-done.invariant.in_range)) (omega (arith, c.min-both.ensures, c.loop-done-test.false))
-    left right (c.loop-done.invariant.same file_system kept))
+    left right (c.loop-done.invariant.same file_system agrees))

@@ -14,10 +14,10 @@ texts_are : (g : Over) (c : In_ok-other-in-Apart g) (file_system : FileSystem) �
     file_system →
     IsPieceOf (g.S.Source.table c.args.src.now file_system) c.args.x.now (c.args.i + c.loop-done.done) c.in_ok-piece-in-Apart.piece.now ×
     IsPieceOf (g.S.Source.table c.args.src.now file_system) c.args.y.now (c.args.j + c.loop-done.done) c.in_ok-other-in-Apart.other.now
-texts_are g c file_system kept =
+texts_are g c file_system agrees =
     let t = g.S.Source.table c.args.src.now file_system in
     let lengths = g.S.Source.lengths c.args.src.now in
-    let after = c.in_ok-other-in-Apart.ensures.read.earlier file_system kept in
+    let after = c.in_ok-other-in-Apart.ensures.read.earlier file_system agrees in
     let before = c.in_ok-piece-in-Apart.ensures.read.earlier file_system after in
     let reported = g.met.S.Source.lengths_of_table c.args.src.now file_system (c.loop-done.invariant.earlier file_system before) in (
       prefix_within lengths t c.args.x.now (c.args.i + c.loop-done.done) c.in-Apart.span c.in_ok-piece-in-Apart.piece.now reported
@@ -25,7 +25,7 @@ texts_are g c file_system kept =
           (rw c.loop-done.invariant.table at c.in_ok-piece-in-Apart.ensures.text file_system after),
       prefix_within lengths t c.args.y.now (c.args.j + c.loop-done.done) c.in-Apart.other c.in_ok-other-in-Apart.other.now reported
           c.requires.right_fits c.in-Apart.ensures.ahead.1 c.in_ok-other-in-Apart.ensures.inside
-          (rw (c.first_piece.ensures.read.table, c.loop-done.invariant.table) at c.in_ok-other-in-Apart.ensures.text file_system kept),
+          (rw (c.first_piece.ensures.read.table, c.loop-done.invariant.table) at c.in_ok-other-in-Apart.ensures.text file_system agrees),
     )
 
 pub overflow_add-i : goal.overflow_add-i
@@ -45,11 +45,11 @@ first_piece-requires-in-Apart-clause-fits g c = rw (c.first_piece.ensures.read.l
 pub loop-done-preserved-in-Same : goal.loop-done-preserved-in-Same
 loop-done-preserved-in-Same g c = record {
   in_range = omega (arith, c.in-Same.ensures.ahead.1, c.loop-done-test.true, c.loop-done.invariant.in_range);
-  same = λ file_system kept.
-      let reported = g.met.S.Source.lengths_of_table c.args.src.now file_system (c.loop-done.invariant.earlier file_system kept) in
+  same = λ file_system agrees.
+      let reported = g.met.S.Source.lengths_of_table c.args.src.now file_system (c.loop-done.invariant.earlier file_system agrees) in
       alike_on (g.S.Source.lengths c.args.src.now) (g.S.Source.table c.args.src.now file_system) c.args.x.now c.args.i c.args.y.now c.args.j
       c.loop-done.done c.in-Same.count reported c.requires.left_fits c.requires.right_fits c.in-Same.ensures.ahead.2
-      (c.loop-done.invariant.same file_system kept);
+      (c.loop-done.invariant.same file_system agrees);
   left_way = c.in-Same.ensures.left_way;
   right_way = c.in-Same.ensures.right_way;
   reads = c.loop-done.invariant.reads;
@@ -67,15 +67,15 @@ loop-done-preserved g c = record {
     c.in-Apart.ensures.ahead.3,
     c.loop-done-test.true,
   );
-  same = λ file_system kept.
+  same = λ file_system agrees.
       let t = g.S.Source.table c.args.src.now file_system in
       let done = c.loop-done.done in
       let n = c.agreeing-count.result in
       let piece = c.in_ok-piece-in-Apart.piece.now in
       let other = c.in_ok-other-in-Apart.other.now in
-      let after = c.in_ok-other-in-Apart.ensures.read.earlier file_system kept in
+      let after = c.in_ok-other-in-Apart.ensures.read.earlier file_system agrees in
       let before = c.in_ok-piece-in-Apart.ensures.read.earlier file_system after in
-      let texts = texts_are g (goal.at.loop-done-preserved g c).In_ok-other-in-Apart file_system kept in
+      let texts = texts_are g (goal.at.loop-done-preserved g c).In_ok-other-in-Apart file_system agrees in
       common_on t c.args.x.now c.args.i c.args.y.now c.args.j done n piece other c.agreeing-count.ensures.left
       c.agreeing-count.ensures.right texts.0 texts.1 c.agreeing-count.ensures.same (c.loop-done.invariant.same file_system before);
   left_way = c.in-Apart.ensures.left_way;
@@ -83,28 +83,28 @@ loop-done-preserved g c = record {
   reads = c.in_ok-other-in-Apart.ensures.read.count ∙ (c.in_ok-piece-in-Apart.ensures.read.count ∙ c.loop-done.invariant.reads);
   lengths = c.first_piece-in-Apart.ensures.read.lengths ∙ (c.first_piece.ensures.read.lengths ∙ c.loop-done.invariant.lengths);
   table = c.first_piece-in-Apart.ensures.read.table ∙ (c.first_piece.ensures.read.table ∙ c.loop-done.invariant.table);
-  earlier = λ file_system kept. c.loop-done.invariant.earlier file_system
-      (c.in_ok-piece-in-Apart.ensures.read.earlier file_system (c.in_ok-other-in-Apart.ensures.read.earlier file_system kept));
+  earlier = λ file_system agrees. c.loop-done.invariant.earlier file_system
+      (c.in_ok-piece-in-Apart.ensures.read.earlier file_system (c.in_ok-other-in-Apart.ensures.read.earlier file_system agrees));
 }
 
 pub returns-then-count-both-clause-common : goal.returns-then-count-both-clause-common
-returns-then-count-both-clause-common g c = λ file_system kept.
+returns-then-count-both-clause-common g c = λ file_system agrees.
     let t = g.S.Source.table c.args.src.now file_system in
     let done = c.loop-done.done in
     let n = c.agreeing-count.result in
     let piece = c.in_ok-piece-in-Apart.piece.now in
     let other = c.in_ok-other-in-Apart.other.now in
-    let after = c.in_ok-other-in-Apart.ensures.read.earlier file_system kept in
+    let after = c.in_ok-other-in-Apart.ensures.read.earlier file_system agrees in
     let before = c.in_ok-piece-in-Apart.ensures.read.earlier file_system after in
     let left : n < length piece = omega (arith, c.if-count-both.true, c.min-both.ensures) in
     let right : n < length other = omega (arith, c.if-count-both.true, c.min-both.ensures) in
-    let texts = texts_are g (goal.at.returns-then-count-both-clause-common g c).In_ok-other-in-Apart file_system kept in
+    let texts = texts_are g (goal.at.returns-then-count-both-clause-common g c).In_ok-other-in-Apart file_system agrees in
     common_end t c.args.x.now c.args.i c.args.y.now c.args.j c.args.most done n piece other
     (omega (arith, left, c.in_ok-piece-in-Apart.ensures.inside, c.in-Apart.ensures.ahead.3, c.loop-done-test.true)) left right
     texts.0 texts.1 c.agreeing-count.ensures.same (c.agreeing-count.ensures.differ left right)
     (c.loop-done.invariant.same file_system before)
 
 pub returns-clause-common : goal.returns-clause-common
-returns-clause-common g c = λ file_system kept.
+returns-clause-common g c = λ file_system agrees.
     common_all (g.S.Source.table c.args.src.now file_system) c.args.x.now c.args.i c.args.y.now c.args.j c.args.most c.loop-done.done
-    c.loop-done.invariant.in_range (omega (arith, c.loop-done-test.false)) (c.loop-done.invariant.same file_system kept)
+    c.loop-done.invariant.in_range (omega (arith, c.loop-done-test.false)) (c.loop-done.invariant.same file_system agrees)

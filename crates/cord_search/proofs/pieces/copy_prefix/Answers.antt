@@ -6,12 +6,12 @@ use Rattle.cord_search.proofs.Ranges.{leaf_part, run_part}
 use Rattle.cord_search.proofs.pieces.copy_prefix.Goals as goal
 
 pub returns-in-Bytes-clause-text : goal.returns-in-Bytes-clause-text
-returns-in-Bytes-clause-text g c = λ file_system kept. leaf_part (g.S.Source.table c.args.src.now file_system) c.args.span
+returns-in-Bytes-clause-text g c = λ file_system agrees. leaf_part (g.S.Source.table c.args.src.now file_system) c.args.span
     c.copy_from_slice.new.self c.in-Bytes.bytes.now _ (λ t. ap (λ (s : Span). span_bytes t s) c.in-Bytes.is)
     c.copy_from_slice.ensures.after
 
 pub returns-in-Run-clause-text : goal.returns-in-Run-clause-text
-returns-in-Run-clause-text g c = λ file_system kept.
+returns-in-Run-clause-text g c = λ file_system agrees.
     let whole : span_len c.args.span ≡ c.in-Run.len = ap span_len c.in-Run.is in
     run_part (g.S.Source.table c.args.src.now file_system) c.args.span _ c.in-Run.byte c.in-Run.len 0 _
     (λ t. ap (λ (s : Span). span_bytes t s) c.in-Run.is) (omega (arith, whole, c.requires.inside))

@@ -38,15 +38,15 @@ loop-done-preserved g c =
     let long : length part ≡ n = omega (arith, c.copy_prefix.auto.out ∙ cut) in
     record {
       in_range = filled_inside done _ n c.loop-done.out part long c.loop-done.invariant.in_range;
-      filled = λ file_system kept.
+      filled = λ file_system agrees.
           let t = g.S.Source.table c.args.src.now file_system in
           let lengths = g.S.Source.lengths c.args.src.now in
-          let before = c.in_ok-copy_prefix.ensures.read.earlier file_system kept in
+          let before = c.in_ok-copy_prefix.ensures.read.earlier file_system agrees in
           let reported = g.met.S.Source.lengths_of_table c.args.src.now file_system (c.loop-done.invariant.earlier file_system before) in
           let text : IsPieceOf t c.args.position.now.cord (c.args.place + done) part =
           prefix_within lengths t c.args.position.now.cord (c.args.place + done) c.span_from-span.result part reported c.requires.fits
           span (omega (arith, long, c.min-count.ensures, c.len.ensures))
-          (rw c.loop-done.invariant.table at c.in_ok-copy_prefix.ensures.text file_system kept) in
+          (rw c.loop-done.invariant.table at c.in_ok-copy_prefix.ensures.text file_system agrees) in
           filled_on t c.args.position.now.cord c.args.place done _ n c.loop-done.out part (c.loop-done.invariant.filled file_system before)
           text
           long c.loop-done.invariant.in_range;
@@ -55,5 +55,5 @@ loop-done-preserved g c =
       reads = c.in_ok-copy_prefix.ensures.read.count ∙ c.loop-done.invariant.reads;
       lengths = c.copy_prefix.ensures.read.lengths ∙ c.loop-done.invariant.lengths;
       table = c.copy_prefix.ensures.read.table ∙ c.loop-done.invariant.table;
-      earlier = λ file_system kept. c.loop-done.invariant.earlier file_system (c.in_ok-copy_prefix.ensures.read.earlier file_system kept);
+      earlier = λ file_system agrees. c.loop-done.invariant.earlier file_system (c.in_ok-copy_prefix.ensures.read.earlier file_system agrees);
     }

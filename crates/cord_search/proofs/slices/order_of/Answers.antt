@@ -1,6 +1,6 @@
 use Rattle.std.proofs.Common.{◌∙◌}
-use Rattle.cord_search.proofs.Comparing.{cmp_behind}
+use Rattle.cord_search.proofs.Comparing.{cmp_after}
 use Rattle.cord_search.proofs.slices.order_of.Goals as goal
 
 pub returns : goal.returns
-returns c = c.cmp.ensures ∙ cmp_behind c.args.left.now c.args.right.now c.common_prefix-same.result c.common_prefix-same.ensures.same
+returns c = c.cmp.ensures ∙ cmp_after c.args.left.now c.args.right.now c.common_prefix-same.result c.common_prefix-same.ensures.same

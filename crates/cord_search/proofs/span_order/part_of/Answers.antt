@@ -19,7 +19,7 @@ read-requires g c =
     }
 
 pub returns-in-Run-clause-text : goal.returns-in-Run-clause-text
-returns-in-Run-clause-text g c = λ file_system kept.
+returns-in-Run-clause-text g c = λ file_system agrees.
     let s = c.args.span in
     let whole : span_len s ≡ c.in-Run.len = ap span_len c.in-Run.is in
     let cut = length-take-le c.args.count c.args.buffer.now c.requires.room in
@@ -28,11 +28,11 @@ returns-in-Run-clause-text g c = λ file_system kept.
     (omega (arith, whole, cut, c.requires.inside)) (c.fill.ensures.after (λ y e. e))
 
 pub returns-in_ok-read-in-Func-clause-text : goal.returns-in_ok-read-in-Func-clause-text
-returns-in_ok-read-in-Func-clause-text g c = λ file_system kept.
+returns-in_ok-read-in-Func-clause-text g c = λ file_system agrees.
     let s = c.args.span in
     let out = c.read.new.out in
     let whole : span_len s ≡ c.in-Func.len = ap span_len c.in-Func.is in
     let long : length out ≡ c.args.count = c.read.auto.out ∙ length-take-le c.args.count c.args.buffer.now c.requires.room in
     func_part (g.S.Source.table c.args.src.now file_system) s out c.in-Func.id.0 c.in-Func.start c.in-Func.len
     (c.in-Func.start + c.args.from) c.args.from (λ t. ap (λ (s : Span). span_bytes t s) c.in-Func.is) (omega arith)
-    (omega (arith, whole, long, c.requires.inside)) (c.in_ok-read-in-Func.ensures.bytes file_system kept)
+    (omega (arith, whole, long, c.requires.inside)) (c.in_ok-read-in-Func.ensures.bytes file_system agrees)

@@ -10,17 +10,17 @@ use Rattle.cord_search.proofs.Cuts.{first_within, none_within}
 use Rattle.cord_search.proofs.substring.first_of.Goals as goal
 
 pub returns-then-not-lies_inside-clause-first : goal.returns-then-not-lies_inside-clause-first
-returns-then-not-lies_inside-clause-first g c = λ file_system kept.
+returns-then-not-lies_inside-clause-first g c = λ file_system agrees.
     let t = g.S.Source.table c.args.src.now file_system in
     let long : length c.needle-head.result.now ≡ length c.args.finder.now = ap (λ (ys : List ℕ). length ys) c.needle-head.ensures in
     none_within t c.args.x.now c.args.finder.now c.args.start c.args.start c.args.end
     (omega (arith, long, c.lies_inside.ensures.outside c.if-not-lies_inside.true)) (stands_start t c.args.x.now c.args.finder.now c.args.start)
 
-pub first_behind-requires-in-None-clause-none : goal.first_behind-requires-in-None-clause-none
-first_behind-requires-in-None-clause-none g c = λ file_system kept.
+pub first_at_or_after-requires-in-None-clause-none : goal.first_at_or_after-requires-in-None-clause-none
+first_at_or_after-requires-in-None-clause-none g c = λ file_system agrees.
     let t = g.S.Source.table c.args.src.now file_system in
     let lengths = g.S.Source.lengths c.args.src.now in
-    let reported = g.met.S.Source.lengths_of_table c.args.src.now file_system kept in
+    let reported = g.met.S.Source.lengths_of_table c.args.src.now file_system agrees in
     let x = c.args.x.now in
     let start = c.args.start in
     let head = c.args.finder.now in
@@ -39,10 +39,10 @@ first_behind-requires-in-None-clause-none g c = λ file_system kept.
     (stands_start t x head start))
 
 pub returns-in-Some-clause-first : goal.returns-in-Some-clause-first
-returns-in-Some-clause-first g c = λ file_system kept.
+returns-in-Some-clause-first g c = λ file_system agrees.
     let t = g.S.Source.table c.args.src.now file_system in
     let lengths = g.S.Source.lengths c.args.src.now in
-    let reported = g.met.S.Source.lengths_of_table c.args.src.now file_system kept in
+    let reported = g.met.S.Source.lengths_of_table c.args.src.now file_system agrees in
     let x = c.args.x.now in
     let start = c.args.start in
     let head = c.args.finder.now in

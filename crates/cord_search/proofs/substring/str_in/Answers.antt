@@ -8,10 +8,10 @@ use Rattle.cord_search.proofs.Cuts.{first_within, none_within, take_limit, ends_
 use Rattle.cord_search.proofs.substring.str_in.Goals as goal
 
 pub returns-then-not-lies_inside-clause-first : goal.returns-then-not-lies_inside-clause-first
-returns-then-not-lies_inside-clause-first g c = λ file_system kept.
+returns-then-not-lies_inside-clause-first g c = λ file_system agrees.
     let t = g.S.Source.table c.args.src.now file_system in
     let lengths = g.S.Source.lengths c.args.src.now in
-    let reported = g.met.S.Source.lengths_of_table c.args.src.now file_system kept in
+    let reported = g.met.S.Source.lengths_of_table c.args.src.now file_system agrees in
     let len = cord_len lengths t c.args.x.now reported c.len.ensures.sound c.requires.fits in
     let pattern = cord_len lengths t c.args.s.now reported c.len-count.ensures.sound c.requires.pattern_fits in
     none_within t c.args.x.now (bytes_of t c.args.s.now) c.args.start c.args.start c.min-end.result
@@ -21,10 +21,10 @@ returns-then-not-lies_inside-clause-first g c = λ file_system kept.
     (take_limit t c.args.x.now c.args.end c.len.result c.min-end.result len c.len.ensures.stored c.min-end.ensures)
 
 pub returns-then-count-eq0-clause-first : goal.returns-then-count-eq0-clause-first
-returns-then-count-eq0-clause-first g c = λ file_system kept.
+returns-then-count-eq0-clause-first g c = λ file_system agrees.
     let t = g.S.Source.table c.args.src.now file_system in
     let lengths = g.S.Source.lengths c.args.src.now in
-    let reported = g.met.S.Source.lengths_of_table c.args.src.now file_system kept in
+    let reported = g.met.S.Source.lengths_of_table c.args.src.now file_system agrees in
     let len = cord_len lengths t c.args.x.now reported c.len.ensures.sound c.requires.fits in
     let pattern = cord_len lengths t c.args.s.now reported c.len-count.ensures.sound c.requires.pattern_fits in
     let inside : c.args.start + c.len-count.result ≤ c.min-end.result = c.lies_inside.ensures.inside c.if-not-lies_inside.false in
@@ -39,11 +39,11 @@ returns-then-count-eq0-clause-first g c = λ file_system kept.
     (take_limit t c.args.x.now c.args.end c.len.result c.min-end.result len c.len.ensures.stored c.min-end.ensures)
 
 pub returns-clause-first : goal.returns-clause-first
-returns-clause-first g c = λ file_system kept.
+returns-clause-first g c = λ file_system agrees.
     let t = g.S.Source.table c.args.src.now file_system in
-    let reported = g.met.S.Source.lengths_of_table c.args.src.now file_system (c.in_ok-place.ensures.read.earlier file_system kept) in
+    let reported = g.met.S.Source.lengths_of_table c.args.src.now file_system (c.in_ok-place.ensures.read.earlier file_system agrees) in
     let len = cord_len (g.S.Source.lengths c.args.src.now) t c.args.x.now reported c.len.ensures.sound c.requires.fits in
-    c.in_ok-place.ensures.first file_system kept
+    c.in_ok-place.ensures.first file_system agrees
     ∙ ap (λ (ys : List ℕ). first ys c.args.start (bytes_of t c.args.s.now))
     (take_limit t c.args.x.now c.args.end c.len.result c.min-end.result len c.len.ensures.stored c.min-end.ensures)
 

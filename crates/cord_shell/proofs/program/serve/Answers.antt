@@ -12,8 +12,8 @@ returns-then-request-clause-run g c =
     let counts = counts_over g.F.Files sink c.args.files c.read_whole.new.files c.args.out.now c.show_script.new.out in
     printed_at (g.F.Files.consistent c.read_whole.new.files) path request.unplanned c.deref.result.now (sink.taken c.args.out.now)
     (sink.taken c.show_script.new.out) counts
-    (λ file_system kept. subst (λ (b : List ℕ). file_at file_system path ≡ Some b) (sym c.deref.ensures.value)
-    (c.in-Ok.ensures.found file_system kept))
+    (λ file_system agrees. subst (λ (b : List ℕ). file_at file_system path ≡ Some b) (sym c.deref.ensures.value)
+    (c.in-Ok.ensures.found file_system agrees))
     request.show_plan c.show_script.result c.if-request.true c.show_script.ensures c.in-Ok.ensures.count
 
 pub returns-clause-run : goal.returns-clause-run
@@ -25,6 +25,6 @@ returns-clause-run g c =
     let counts = counts_over g.F.Files sink c.args.files run.result.1 c.args.out.now run.new.out in
     run_at (g.F.Files.consistent run.result.1) path request.unplanned c.deref-else-request.result.now (sink.taken c.args.out.now)
     (sink.taken run.new.out) counts
-    (λ file_system kept. subst (λ (b : List ℕ). file_at file_system path ≡ Some b) (sym c.deref-else-request.ensures.value)
-    (c.in-Ok.ensures.found file_system (run.ensures.earlier file_system kept)))
+    (λ file_system agrees. subst (λ (b : List ℕ). file_at file_system path ≡ Some b) (sym c.deref-else-request.ensures.value)
+    (c.in-Ok.ensures.found file_system (run.ensures.earlier file_system agrees)))
     request.show_plan run.result.0 c.if-request.false (g.F.Files.failures c.read_whole.new.files) c.in-Ok.ensures.count run.ensures.run

@@ -8,10 +8,10 @@ reading-preserved g c =
     let before = c.reading.invariant in
     let read = c.in-Ok.ensures in
     record {
-      earlier = λ file_system kept. before.earlier file_system (read.earlier file_system kept);
+      earlier = λ file_system agrees. before.earlier file_system (read.earlier file_system agrees);
       kept = λ n. read.opened n ∙ before.kept n;
       count = read.count ∙ before.count;
-      read = λ file_system kept.
+      read = λ file_system agrees.
           let same = before.kept c.args.no.0 in
           let at : c.len-done.result ≡ length c.reading.bytes.items = search rules in
           let rest : List ℕ = drop c.min-room.result c.reading.block in
@@ -19,5 +19,5 @@ reading-preserved g c =
           search rules in
           more_of_reported (bytes_at file_system) (g.F.Files.opened c.args.files.now c.args.no.0) c.reading.bytes.items
           c.extend_from_slice.new.self.items c.read_at.new.out rest c.in-Ok.count
-          (before.read file_system (read.earlier file_system kept)) (rw (sym same, sym at) (read.bytes file_system kept)) read.some.1 more;
+          (before.read file_system (read.earlier file_system agrees)) (rw (sym same, sym at) (read.bytes file_system agrees)) read.some.1 more;
     }

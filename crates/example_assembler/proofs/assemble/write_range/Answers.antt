@@ -11,6 +11,6 @@ pub put-requires : goal.put-requires
 put-requires g c = record { fits = c.in_ok-range.ensures.over.fits (g.S.Source.lengths c.args.src.now) c.loop-segment.invariant.fits }
 
 pub returns : goal.returns
-returns g c file_system kept = joined_written _ _ _ _ c.loop-segment-test.false c.loop-segment.invariant c.in_ok-range.ensures.over
-    (g.met.S.Source.lengths_of_table c.args.src.now file_system (c.put.ensures.source.earlier file_system kept))
-    (c.put.ensures.text file_system kept)
+returns g c file_system agrees = joined_written _ _ _ _ c.loop-segment-test.false c.loop-segment.invariant c.in_ok-range.ensures.over
+    (g.met.S.Source.lengths_of_table c.args.src.now file_system (c.put.ensures.source.earlier file_system agrees))
+    (c.put.ensures.text file_system agrees)

@@ -6,7 +6,7 @@ use Rattle.cord_node.proofs.TreeLemmas.{count_limit, count_positive}
 use Rattle.cord_balance.specs.Fib.{IsSlotOf}
 use Rattle.cord_balance.specs.inner.Forest.{forest_parts, piece_parts}
 use Rattle.cord_balance.proofs.ForestLemmas.{AllFrom-lower}
-use Rattle.cord_balance.proofs.Inserting.{gathered_fits, joined_depth_in_slot, kept_insert}
+use Rattle.cord_balance.proofs.Inserting.{gathered_fits, joined_depth_in_slot, insert_from}
 use Rattle.cord_balance.proofs.forest.slots.insert.Goals as goal
 
 pub slot_of-slot-requires-clause-not_empty : goal.slot_of-slot-requires-clause-not_empty
@@ -32,7 +32,7 @@ merge-requires-clause-beyond c =
     AllFrom-lower (depth_of c.in_ok-joined.joined.value) c.slot_of-slot.result c.gather.new.forest.items d c.in_ok-small.ensures.from
 
 pub returns-clause-parts_from : goal.returns-clause-parts_from
-returns-clause-parts_from c = on_ok_weaker c.merge.result (λ k. kept_insert (forest_parts c.args.forest.now.items)
+returns-clause-parts_from c = on_ok_weaker c.merge.result (λ k. insert_from (forest_parts c.args.forest.now.items)
     (forest_parts c.gather.new.forest.items) (piece_parts c.in_ok-small.small) (parts c.args.node.value)
     (parts c.in_ok-joined.joined.value) (forest_parts c.merge.new.forest.items) c.in_ok-small.ensures.parts_from
     c.in_ok-joined.ensures.parts_from k)

@@ -7,14 +7,14 @@ use Rattle.cord_node.specs.Tree.{len_of, IsSound}
 use Rattle.cord_node.specs.PartsFrom.{parts}
 use Rattle.cord_balance.specs.declared.forest.balanced_trees.Known.{Known}
 use Rattle.cord_balance.specs.inner.Forest.{IsForm, IsKnown, forest_parts}
-use Rattle.cord_balance.proofs.Inserting.{kept_two}
+use Rattle.cord_balance.proofs.Inserting.{two_from}
 use Rattle.cord_balance.proofs.Forms.{IsPut, form_put, cat_put, form_of_put, right_some}
 use Rattle.cord_balance.proofs.forest.trees.+insert_once.Goals.{In_ok-insert_tree-2}
 use Rattle.cord_balance.proofs.forest.trees.+insert_once.Goals as goal
 
 pub returns-then-strong_count-alone-clause-parts_from : goal.returns-then-strong_count-alone-clause-parts_from
 returns-then-strong_count-alone-clause-parts_from t c = rw (← c.as_ref.ensures, c.in-Cat.is)
-    (on_ok_weaker c.insert_once-then-strong_count-alone.result (λ k. kept_two (forest_parts c.args.forest.now.items)
+    (on_ok_weaker c.insert_once-then-strong_count-alone.result (λ k. two_from (forest_parts c.args.forest.now.items)
     (parts c.in-Cat.left.value) (parts c.in-Cat.right.value) (forest_parts c.insert_once.new.forest.items)
     (forest_parts c.insert_once-then-strong_count-alone.new.forest.items) c.in_ok-insert_once.ensures.parts_from k)
     c.insert_once-then-strong_count-alone.ensures.parts_from)

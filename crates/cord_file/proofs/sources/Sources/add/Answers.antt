@@ -41,11 +41,11 @@ invariant_of-self-2 g c =
     let path : string_bytes file.path ≡ c.args.path.now = c.in_ok-kept.ensures.ok in
     let hands : HandsOut (g.F.Files.opened old.files) (g.F.Files.opened c.open.new.self) file.no.0 c.args.path.now file.len =
     c.in_ok-no.ensures.opened in
-    let Keeps : FileSystem → Type 0 = g.F.Files.consistent c.open.new.self in
-    let earlier : (file_system : FileSystem) → Keeps file_system → g.F.Files.consistent old.files file_system = c.open.ensures.earlier in
-    let found : (file_system : FileSystem) → Keeps file_system → IsFound file_system (string_bytes file.path) file.len =
-    λ file_system kept. subst (λ p. IsFound file_system p file.len) (sym path)
-    (found_there file_system _ _ (c.in_ok-no.ensures.found file_system kept)) in
+    let Consistent : FileSystem → Type 0 = g.F.Files.consistent c.open.new.self in
+    let earlier : (file_system : FileSystem) → Consistent file_system → g.F.Files.consistent old.files file_system = c.open.ensures.earlier in
+    let found : (file_system : FileSystem) → Consistent file_system → IsFound file_system (string_bytes file.path) file.len =
+    λ file_system agrees. subst (λ p. IsFound file_system p file.len) (sym path)
+    (found_there file_system _ _ (c.in_ok-no.ensures.found file_system agrees)) in
     record {
       few = search rules;
       sound = record {
@@ -55,18 +55,18 @@ invariant_of-self-2 g c =
             (hands.reported ∙ ap (λ p. Some (p, file.len)) (sym path));
         short_enough = each_pushed (λ f. f.len ≤ MAX_LEN) files _ file (is_ok c.push.result) c.push.ensures.items old.sound.short_enough
             (search rules);
-        there = each_pushed (λ f. (file_system : FileSystem) → Keeps file_system →
+        there = each_pushed (λ f. (file_system : FileSystem) → Consistent file_system →
             file_at file_system (string_bytes f.path) ≡ Some (bytes_at file_system (string_bytes f.path))) files _ file
             (is_ok c.push.result) c.push.ensures.items
-            (λ k f h file_system kept. old.sound.there k f h file_system (earlier file_system kept))
-            (λ file_system kept. (found file_system kept).0);
-        as_long = each_pushed (λ f. (file_system : FileSystem) → Keeps file_system → length (bytes_at file_system (string_bytes f.path)) ≡
+            (λ k f h file_system agrees. old.sound.there k f h file_system (earlier file_system agrees))
+            (λ file_system agrees. (found file_system agrees).0);
+        as_long = each_pushed (λ f. (file_system : FileSystem) → Consistent file_system → length (bytes_at file_system (string_bytes f.path)) ≡
             f.len) files _ file
             (is_ok c.push.result) c.push.ensures.items
-            (λ k f h file_system kept. old.sound.as_long k f h file_system (earlier file_system kept))
-            (λ file_system kept. (found file_system kept).1);
-        cached = kept_after Keeps files _ file (is_ok c.push.result) _ c.push.ensures.items
-            (kept_earlier (g.F.Files.consistent old.files) Keeps files old.cache.entries earlier old.sound.cached);
+            (λ k f h file_system agrees. old.sound.as_long k f h file_system (earlier file_system agrees))
+            (λ file_system agrees. (found file_system agrees).1);
+        cached = kept_after Consistent files _ file (is_ok c.push.result) _ c.push.ensures.items
+            (kept_earlier (g.F.Files.consistent old.files) Consistent files old.cache.entries earlier old.sound.cached);
       };
     }
 
@@ -87,7 +87,7 @@ returns-clause-opens g c =
     (opens_after (opened_of files) c.args.path.now file.len c.requires room limit))
 
 pub returns-clause-file : goal.returns-clause-file
-returns-clause-file g c = λ file_system kept.
+returns-clause-file g c = λ file_system agrees.
     let old = c.args.self.now in
     let files = old.open_files.items in
     let file : OpenFile = record { path = c.in_ok-kept.kept; no = c.in_ok-no.no; len = c.in_ok-no.len } in
@@ -100,4 +100,4 @@ returns-clause-file g c = λ file_system kept.
     ap (λ xs. slice_get xs (length (opened_of files))) more ∙ last_place (opened_of files) (c.args.path.now, file.len) in
     holds_file file_system (opened_of c.push.new.self.items) c.args.path.now (c.len-2.result + 2) file.len (length (opened_of files)) id
     slot
-    (found_there file_system _ _ (c.in_ok-no.ensures.found file_system kept))
+    (found_there file_system _ _ (c.in_ok-no.ensures.found file_system agrees))

@@ -42,7 +42,7 @@ returns-in-Some-clause-opens g c =
     opens_again (opened_of files) path (n + 2) e.len found reported (self.sound.short_enough n e here)
 
 pub returns-in-Some-clause-file : goal.returns-in-Some-clause-file
-returns-in-Some-clause-file g c = λ file_system kept.
+returns-in-Some-clause-file g c = λ file_system agrees.
     let self = c.args.self.now in
     let files = self.open_files.items in
     let n = c.in-Some.place in
@@ -59,6 +59,6 @@ returns-in-Some-clause-file g c = λ file_system kept.
     let slot : slice_get (opened_of files) n ≡ Some (path, e.len) =
     slice_get-map reported_of files n ∙ ap (option_map reported_of) here ∙ ap (λ p. Some (p, e.len)) at in
     let there : IsFound file_system path e.len =
-    subst (λ p. IsFound file_system p e.len) at (self.sound.there n e here file_system kept, self.sound.as_long n e here file_system kept)
+    subst (λ p. IsFound file_system p e.len) at (self.sound.there n e here file_system agrees, self.sound.as_long n e here file_system agrees)
     in
     holds_file file_system (opened_of files) path (n + 2) e.len n id slot there

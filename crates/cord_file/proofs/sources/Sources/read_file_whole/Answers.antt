@@ -33,7 +33,7 @@ invariant_of-self-clause-sound g c =
     (λ n h. c.read_all.ensures.opened n) self.sound
 
 pub returns-clause-bytes : goal.returns-clause-bytes
-returns-clause-bytes g c = λ file_system kept.
+returns-clause-bytes g c = λ file_system agrees.
     let self = c.args.self.now in
     let files = self.open_files.items in
     let file : OpenFile = c.index-file.result.now in
@@ -42,4 +42,4 @@ returns-clause-bytes g c = λ file_system kept.
     slice_get_read files (length files) c.args.place file refl inside c.index-file.ensures in
     let count : length c.read_all.new.bytes.items ≡ c.args.len = sym c.read_all.new.bytes.ok.0 ∙ c.in_ok-read_all.ensures.len in
     whole_read file_system (g.F.Files.opened self.files file.no.0) (slice_get files c.args.place) file c.args.len c.read_all.new.bytes.items
-    (self.sound.handed_out c.args.place file here) here count (c.in_ok-read_all.ensures.bytes file_system kept)
+    (self.sound.handed_out c.args.place file here) here count (c.in_ok-read_all.ensures.bytes file_system agrees)

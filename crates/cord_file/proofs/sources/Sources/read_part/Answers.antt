@@ -12,7 +12,7 @@ invariant_of-self-clause-sound g c =
     c.copy_kept.new.cache.entries (λ e h. self.sound.cached e (c.copy_kept.ensures.kept e h)) self.sound
 
 pub returns-then-copy_kept-clause-bytes : goal.returns-then-copy_kept-clause-bytes
-returns-then-copy_kept-clause-bytes g c = λ file_system kept.
+returns-then-copy_kept-clause-bytes g c = λ file_system agrees.
     let self = c.args.self.now in
     let files = self.open_files.items in
     let out : List ℕ = c.copy_kept.new.out in
@@ -23,4 +23,4 @@ returns-then-copy_kept-clause-bytes g c = λ file_system kept.
     read_of_kept (g.F.Files.consistent self.files) files key block.1 out c.args.start (self.sound.cached (block.0, (key, block.1)) block.2)
     refl
     (subst (λ n. IsSomeAnd (slice_get files c.args.place) (λ file. c.args.start + n ≤ file.len)) (sym same) c.requires.inside) part
-    block.3 file_system kept
+    block.3 file_system agrees

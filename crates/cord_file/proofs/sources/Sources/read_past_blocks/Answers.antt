@@ -49,7 +49,7 @@ invariant_of-self-clause-sound g c =
     (λ n h. c.read_range.ensures.opened n) self.sound
 
 pub returns-clause-bytes : goal.returns-clause-bytes
-returns-clause-bytes g c = λ file_system kept.
+returns-clause-bytes g c = λ file_system agrees.
     let self = c.args.self.now in
     let files = self.open_files.items in
     let file : OpenFile = c.index-file.result.now in
@@ -59,4 +59,4 @@ returns-clause-bytes g c = λ file_system kept.
     slice_get_read files (length files) c.args.place file refl inside c.index-file.ensures in
     read_of_reported c.read_range.result file_system (g.F.Files.opened self.files file.no.0) (slice_get files c.args.place) file
     c.args.start
-    c.read_range.new.out (self.sound.handed_out c.args.place file here) here (c.read_range.ensures.bytes file_system kept)
+    c.read_range.new.out (self.sound.handed_out c.args.place file here) here (c.read_range.ensures.bytes file_system agrees)

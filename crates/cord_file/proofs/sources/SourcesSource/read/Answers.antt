@@ -13,7 +13,7 @@ read_file-requires g c =
     }
 
 pub returns-in-0-clause-bytes : goal.returns-in-0-clause-bytes
-returns-in-0-clause-bytes g c = λ file_system kept.
+returns-in-0-clause-bytes g c = λ file_system agrees.
     let self = c.args.self.now in
     let same : length c.fill.new.out ≡ length c.args.out.now = c.fill.auto.out in
     let below : c.args.id.0 < 2 = c.in-0.is in
@@ -23,8 +23,8 @@ returns-in-0-clause-bytes g c = λ file_system kept.
     function_bytes file_system (opened_of self.open_files.items) c.args.id.0 c.args.start c.fill.new.out below limit c.fill.ensures
 
 pub returns-in_default-clause-bytes : goal.returns-in_default-clause-bytes
-returns-in_default-clause-bytes g c = λ file_system kept.
+returns-in_default-clause-bytes g c = λ file_system agrees.
     let self = c.args.self.now in
     let past : 2 ≤ c.args.id.0 = search rules in
     source_read_ok c.read_file.result file_system self.open_files.items c.args.id.0 c.args.start c.read_file.new.out past
-    (c.read_file.ensures.bytes file_system kept)
+    (c.read_file.ensures.bytes file_system agrees)

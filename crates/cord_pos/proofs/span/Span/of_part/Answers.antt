@@ -39,9 +39,9 @@ returns-in-Leaf-clause-len c =
     let inside : to ≤ len = rw c.in-Leaf.is at c.requires.inside in
     let sound : (0 < len) × (start + len ≤ length (rc_slice_items c.in-Leaf.bytes)) × (len ≤ MAX_LEN)
     × (c.in-Leaf.mark ≡ leaf_part (rc_slice_items c.in-Leaf.bytes) start len ∷ []) = rw c.in-Leaf.is at c.requires.sound in
-    let behind : count ≤ length (drop (start + from) slice) =
+    let enough : count ≤ length (drop (start + from) slice) =
     omega (arith, sound.1, inside, c.as_slice.ensures.len, length-drop (start + from) slice) in
-    let long : length (take count (drop (start + from) slice)) ≡ count = length-take-le count (drop (start + from) slice) behind in
+    let long : length (take count (drop (start + from) slice)) ≡ count = length-take-le count (drop (start + from) slice) enough in
     omega (arith, long)
 
 pub returns-in-Run-clause-span : goal.returns-in-Run-clause-span

@@ -23,9 +23,9 @@ returns-clause-within c =
     let place = c.args.self.place in
     let next = place - c.len-seam.result in
     let seam : c.len-seam.result ≡ len_of c.in-Cat.left.value = c.len-seam.ensures.stored ∙ ap len_of c.deref.ensures in
-    let behind : place ≡ len_of c.in-Cat.left.value + next = omega (arith, seam, c.if-self-seam.false) in
+    let after : place ≡ len_of c.in-Cat.left.value + next = omega (arith, seam, c.if-self-seam.false) in
     let within : IsWithin node place c.in-Cat.right.value next =
-    within_right node place node place next _ c.in-Cat.left.value _ c.in-Cat.right.value _ _ _ _ c.in-Cat.is behind
+    within_right node place node place next _ c.in-Cat.left.value _ c.in-Cat.right.value _ _ _ _ c.in-Cat.is after
     (within_self node place c.requires.0) in
     rw c.as_ref-2.ensures within
 

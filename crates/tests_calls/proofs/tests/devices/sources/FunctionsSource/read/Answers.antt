@@ -11,4 +11,4 @@ pub returns-clause-bytes : goal.returns-clause-bytes
 returns-clause-bytes c =
     let Inside : ℕ → Type 0 = λ n. IsSomeAnd (function_lengths c.args.id.0) (λ len. c.args.start + n ≤ len) in
     let same : length c.fill.new.out ≡ length c.args.out.now = c.fill.auto.out in
-    λ file_system kept. function_read c.args.id.0 c.args.start c.fill.new.out (subst Inside (sym same) c.requires.inside) c.fill.ensures
+    λ file_system agrees. function_read c.args.id.0 c.args.start c.fill.new.out (subst Inside (sym same) c.requires.inside) c.fill.ensures

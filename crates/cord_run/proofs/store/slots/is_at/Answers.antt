@@ -2,7 +2,7 @@ use Rattle.std.proofs.Common.{◌<◌, length, sym, ◌∙◌, ap, arith}
 use Rattle.std.specs.Str.{bytes_eq}
 use Rattle.cord_run.specs.declared.store.Entry.{Entry}
 use Rattle.cord_run.proofs.Entries.{entry_there}
-use Rattle.cord_run.proofs.store.places.is_at.Goals as goal
+use Rattle.cord_run.proofs.store.slots.is_at.Goals as goal
 
 pub returns-clause-place : goal.returns-clause-place
 returns-clause-place c = λ is.

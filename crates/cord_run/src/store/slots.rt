@@ -1,4 +1,4 @@
-// The places of names among the entries.
+// The slots of names among the entries.
 ghost use Rattle.std.specs.Prelude.{◌≡◌, ◌<◌, true, length, IfOk, IfSome, IfNone};
 ghost use Rattle.cord_run.specs.inner.Entries.{are_distinct, names_in, HasNoEntry, IsEntryAt, IsFirst, SameEntries};
 
@@ -7,7 +7,7 @@ use cord_core::Cord;
 use cord_script::Name;
 use std::alloc::AllocError;
 
-// Whether this is the name at a place.
+// Whether this is the name of a slot.
 #[inline(always)]
 fn is_at(entries: &[Entry], place: usize, name: &Name) -> bool
     requires { are_distinct (names_in entries.now) ≡ true }
@@ -42,15 +42,15 @@ fn entry_of<'a>(entries: &'a [Entry], name: &Name) -> Option<&'a Entry>
     ensures some { IfSome result (λ entry. IsFirst entries.now name.now entry.now) }
     ensures none { IfNone result (HasNoEntry entries.now name.now) }
 {
-    match place_of(entries, name) {
+    match find_slot(entries, name) {
         Some(place) => Some(&entries[place]),
         None => None,
     }
 }
 
-/// The place of a name: the one of its hint, where it stands there.
+/// The slot of a name: the one of its hint, where it stands there.
 #[inline(always)]
-pub(crate) fn place_by(entries: &[Entry], name: &Name) -> Option<usize>
+pub(crate) fn slot_by(entries: &[Entry], name: &Name) -> Option<usize>
     requires distinct { are_distinct (names_in entries.now) ≡ true }
     ensures within { IfSome result (λ place. place < length entries.now) }
     ensures some { IfSome result (IsEntryAt entries.now name.now) }
@@ -60,13 +60,13 @@ pub(crate) fn place_by(entries: &[Entry], name: &Name) -> Option<usize>
     if is_at(entries, hint, name) {
         return Some(hint);
     }
-    place_of(entries, name)
+    find_slot(entries, name)
 }
 
-// The place of a name, which is looked for.
+// The slot of a name, which is looked for.
 #[cold]
 #[inline(never)]
-fn place_of(entries: &[Entry], name: &Name) -> Option<usize>
+fn find_slot(entries: &[Entry], name: &Name) -> Option<usize>
     ensures within { IfSome result (λ place. place < length entries.now) }
     ensures some { IfSome result (IsEntryAt entries.now name.now) }
     ensures none { IfNone result (HasNoEntry entries.now name.now) }
@@ -79,25 +79,25 @@ fn place_of(entries: &[Entry], name: &Name) -> Option<usize>
     None
 }
 
-/// The place of a name, which gets an entry where it has none.
+/// The slot of a name, which gets an entry where it has none.
 #[inline(always)]
-pub(crate) fn place_for(entries: &mut Vec<Entry>, name: &Name) -> Result<usize, AllocError>
+pub(crate) fn slot_for(entries: &mut Vec<Entry>, name: &Name) -> Result<usize, AllocError>
     requires distinct { are_distinct (names_in entries.old.items) ≡ true }
     ensures within { IfOk result (λ place. place < length entries.new.items) }
     ensures place { IfOk result (IsEntryAt entries.new.items name.now) }
     ensures same { IfOk result (λ _. SameEntries entries.old.items entries.new.items) }
     ensures distinct { are_distinct (names_in entries.new.items) ≡ true }
 {
-    match place_by(entries, name) {
+    match slot_by(entries, name) {
         Some(place) => Ok(place),
-        None => new_place(entries, name),
+        None => new_slot(entries, name),
     }
 }
 
-// The place of a new entry, for a name that has none.
+// The slot of a new entry, for a name that has none.
 #[cold]
 #[inline(never)]
-fn new_place(entries: &mut Vec<Entry>, name: &Name) -> Result<usize, AllocError>
+fn new_slot(entries: &mut Vec<Entry>, name: &Name) -> Result<usize, AllocError>
     requires absent { HasNoEntry entries.old.items name.now }
     requires distinct { are_distinct (names_in entries.old.items) ≡ true }
     ensures within { IfOk result (λ place. place < length entries.new.items) }

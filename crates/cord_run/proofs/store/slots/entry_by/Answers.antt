@@ -1,5 +1,5 @@
 use Rattle.cord_run.proofs.Entries.{first_there}
-use Rattle.cord_run.proofs.store.places.entry_by.Goals as goal
+use Rattle.cord_run.proofs.store.slots.entry_by.Goals as goal
 
 pub returns-clause-some : goal.returns-clause-some
 returns-clause-some c =

@@ -1,6 +1,6 @@
 use Rattle.std.proofs.Common.{ℕ, ◌+◌, drop}
 use Rattle.cord_run.specs.inner.Entries.{HasNoEntry, IsEntryAt}
-use Rattle.cord_run.proofs.store.places.place_of.Given as goal
+use Rattle.cord_run.proofs.store.slots.find_slot.Given as goal
 
 -- the entries passed don't have the name: what the rest says of it, all of them say
 abbrev pub invariant-loop-place : goal.invariant-loop-place

@@ -4,7 +4,7 @@ use Rattle.cord_run.specs.declared.store.Content.TheVariants.{Whole}
 use Rattle.cord_run.specs.declared.store.Entry.{Entry}
 use Rattle.cord_run.specs.inner.Entries.{are_distinct, names_in, IsEntryAt, SameEntries}
 use Rattle.cord_run.proofs.Entries.{added_nothing, added_place, distinct_after}
-use Rattle.cord_run.proofs.store.places.add.Goals as goal
+use Rattle.cord_run.proofs.store.slots.add.Goals as goal
 
 pub returns-clause-place : goal.returns-clause-place
 returns-clause-place c =

@@ -3,7 +3,7 @@ use Rattle.std.specs.Prelude.{IsSome}
 use Rattle.cord_io.specs.Device.{FileSystem}
 use Rattle.cord_core.specs.Cord.{text_len}
 use Rattle.cord_search.specs.inner.Pieces.{StandsNot}
-use Rattle.cord_search.proofs.substring.first_behind.Given as goal
+use Rattle.cord_search.proofs.substring.first_at_or_after.Given as goal
 
 -- the bytes stand at no place before, the position is one of the text, and no read has failed
 abbrev pub invariant-loop-head : goal.invariant-loop-head

@@ -1,5 +1,5 @@
 use Rattle.cord_run.proofs.Entries.{first_there}
-use Rattle.cord_run.proofs.store.places.entry_of.Goals as goal
+use Rattle.cord_run.proofs.store.slots.entry_of.Goals as goal
 
 pub returns-in-Some-clause-some : goal.returns-in-Some-clause-some
 returns-in-Some-clause-some c =

@@ -1,6 +1,6 @@
 use Rattle.std.proofs.Common.{sym, ◌∙◌}
 use Rattle.cord_run.proofs.Entries.{found, passed_place, passed_absent}
-use Rattle.cord_run.proofs.store.places.place_of.Goals as goal
+use Rattle.cord_run.proofs.store.slots.find_slot.Goals as goal
 
 pub returns-then-is-clause-some : goal.returns-then-is-clause-some
 returns-then-is-clause-some c =
