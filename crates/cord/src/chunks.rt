@@ -93,10 +93,8 @@ impl<'a> Chunks<'a> {
     pub(crate) fn ahead(&self) -> Option<Chunk<'a>>
         ensures { IsAhead self.now result }
     {
-        match self.position.ahead() {
-            Some(span) => Some(Chunk::of(span)),
-            None => None,
-        }
+        let span = self.position.ahead()?;
+        Some(Chunk::of(span))
     }
 
     // Leaves out the first bytes of those that are left.

@@ -131,10 +131,7 @@ impl Handle {
         ensures left { self.new.referent ≡ Referent.Nothing }
     {
         let held = replace(self, Handle::empty(alloc));
-        match held.into_raw() {
-            None => None,
-            Some(referent) => Some(referent.into_box()),
-        }
+        Some(held.into_raw()?.into_box())
     }
 
     /// Holds what was lifted from now on, and frees what it held.

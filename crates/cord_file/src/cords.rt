@@ -43,8 +43,7 @@ impl<F: Files> Sources<F> {
     {
         let bytes = self.read_file_whole(alloc, id.0 as usize - 2, len)?;
         let shared = RcSlice::from_vec(bytes)?;
-        let cord = Cord::from_shared(alloc, shared)?;
-        Ok(cord)
+        Ok(Cord::from_shared(alloc, shared)?)
     }
 
     /// The file at a path as a cord of which no byte is read now, one function part over its source. The path is
@@ -67,8 +66,7 @@ impl<F: Files> Sources<F> {
             bytes_of (table_in (opened_in self.now) file_system) cord ≡ table_in (opened_in self.now) file_system id.0) }
         ensures refused { IsOkUnless result FileError.NoMemory }
     {
-        let cord = Cord::from_fn(alloc, id, 0, len)?;
-        Ok(cord)
+        Ok(Cord::from_fn(alloc, id, 0, len)?)
     }
 
     /// The file at a path as a cord: `eager` where it is short, of at most `SHORT_FILE` bytes, else `lazy`. Refused

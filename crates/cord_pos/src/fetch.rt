@@ -25,7 +25,6 @@ impl<'a> Position<'a> {
         let Some(spot) = self.spot else {
             unreachable!()
         };
-        let byte = spot.part.node.byte(spot.index - spot.part.start, src)?;
-        Ok(byte)
+        Ok(spot.part.node.byte(spot.index - spot.part.start, src)?)
     }
 }

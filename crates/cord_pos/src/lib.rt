@@ -122,10 +122,7 @@ impl<'a> Position<'a> {
         ensures value { result ≡ self.now.index }
         ensures inside { IfSome self.now.index (λ i. i < text_len self.now.cord) }
     {
-        match self.spot {
-            Some(spot) => Some(spot.index),
-            None => None,
-        }
+        Some(self.spot?.index)
     }
 
     /// The cord.

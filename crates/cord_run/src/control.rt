@@ -65,10 +65,7 @@ fn next(line: u32, place: usize) -> Result<usize, ControlStop>
     ensures next { IfOk result (λ n. n ≡ place + 1) }
     ensures refused { IfErr result (λ e. e ≡ ControlStop.NoMemory line) }
 {
-    match place.checked_add(1) {
-        Some(next) => Ok(next),
-        None => Err(ControlStop::NoMemory(line)),
-    }
+    place.checked_add(1).ok_or(ControlStop::NoMemory(line))
 }
 
 /// The place that the operation at a place leads to where it passes others over: where none is listed, the next one.

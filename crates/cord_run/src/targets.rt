@@ -153,17 +153,14 @@ fn make_of_names(alloc: Global, store: &mut Store, made: &Made) -> Result<Cord, 
     match made {
         Made::Joined(expression) => build(alloc, expression, store),
         Made::Literal(text) => {
-            let cord = literal(alloc, text.as_slice())?;
-            Ok(cord)
+            Ok(literal(alloc, text.as_slice())?)
         }
         Made::OfFunction(function, count) => start(alloc, *function, store.value_of(count)),
         Made::Balanced(name) => {
-            let cord = balanced(alloc, store, name)?;
-            Ok(cord)
+            Ok(balanced(alloc, store, name)?)
         }
         Made::OfExtensible(name) => {
-            let cord = store.extended(alloc, name)?;
-            Ok(cord)
+            Ok(store.extended(alloc, name)?)
         }
         Made::Printed(_, format, arguments) => {
             print(alloc, store, format.as_ref(), arguments.as_ref().as_slice())

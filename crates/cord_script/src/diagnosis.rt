@@ -136,10 +136,8 @@ fn words_error(alloc: Global, context: &Context, words: &[Word]) -> Result<(), R
     let Word::Plain(word) = first else {
         return Err(RefusalKind::UnknownStatement);
     };
-    match verb_of(word.as_slice()) {
-        None => Err(RefusalKind::UnknownStatement),
-        Some(verb) => form_error(alloc, context, verb, others),
-    }
+    let verb = verb_of(word.as_slice()).ok_or(RefusalKind::UnknownStatement)?;
+    form_error(alloc, context, verb, others)
 }
 
 // What is wrong with a line: its bytes, or its words.

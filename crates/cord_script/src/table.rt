@@ -164,10 +164,7 @@ impl Table {
         if !is_same(entry.kind, kind) {
             return None;
         }
-        match entry.name.clone() {
-            Ok(name) => Some(name),
-            Err(_) => None,
-        }
+        entry.name.clone().ok()
     }
 
     // Leads the key's slot, or the first free one after it, to a place.

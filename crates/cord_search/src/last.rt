@@ -38,8 +38,7 @@ pub fn rstr<S: Source>(x: &Cord, end: u64, s: &Cord, src: &mut S) -> Result<Opti
     if count == 0 {
         return Ok(Some(end));
     }
-    let place = last_place(x, end - count + 1, s, src)?;
-    Ok(place)
+    Ok(last_place(x, end - count + 1, s, src)?)
 }
 
 // The last place below `limit` where a text stands that isn't empty. First the places before `limit` are searched, some

@@ -98,8 +98,7 @@ pub fn str_in<S: Source>(
     if count == 0 {
         return Ok(Some(start));
     }
-    let place = first_place(x, start, end, s, src)?;
-    Ok(place)
+    Ok(first_place(x, start, end, s, src)?)
 }
 
 /// The most bytes that `find_bytes` looks for.
@@ -148,8 +147,7 @@ pub fn find_bytes_in<S: Source>(
     ensures source { LeavesSource ⟦<S as Source>⟧ src.old src.new }
 {
     let end = end.min(x.len());
-    let place = first_place_of_bytes(x, start, end, bytes, src)?;
-    Ok(place)
+    Ok(first_place_of_bytes(x, start, end, bytes, src)?)
 }
 
 // Whether a text has so many bytes from a place on.

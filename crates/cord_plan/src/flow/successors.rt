@@ -146,10 +146,7 @@ fn to_else(shapes: &[Shape]) -> usize
 fn innermost(blocks: &[Option<usize>]) -> Option<usize>
     ensures { result ≡ innermost (reverse blocks.now) }
 {
-    match blocks.last() {
-        Some(block) => *block,
-        None => None,
-    }
+    *blocks.last()?
 }
 
 // The open blocks after the statement at place p.

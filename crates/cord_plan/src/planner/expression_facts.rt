@@ -68,14 +68,12 @@ impl Facts {
         ensures { (t : Numbering) (d e : plain.Expr) → IsFacts t d self.now → IsFacts t e other.now →
             IfSome result (λ f. IsFacts t (plain.cat (members (d ∷ e ∷ []))) f) }
     {
-        match self.parts.checked_add(other.parts) {
-            None => None,
-            Some(parts) => Some(Facts {
-                parts,
-                low: self.low | other.low,
-                high: self.high | other.high,
-            }),
-        }
+        let parts = self.parts.checked_add(other.parts)?;
+        Some(Facts {
+            parts,
+            low: self.low | other.low,
+            high: self.high | other.high,
+        })
     }
 
     /// How much of a room is left after the parts of the expression, where they find room.

@@ -159,10 +159,7 @@ fn expression_at(operations: &[Operation], place: usize) -> Option<&Expr>
     ensures { option_map (λ e. expr_view e.now) result
         ≡ expression_in (map operation_expression (map operation_view operations.now)) place }
 {
-    match operations.get(place) {
-        Some(operation) => expression_of(operation),
-        None => None,
-    }
+    expression_of(operations.get(place)?)
 }
 
 // The expression of an operation, where it has one.

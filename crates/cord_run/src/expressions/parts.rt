@@ -72,8 +72,7 @@ pub(crate) fn build_pair(
 {
     let prefix = build_part(alloc, left, store)?;
     let suffix = build_part(alloc, right, store)?;
-    let both = Cord::cat(alloc, &prefix, &suffix)?;
-    Ok(both)
+    Ok(Cord::cat(alloc, &prefix, &suffix)?)
 }
 
 /// The cord of an expression, which is best one part. Refused with its fault, or with `NoMemory`.
@@ -101,8 +100,7 @@ fn build_name(alloc: Global, name: &Name, store: &Store) -> Result<Cord, Stop>
     ensures built { IfOk result (IsBuilt store.now.entries.items (plain.name name.now)) }
     ensures refused { IfErr result (IsUnbuilt store.now.entries.items (plain.name name.now)) }
 {
-    let cord = shared(alloc, store, name)?;
-    Ok(cord)
+    Ok(shared(alloc, store, name)?)
 }
 
 // The cord of copies of a byte.
@@ -111,8 +109,7 @@ fn build_run(alloc: Global, byte: &Number, count: &Number, store: &Store) -> Res
     ensures refused { IfErr result (IsUnbuilt store.now.entries.items (plain.run byte.now count.now)) }
 {
     let copies = copies_asked(store.value_of(byte), store.value_of(count))?;
-    let cord = copies_of(alloc, copies.byte, copies.count)?;
-    Ok(cord)
+    Ok(copies_of(alloc, copies.byte, copies.count)?)
 }
 
 // The cord of a range of a name.
@@ -131,6 +128,5 @@ fn build_range(
     let start = as_index(store.value_of(start))?;
     let count = as_index(store.value_of(count))?;
     let cord = shared(alloc, store, name)?;
-    let range = cord.substr(alloc, start, count)?;
-    Ok(range)
+    Ok(cord.substr(alloc, start, count)?)
 }

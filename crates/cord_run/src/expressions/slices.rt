@@ -43,10 +43,7 @@ pub(crate) fn slice_of<'a>(expression: &Expr, store: &'a Store) -> Option<&'a [u
 fn named_slice<'a>(name: &Name, store: &'a Store) -> Option<&'a [u8]>
     ensures { IfSome result (λ slice. IsSliceOf (cord_in (content_in store.now.entries.items name.now)) slice.now) }
 {
-    match store.cord_of(name) {
-        None => None,
-        Some(cord) => leaf_slice(cord),
-    }
+    leaf_slice(store.cord_of(name)?)
 }
 
 /// The text of a cord, where it is one leaf.
@@ -80,8 +77,6 @@ pub(crate) fn range_of(bytes: &[u8], start: i64, count: i64) -> Option<&[u8]>
     };
     let rest = &bytes[start.min(bytes.len() as u64) as usize..];
     let range = &rest[..count.min(rest.len() as u64) as usize];
-    match as_length(range.len() as u64) {
-        Ok(_) => Some(range),
-        Err(_) => None,
-    }
+    as_length(range.len() as u64).ok()?;
+    Some(range)
 }

@@ -247,10 +247,7 @@ pub(crate) fn cord_or<'a>(store: &'a Store, name: &Name, empty: &'a Cord) -> &'a
     requires { empty.now ≡ None }
     ensures { result.now ≡ cord_in (content_in store.now.entries.items name.now) }
 {
-    match store.cord_of(name) {
-        Some(cord) => cord,
-        None => empty,
-    }
+    store.cord_of(name).unwrap_or(empty)
 }
 
 /// A sum that an i64 can be.
@@ -258,10 +255,7 @@ pub(crate) fn cord_or<'a>(store: &'a Store, name: &Name, empty: &'a Cord) -> &'a
 pub(crate) fn sum(left: i64, right: i64) -> Result<i64, FaultKind>
     ensures { result ≡ in_i64 (left +ℤ right) }
 {
-    match left.checked_add(right) {
-        Some(sum) => Ok(sum),
-        None => Err(FaultKind::Overflow),
-    }
+    left.checked_add(right).ok_or(FaultKind::Overflow)
 }
 
 /// A difference that an i64 can be.
@@ -269,10 +263,7 @@ pub(crate) fn sum(left: i64, right: i64) -> Result<i64, FaultKind>
 pub(crate) fn difference(left: i64, right: i64) -> Result<i64, FaultKind>
     ensures { result ≡ in_i64 (left -ℤ right) }
 {
-    match left.checked_sub(right) {
-        Some(difference) => Ok(difference),
-        None => Err(FaultKind::Overflow),
-    }
+    left.checked_sub(right).ok_or(FaultKind::Overflow)
 }
 
 // Gives a name of a number its number.

@@ -42,10 +42,8 @@ fn entry_of<'a>(entries: &'a [Entry], name: &Name) -> Option<&'a Entry>
     ensures some { IfSome result (λ entry. IsFirst entries.now name.now entry.now) }
     ensures none { IfNone result (HasNoEntry entries.now name.now) }
 {
-    match find_slot(entries, name) {
-        Some(place) => Some(&entries[place]),
-        None => None,
-    }
+    let place = find_slot(entries, name)?;
+    Some(&entries[place])
 }
 
 /// The slot of a name: the one of its hint, where it stands there.

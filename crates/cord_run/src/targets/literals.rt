@@ -50,8 +50,7 @@ pub(crate) fn start(alloc: Global, function: Function, count: i64) -> Result<Cor
     match start_length(count) {
         Err(kind) => Err(Stop::Fault(kind)),
         Ok(len) => {
-            let cord = start_of(alloc, function, len)?;
-            Ok(cord)
+            Ok(start_of(alloc, function, len)?)
         }
     }
 }

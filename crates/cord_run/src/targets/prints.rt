@@ -27,8 +27,7 @@ pub(crate) fn print(
         (λ s. and_then (format_text s format.now arguments.now) (λ t. within MAX_LEN t))) }
 {
     let args = arguments_of(alloc, store, arguments)?;
-    let cord = sprintf(alloc, format, &args)?;
-    Ok(cord)
+    Ok(sprintf(alloc, format, &args)?)
 }
 
 /// The length of what `print` makes, or the same refusal.
@@ -44,8 +43,7 @@ pub(crate) fn print_length(
         (λ s. and_then (format_text s format.now arguments.now) (λ t. within MAX_LEN t))) }
 {
     let args = arguments_of(alloc, store, arguments)?;
-    let len = sprintf_len(format, &args)?;
-    Ok(len)
+    Ok(sprintf_len(format, &args)?)
 }
 
 // The arguments of a print, of which cords are shared.

@@ -33,18 +33,18 @@ pub returns-clause-last : goal.returns-clause-last
 returns-clause-last g c = λ file_system agrees.
     let t = g.S.Source.table c.args.src.now file_system in
     let lengths = g.S.Source.lengths c.args.src.now in
-    let reported = g.met.S.Source.lengths_of_table c.args.src.now file_system (c.in_ok-place.ensures.read.earlier file_system agrees) in
+    let reported = g.met.S.Source.lengths_of_table c.args.src.now file_system (c.in_ok-last_place.ensures.read.earlier file_system agrees) in
     let len = cord_len lengths t c.args.x.now reported c.len.ensures.sound c.requires.fits in
     let pattern = cord_len lengths t c.args.s.now reported c.len-count.ensures.sound c.requires.pattern_fits in
-    c.in_ok-place.ensures.last file_system agrees
+    c.in_ok-last_place.ensures.last file_system agrees
     ∙ last_from (bytes_of t c.args.x.now) (bytes_of t c.args.s.now) c.args.end c.min-end.result c.len-count.result
     (omega (arith, len, c.len.ensures.stored, c.min-end.ensures)) (omega (arith, pattern, c.len-count.ensures.stored)) c.if-end-count.false
 
 pub returns-clause-before : goal.returns-clause-before
 returns-clause-before g c = ends_before _ (c.min-end.result - c.len-count.result + 1) (text_len c.args.s.now) c.args.end
-    (omega (arith, c.len-count.ensures.stored, c.min-end.ensures, c.if-end-count.false)) c.in_ok-place.ensures.below
+    (omega (arith, c.len-count.ensures.stored, c.min-end.ensures, c.if-end-count.false)) c.in_ok-last_place.ensures.below
 
 pub returns-clause-within : goal.returns-clause-within
 returns-clause-within g c = ends_before _ (c.min-end.result - c.len-count.result + 1) (text_len c.args.s.now) (text_len c.args.x.now)
     (omega (arith, c.len.ensures.stored, c.len-count.ensures.stored, c.min-end.ensures, c.if-end-count.false))
-    c.in_ok-place.ensures.below
+    c.in_ok-last_place.ensures.below

@@ -12,12 +12,12 @@ from_fn-requires g c =
     omega (arith, limit)
 
 pub returns-clause-cord : goal.returns-clause-cord
-returns-clause-cord g c = func_over c.args.self.now.open_files.items c.args.id.0 c.args.len _ c.requires.len c.in_ok-cord.ensures.form
-    c.in_ok-cord.ensures.over
+returns-clause-cord g c = func_over c.args.self.now.open_files.items c.args.id.0 c.args.len _ c.requires.len c.in_ok-from_fn.ensures.form
+    c.in_ok-from_fn.ensures.over
 
 pub returns-clause-text : goal.returns-clause-text
 returns-clause-text g c = λ file_system agrees.
     let self = c.args.self.now in
     text_over file_system self.open_files.items c.args.id.0 c.args.len _
     (as_long_as_reported (g.F.Files.consistent self.files) self.open_files.items self.sound.as_long file_system agrees) c.requires.len
-    c.in_ok-cord.ensures.over
+    c.in_ok-from_fn.ensures.over

@@ -28,8 +28,8 @@ returns-clause-cord g c =
     let items : rc_slice_items c.in_ok-shared.shared ≡ c.in_ok-bytes.bytes.items = c.in_ok-shared.ensures in
     record {
       bytes = c.in_ok-bytes.bytes.items;
-      form = subst (λ xs. IsLeafOf xs c.in_ok-cord.cord) items c.in_ok-cord.ensures.form;
-      text = subst (λ xs. HasText xs c.in_ok-cord.cord) items c.in_ok-cord.ensures.over;
+      form = subst (λ xs. IsLeafOf xs c.in_ok-from_shared.field-0) items c.in_ok-from_shared.ensures.form;
+      text = subst (λ xs. HasText xs c.in_ok-from_shared.field-0) items c.in_ok-from_shared.ensures.over;
       count = c.in_ok-bytes.ensures.len;
     }
 
@@ -40,7 +40,7 @@ returns-clause-text g c = λ file_system agrees.
     let items : rc_slice_items c.in_ok-shared.shared ≡ c.in_ok-bytes.bytes.items = c.in_ok-shared.ensures in
     let reported = as_long_as_reported (g.F.Files.consistent self.files) files self.sound.as_long file_system
     (c.in_ok-bytes.ensures.files.earlier file_system agrees) in
-    c.in_ok-cord.ensures.over.bytes (table_in (opened_of files) file_system) ∙ items
+    c.in_ok-from_shared.ensures.over.bytes (table_in (opened_of files) file_system) ∙ items
     ∙ source_bytes file_system files c.args.id.0 c.args.len c.in_ok-bytes.bytes.items c.requires.file reported c.requires.len
     c.in_ok-bytes.ensures.len (c.in_ok-bytes.ensures.bytes file_system agrees)
 
@@ -55,12 +55,12 @@ refusal (Err f) e gives known short = subst IsReadRefusal (sym gives) (cases e k
   cases ReadFailed known short = tt
   cases WriteFailed known short = tt
 
-pub returns-in_err-cord-clause-refused : goal.returns-in_err-cord-clause-refused
-returns-in_err-cord-clause-refused g c =
+pub returns-in_err-from_shared-clause-refused : goal.returns-in_err-from_shared-clause-refused
+returns-in_err-from_shared-clause-refused g c =
     let self = c.args.self.now in
     let items : rc_slice_items c.in_ok-shared.shared ≡ c.in_ok-bytes.bytes.items = c.in_ok-shared.ensures in
     let limit : c.args.len ≤ MAX_LEN = source_limit self.open_files.items self.sound.short_enough c.args.id.0 c.args.len c.requires.len in
     let same : length (rc_slice_items c.in_ok-shared.shared) ≡ c.args.len = ap length items ∙ c.in_ok-bytes.ensures.len in
-    refusal c.from_residual-in_err-cord.result c.in_err-cord.field-0.0 c.from_residual-in_err-cord.ensures.1 c.in_err-cord.ensures.refused
-    (λ e. let over : MAX_LEN < length (rc_slice_items c.in_ok-shared.shared) = c.in_err-cord.ensures.too_long (ap (λ x. Err x) e) in
+    refusal c.from_residual-in_err-from_shared.result c.in_err-from_shared.field-0.0 c.from_residual-in_err-from_shared.ensures.1 c.in_err-from_shared.ensures.refused
+    (λ e. let over : MAX_LEN < length (rc_slice_items c.in_ok-shared.shared) = c.in_err-from_shared.ensures.too_long (ap (λ x. Err x) e) in
     absurd (omega (arith, over, same, limit)))

@@ -23,18 +23,18 @@ returns-in_err-suffix-clause-refused c =
     (second_unbuilt entries d e c.in_ok-prefix.prefix c.in_ok-prefix.ensures.built c.in_err-suffix.field-0.0
     c.in_err-suffix.ensures.refused)
 
-pub returns-in_err-both-clause-refused : goal.returns-in_err-both-clause-refused
-returns-in_err-both-clause-refused c =
+pub returns-in_err-cat-clause-refused : goal.returns-in_err-cat-clause-refused
+returns-in_err-cat-clause-refused c =
     let entries = c.args.store.now.entries.items in
     let d = expr_view c.args.left.now in
     let e = expr_view c.args.right.now in
-    passed_on (IsUnbuilt entries (both entries d e)) (stop_of_cord c.in_err-both.field-0.0) c.from_residual-in_err-both.result
-    c.from_residual-in_err-both.ensures.1
+    passed_on (IsUnbuilt entries (both entries d e)) (stop_of_cord c.in_err-cat.field-0.0) c.from_residual-in_err-cat.result
+    c.from_residual-in_err-cat.ensures.1
     (pair_refused entries d e c.in_ok-prefix.prefix c.in_ok-suffix.suffix c.in_ok-prefix.ensures.built c.in_ok-suffix.ensures.built
-    c.in_err-both.field-0.0 c.in_err-both.ensures.refused c.in_err-both.ensures.too_long)
+    c.in_err-cat.field-0.0 c.in_err-cat.ensures.refused c.in_err-cat.ensures.too_long)
 
 pub returns-clause-built : goal.returns-clause-built
 returns-clause-built c =
     pair_built c.args.store.now.entries.items (expr_view c.args.left.now) (expr_view c.args.right.now) c.in_ok-prefix.prefix
-    c.in_ok-suffix.suffix c.in_ok-prefix.ensures.built c.in_ok-suffix.ensures.built c.in_ok-both.both c.in_ok-both.ensures.over
-    c.in_ok-both.ensures.sound c.in_ok-both.ensures.parts_from c.in_ok-both.ensures.within_limit
+    c.in_ok-suffix.suffix c.in_ok-prefix.ensures.built c.in_ok-suffix.ensures.built c.in_ok-cat.field-0 c.in_ok-cat.ensures.over
+    c.in_ok-cat.ensures.sound c.in_ok-cat.ensures.parts_from c.in_ok-cat.ensures.within_limit

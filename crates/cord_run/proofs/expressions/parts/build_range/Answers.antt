@@ -19,5 +19,5 @@ returns-clause-built c =
     let second : as_index (operand_in entries c.args.count.now) ≡ Ok c.in_ok-count.count =
     sym (λ i. as_index (count i)) ∙ sym c.in_ok-count.ensures in
     range_built entries c.args.name.now c.args.start.now c.args.count.now c.in_ok-start.start c.in_ok-count.count c.in_ok-cord.cord
-    c.in_ok-range.range first second c.in_ok-cord.ensures.same c.in_ok-range.ensures.over c.in_ok-range.ensures.parts_from
-    c.in_ok-range.ensures.sound
+    c.in_ok-substr.field-0 first second c.in_ok-cord.ensures.same c.in_ok-substr.ensures.over c.in_ok-substr.ensures.parts_from
+    c.in_ok-substr.ensures.sound

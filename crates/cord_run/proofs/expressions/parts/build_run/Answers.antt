@@ -20,5 +20,5 @@ returns-clause-built c =
     let asked : as_byte (operand_in entries c.args.byte.now) ≡ Ok copies.byte = sym (λ i. as_byte (byte i)) ∙ c.in_ok-copies.ensures.byte in
     let reported : measured_copies MAX_LEN (operand_in entries c.args.byte.now) (operand_in entries c.args.count.now) ≡ Ok copies.count =
     sym (λ i. measured_copies MAX_LEN (byte i) (count i)) ∙ c.in_ok-copies.ensures.count in
-    run_built entries c.args.byte.now c.args.count.now copies.byte copies.count c.in_ok-cord.cord asked reported c.in_ok-cord.ensures.over
-    c.in_ok-cord.ensures.sound
+    run_built entries c.args.byte.now c.args.count.now copies.byte copies.count c.in_ok-copies_of.field-0 asked reported c.in_ok-copies_of.ensures.over
+    c.in_ok-copies_of.ensures.sound
