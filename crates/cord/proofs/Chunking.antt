@@ -21,7 +21,7 @@ use Rattle.cord_pos.proofs.Standings.{index_inside}
 use Rattle.cord.specs.Plain.{no_table, no_lengths, plain_bytes, IsPlain}
 use Rattle.cord.specs.declared.chunks.Chunk.{Chunk}
 use Rattle.cord.specs.Chunks.{chunk_bytes, GivesChunk, GivesChunkBefore}
-use Rattle.cord.specs.inner.Chunks.{left_from, left_to, IsAhead}
+use Rattle.cord.specs.inner.Chunks.{left_from, left_to, IsNextChunk}
 
 -- no index where there is none
 no_index : (c : Option Node) (i : ℕ) → text_len c ≤ i → index_at c i ≡ None
@@ -53,7 +53,7 @@ module _ (c : Option Node) (p : IsPlain c) where
 
   -- the chunk with which the bytes begin that are left
   pub chunk_ahead : (o : Option ℕ) (s : Span) (chunk : Chunk) → IsAheadOf c o (Some s) → chunk_bytes chunk ≡ span_bytes no_table s →
-      length (chunk_bytes chunk) ≡ span_len s → IsAhead (left_from c o) (Some chunk)
+      length (chunk_bytes chunk) ≡ span_len s → IsNextChunk (left_from c o) (Some chunk)
   chunk_ahead None s chunk a e len = cc
   chunk_ahead (Some i) s chunk a e len =
       let left = drop i (plain_bytes c) in (

@@ -2,7 +2,7 @@
 ghost use Rattle.std.specs.Prelude.{◌≡◌, ◌<◌, ◌≤◌, length, min, take, drop};
 ghost use Rattle.cord_pos.specs.Spans.{span_len, span_bytes, SpanFitsIn};
 ghost use Rattle.cord.specs.Chunks.{chunk_bytes, JoinBackTo, JoinTo};
-ghost use Rattle.cord.specs.inner.Chunks.{IsAhead};
+ghost use Rattle.cord.specs.inner.Chunks.{IsNextChunk};
 ghost use Rattle.cord.specs.Plain.{no_lengths, no_table};
 
 use crate::{ChunksBack, Text};
@@ -91,7 +91,7 @@ impl Text {
 impl<'a> Chunks<'a> {
     // The chunk with which the bytes that are left begin.
     pub(crate) fn ahead(&self) -> Option<Chunk<'a>>
-        ensures { IsAhead self.now result }
+        ensures { IsNextChunk self.now result }
     {
         let span = self.position.ahead()?;
         Some(Chunk::of(span))

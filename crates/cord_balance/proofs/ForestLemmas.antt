@@ -10,7 +10,7 @@ use Rattle.cord_node.proofs.PartsFromLemmas.{PartsFrom_same}
 use Rattle.cord_node.proofs.TreeLemmas.{count_within_len}
 use Rattle.cord_balance.specs.Fib.{fib_of}
 use Rattle.cord_balance.specs.declared.forest.Piece.{Piece}
-use Rattle.cord_balance.specs.inner.Forest.{IsPiece, AllBelow, AllFrom, IsForest, forest_cells, forest_parts, forest_len}
+use Rattle.cord_balance.specs.inner.Forest.{IsPieceInSlot, AllBelow, AllFrom, IsForest, forest_cells, forest_parts, forest_len}
 use Rattle.cord_balance.proofs.FibLemmas.{fib_mono, fib_index, fib_of_2}
 use Rattle.std.proofs.lemmas.Bool.{cases_lt}
 use Rattle.std.proofs.Common.{⊎_elim}
@@ -63,7 +63,7 @@ IsForest-init [] p f = tt
 IsForest-init (q ∷ ps) p f = (f.0, AllBelow-init q.slot ps p f.1, IsForest-init ps p f.2)
 
 -- the last piece of a forest
-pub IsForest-last : (ps : List Piece) (p : Piece) → IsForest (ps ++ p ∷ []) → IsPiece p
+pub IsForest-last : (ps : List Piece) (p : Piece) → IsForest (ps ++ p ∷ []) → IsPieceInSlot p
 IsForest-last [] p f = f.0
 IsForest-last (q ∷ ps) p f = IsForest-last ps p f.2
 
@@ -73,7 +73,7 @@ IsForest-falls [] p f = tt
 IsForest-falls (q ∷ ps) p f = (let h : p.slot < q.slot = AllBelow-last q.slot ps p f.1 in omega arith, IsForest-falls ps p f.2)
 
 -- a forest with one more piece of a lesser slot
-pub IsForest-push : (ps : List Piece) (p : Piece) → IsForest ps → IsPiece p → AllFrom (p.slot + 1) ps → IsForest (ps ++ p ∷ [])
+pub IsForest-push : (ps : List Piece) (p : Piece) → IsForest ps → IsPieceInSlot p → AllFrom (p.slot + 1) ps → IsForest (ps ++ p ∷ [])
 IsForest-push [] p f i a = (i, tt, tt)
 IsForest-push (q ∷ ps) p f i a = (f.0, AllBelow-snoc q.slot ps p f.1 (omega (arith, a.0)), IsForest-push ps p f.2 i a.1)
 

@@ -8,7 +8,7 @@ use Rattle.cord_node.proofs.PartsFromLemmas.{PartsFrom-self, PartsFrom_same, Par
 use Rattle.cord_balance.specs.Fib.{fib_of}
 use Rattle.cord_balance.specs.Pieces.{Shared}
 use Rattle.cord_balance.specs.declared.forest.Piece.{Piece}
-use Rattle.cord_balance.specs.inner.Forest.{IsPiece, IsForest, forest_cells, forest_parts, forest_len, piece_cells, piece_parts, piece_len}
+use Rattle.cord_balance.specs.inner.Forest.{IsPieceInSlot, IsForest, forest_cells, forest_parts, forest_len, piece_cells, piece_parts, piece_len}
 use Rattle.cord_balance.proofs.States.{GoesRightOf, IsGathering, IsPutLeft}
 use Rattle.cord_balance.proofs.FibLemmas.{fib_mono, fib_below}
 use Rattle.cord_balance.proofs.ForestLemmas.{forest_cells-snoc, forest_parts-snoc, forest_len-snoc, IsForest-init, IsForest-last}
@@ -26,12 +26,12 @@ gathering_start old below f = record {
 }
 
 -- a piece is less deep than its slot's number
-pub depth_in_slot : (p : Piece) → IsPiece p → depth_of p.node.value < p.slot
+pub depth_in_slot : (p : Piece) → IsPieceInSlot p → depth_of p.node.value < p.slot
 depth_in_slot p i = let h : depth_of p.node.value + 1 < p.slot + 1 =
     fib_below (depth_of p.node.value + 1) (p.slot + 1) (omega (arith, i.shallow, i.slot.below)) in omega arith
 
 -- a piece with what stands to its right is no deeper than its slot
-depth_put : (rest : List Piece) (p : Piece) (joined : Option Shared) (node : Shared) → IsPiece p → GoesRightOf joined (rest ++ p ∷ []) →
+depth_put : (rest : List Piece) (p : Piece) (joined : Option Shared) (node : Shared) → IsPieceInSlot p → GoesRightOf joined (rest ++ p ∷ []) →
     IsPutLeft p.node joined node → depth_of node.value ≤ p.slot
 depth_put rest p None node i r u = let h : depth_of p.node.value < p.slot = depth_in_slot p i in
     let e : depth_of node.value ≡ depth_of p.node.value = u.alone in omega arith
@@ -51,7 +51,7 @@ put_from a b c j n h k =
 pub gathering_step : (old rest : List Piece) (p : Piece) (joined : Option Shared) (node : Shared) (below : ℕ) →
     IsGathering old (rest ++ p ∷ []) joined below → p.slot < below → IsPutLeft p.node joined node → IsGathering old rest (Some node) below
 gathering_step old rest p joined node below g b u =
-    let i : IsPiece p = IsForest-last rest p g.forest in
+    let i : IsPieceInSlot p = IsForest-last rest p g.forest in
     let d : depth_of node.value ≤ p.slot = depth_put rest p joined node i g.right u in
     let j : depth_of node.value < below = omega arith in
     let k : depth_of node.value + 1 ≤ p.slot + 1 = omega arith in
@@ -72,7 +72,7 @@ gathering_step old rest p joined node below g b u =
 pub gathering_shallow : (old rest : List Piece) (p : Piece) (joined : Option Shared) (below : ℕ) →
     IsGathering old (rest ++ p ∷ []) joined below → (x : Shared) → joined ≡ Some x → fib_of (depth_of x.value + 1) ≤ count_of p.node.value
 gathering_shallow old rest p joined below g x e =
-    let i : IsPiece p = IsForest-last rest p g.forest in
+    let i : IsPieceInSlot p = IsForest-last rest p g.forest in
     let P : Option Shared → Type 0 = λ o. GoesRightOf o (rest ++ p ∷ []) in
     let r : GoesRightOf (Some x) (rest ++ p ∷ []) = subst P e g.right in
     let h : depth_of x.value + 1 ≤ p.slot = AllFrom-last (depth_of x.value + 1) rest p r in

@@ -9,7 +9,7 @@ use Rattle.cord_node.specs.PartsFrom.{Part, PartsFrom}
 use Rattle.cord_node.proofs.PartsFromLemmas.{PartsFrom-self, PartsFrom-both, PartsFrom-trans}
 use Rattle.cord_balance.specs.Fib.{fib_of, IsSlotOf}
 use Rattle.cord_balance.specs.Pieces.{Shared}
-use Rattle.cord_balance.specs.inner.Forest.{IsGathered}
+use Rattle.cord_balance.specs.inner.Forest.{IsGatheredBelow}
 use Rattle.cord_balance.proofs.FibLemmas.{fib_mono, fib_below, fib_sum, fib_index}
 
 -- small pieces joined with a balanced one on their right
@@ -40,16 +40,16 @@ pub balanced_alone : (d n : ℕ) → fib_of (d + 2) ≤ n → fib_of (d + 1) ≤
 balanced_alone d n h = let m : fib_of (d + 1) ≤ fib_of (d + 2) = fib_mono (d + 1) (d + 2) (omega arith) in omega arith
 
 -- what was gathered is no deeper than the slot, so its next number is no longer than the node
-pub gathered_fits : (slot len : ℕ) (small : Option Shared) → IsSlotOf len slot → IsGathered slot small → (x : Shared) → small ≡ Some x →
+pub gathered_fits : (slot len : ℕ) (small : Option Shared) → IsSlotOf len slot → IsGatheredBelow slot small → (x : Shared) → small ≡ Some x →
     fib_of (depth_of x.value + 1) ≤ len
 gathered_fits slot len small i g x e =
-    let P : Option Shared → Type 0 = λ o. IsGathered slot o in
-    let k : IsGathered slot (Some x) = subst P e g in
+    let P : Option Shared → Type 0 = λ o. IsGatheredBelow slot o in
+    let k : IsGatheredBelow slot (Some x) = subst P e g in
     let m : fib_of (depth_of x.value + 1) ≤ fib_of slot = fib_mono (depth_of x.value + 1) slot (omega (arith, k.2)) in
     omega (arith, i.above)
 
 -- the joined node is no deeper than the slot
-pub joined_depth_in_slot : (slot len dr d : ℕ) (small : Option Shared) → IsSlotOf len slot → IsGathered slot small →
+pub joined_depth_in_slot : (slot len dr d : ℕ) (small : Option Shared) → IsSlotOf len slot → IsGatheredBelow slot small →
     fib_of (dr + 2) ≤ len → IfNone small (d ≡ dr) → IfSome small (λ l. d ≤ max (depth_of l.value) dr + 1) → d ≤ slot
 joined_depth_in_slot slot len dr d None i g b n s = let k : dr + 2 < slot + 1 = fib_below (dr + 2) (slot + 1) (omega (arith, i.below)) in
     omega arith

@@ -11,7 +11,7 @@ use Rattle.cord_node.proofs.TreeLemmas.{count_within_len}
 use Rattle.cord_balance.specs.Fib.{fib_of, IsSlotOf}
 use Rattle.cord_balance.specs.Pieces.{Shared}
 use Rattle.cord_balance.specs.declared.forest.Piece.{Piece}
-use Rattle.cord_balance.specs.inner.Forest.{IsPiece, AllFrom, IsForest, forest_cells, forest_parts, forest_len}
+use Rattle.cord_balance.specs.inner.Forest.{IsPieceInSlot, AllFrom, IsForest, forest_cells, forest_parts, forest_len}
 use Rattle.cord_balance.proofs.States.{IsMerging, IsJoinOf}
 use Rattle.cord_balance.proofs.FibLemmas.{fib_mono, fib_sum, fib_index}
 use Rattle.cord_balance.proofs.ForestLemmas.{forest_cells-snoc, forest_parts-snoc, forest_len-snoc, IsForest-init, IsForest-last}
@@ -36,7 +36,7 @@ pub merging_shallow : (old rest : List Piece) (p : Piece) (node joined : Shared)
     IsMerging old (rest ++ p ∷ []) node joined slot → p.slot < slot + 1 →
     fib_of (max (depth_of p.node.value) (depth_of joined.value) + 1 + 1) ≤ count_of p.node.value + count_of joined.value
 merging_shallow old rest p node joined slot g b =
-    let i : IsPiece p = IsForest-last rest p g.forest in
+    let i : IsPieceInSlot p = IsForest-last rest p g.forest in
     let h : depth_of p.node.value < p.slot = depth_in_slot p i in
     let k : depth_of joined.value ≤ p.slot = AllFrom-last (depth_of joined.value) rest p g.beyond in
     let m : fib_of p.slot ≤ fib_of slot = fib_mono p.slot slot (omega arith) in
@@ -55,7 +55,7 @@ pub merging_depth : (old rest : List Piece) (p : Piece) (node joined : Shared) (
     IsMerging old (rest ++ p ∷ []) node joined slot → p.slot < slot + 1 → forest_len old + len_of node.value ≤ MAX_LEN →
     max (depth_of p.node.value) (depth_of joined.value) + 1 ≤ MAX_DEPTH
 merging_depth old rest p node joined slot g b h =
-    let i : IsPiece p = IsForest-last rest p g.forest in
+    let i : IsPieceInSlot p = IsForest-last rest p g.forest in
     let few : count_of p.node.value ≤ len_of p.node.value = count_within_len p.node.value i.sound in
     let some : count_of joined.value ≤ len_of joined.value = count_within_len joined.value g.sound in
     let k : fib_of (max (depth_of p.node.value) (depth_of joined.value) + 1 + 1) ≤ count_of p.node.value + count_of joined.value =
@@ -70,7 +70,7 @@ pub merging_step : (old rest : List Piece) (p : Piece) (node joined next : Share
     IsMerging old (rest ++ p ∷ []) node joined slot → p.slot < slot + 1 → IsJoinOf p.node joined next →
     IsSlotOf (count_of next.value) slot' → IsMerging old rest node next slot'
 merging_step old rest p node joined next slot slot' g b u s =
-    let i : IsPiece p = IsForest-last rest p g.forest in
+    let i : IsPieceInSlot p = IsForest-last rest p g.forest in
     let h : depth_of p.node.value < p.slot = depth_in_slot p i in
     let k : depth_of joined.value ≤ p.slot = AllFrom-last (depth_of joined.value) rest p g.beyond in
     let d : depth_of next.value ≤ max (depth_of p.node.value) (depth_of joined.value) + 1 = u.depth in

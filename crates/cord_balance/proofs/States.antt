@@ -5,7 +5,7 @@ use Rattle.cord_node.specs.PartsFrom.{parts, PartsFrom}
 use Rattle.cord_balance.specs.Fib.{fib_of, IsSlotOf}
 use Rattle.cord_balance.specs.Pieces.{Shared, all_cells, all_parts, total_len, AllSound}
 use Rattle.cord_balance.specs.inner.Forest.{AllFrom, IsForest, forest_cells, forest_parts, forest_len, piece_cells, piece_parts, piece_len}
-use Rattle.cord_balance.specs.inner.Forest.{IsGathered}
+use Rattle.cord_balance.specs.inner.Forest.{IsGatheredBelow}
 use Rattle.cord_balance.specs.declared.forest.Piece.{Piece}
 
 -- it may stand to the right of each of these
@@ -19,7 +19,7 @@ pub record IsGathering (old rest : List Piece) (joined : Option Shared) (below :
   pub text : forest_cells old ≡ forest_cells rest ++ piece_cells joined
   pub len : forest_len old ≡ forest_len rest + piece_len joined
   pub parts_from : PartsFrom (forest_parts old) (forest_parts rest ++ piece_parts joined)
-  pub gathered : IsGathered below joined
+  pub gathered : IsGatheredBelow below joined
   pub right : GoesRightOf joined rest
 
 -- what `put_left` gives

@@ -6,7 +6,7 @@ ghost use Rattle.cord_io.specs.Device.{FileSystem, bytes_at, count_after};
 ghost use Rattle.cord_file.specs.inner.Blocks.{AreRead, BeginsWithFile, IsBlockIn};
 ghost use Rattle.cord_file.specs.Faults.{has_failed};
 ghost use Rattle.cord_file.specs.FileCords.{IsReadRefusal};
-ghost use Rattle.cord_file.specs.inner.Reading.{IsInside, LeavesFiles};
+ghost use Rattle.cord_file.specs.inner.Reading.{IsInsideFile, LeavesFiles};
 ghost use Rattle.cord_file.specs.declared.blocks.TheConstants.{BLOCK};
 
 use crate::blocks::{BLOCK, BlockKey, MAX_BLOCKS, copy_kept, keep, read_block, room_for};
@@ -184,7 +184,7 @@ impl<F: Files> Sources<F> {
         start: u64,
         out: &mut [u8],
     ) -> Result<(), ReadFault>
-        requires inside { IsInside (slice_get self.old.open_files.items place) start (length out.old) }
+        requires inside { IsInsideFile (slice_get self.old.open_files.items place) start (length out.old) }
         ensures files { LeavesFiles (is_err result) self.old self.new }
         ensures bytes { (file_system : FileSystem) → F.consistent (device_in self.new) file_system →
             OnOk result (AreRead file_system (slice_get self.old.open_files.items place) start out.new) }
@@ -202,7 +202,7 @@ impl<F: Files> Sources<F> {
     // inside one block needs nothing of it.
     #[inline(never)]
     fn read_blocks(&mut self, place: usize, start: u64, out: &mut [u8]) -> Result<(), ReadFault>
-        requires inside { IsInside (slice_get self.old.open_files.items place) start (length out.old) }
+        requires inside { IsInsideFile (slice_get self.old.open_files.items place) start (length out.old) }
         ensures files { LeavesFiles (is_err result) self.old self.new }
         ensures bytes { (file_system : FileSystem) → F.consistent (device_in self.new) file_system →
             OnOk result (AreRead file_system (slice_get self.old.open_files.items place) start out.new) }
@@ -226,7 +226,7 @@ impl<F: Files> Sources<F> {
         start: u64,
         out: &mut [u8],
     ) -> Result<(), ReadFault>
-        requires inside { IsInside (slice_get self.old.open_files.items place) start (length out.old) }
+        requires inside { IsInsideFile (slice_get self.old.open_files.items place) start (length out.old) }
         ensures files { LeavesFiles (is_err result) self.old self.new }
         ensures bytes { (file_system : FileSystem) → F.consistent (device_in self.new) file_system →
             OnOk result (AreRead file_system (slice_get self.old.open_files.items place) start out.new) }
@@ -243,7 +243,7 @@ impl<F: Files> Sources<F> {
         out: &mut [u8],
         way: Way,
     ) -> Result<(), ReadFault>
-        requires inside { IsInside (slice_get self.old.open_files.items place) start (length out.old) }
+        requires inside { IsInsideFile (slice_get self.old.open_files.items place) start (length out.old) }
         requires some { 0 < length out.old }
         requires part { length out.old ≤ BLOCK → start % BLOCK + length out.old ≤ BLOCK }
         ensures files { LeavesFiles (is_err result) self.old self.new }
@@ -265,7 +265,7 @@ impl<F: Files> Sources<F> {
     // Fills `out` with bytes of one block of an opened file: of the block that is kept, or else of one that is read
     // and then kept.
     fn read_part(&mut self, place: usize, start: u64, out: &mut [u8]) -> Result<(), ReadFault>
-        requires inside { IsInside (slice_get self.old.open_files.items place) start (length out.old) }
+        requires inside { IsInsideFile (slice_get self.old.open_files.items place) start (length out.old) }
         requires some { 0 < length out.old }
         requires part { start % BLOCK + length out.old ≤ BLOCK }
         ensures files { LeavesFiles (is_err result) self.old self.new }
@@ -283,7 +283,7 @@ impl<F: Files> Sources<F> {
 
     // Fills `out` with bytes of one block of an opened file, which is read and then kept.
     fn read_new(&mut self, place: usize, start: u64, out: &mut [u8]) -> Result<(), ReadFault>
-        requires inside { IsInside (slice_get self.old.open_files.items place) start (length out.old) }
+        requires inside { IsInsideFile (slice_get self.old.open_files.items place) start (length out.old) }
         requires some { 0 < length out.old }
         requires part { start % BLOCK + length out.old ≤ BLOCK }
         ensures files { LeavesFiles (is_err result) self.old self.new }
@@ -304,7 +304,7 @@ impl<F: Files> Sources<F> {
 
     // Fills `out` with bytes of one block of an opened file, which is read and not kept.
     fn read_unkept(&mut self, place: usize, start: u64, out: &mut [u8]) -> Result<(), ReadFault>
-        requires inside { IsInside (slice_get self.old.open_files.items place) start (length out.old) }
+        requires inside { IsInsideFile (slice_get self.old.open_files.items place) start (length out.old) }
         requires some { 0 < length out.old }
         requires part { start % BLOCK + length out.old ≤ BLOCK }
         ensures files { LeavesFiles (is_err result) self.old self.new }

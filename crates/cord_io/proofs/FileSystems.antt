@@ -12,7 +12,7 @@ use Rattle.std.proofs.lemmas.List.{length-set}
 use Rattle.std.proofs.Math.Seq.{take-append_seam}
 use Rattle.cord_io.specs.Device.{FileSystem, file_at, bytes_at, Adds}
 use Rattle.cord_io.specs.Memory.{pair_of, file_system_of, paths_differ, reported_of, opened_of}
-use Rattle.cord_io.specs.inner.Memory.{with_bytes, Marks, Rewrites}
+use Rattle.cord_io.specs.inner.Memory.{with_bytes, MarksOpen, Rewrites}
 use Rattle.cord_io.specs.declared.memory.Entry.{Entry}
 
 pub and_true_left : (a b : Bool) → (a && b) ≡ true → a ≡ true
@@ -82,7 +82,7 @@ same_reported true x h = refl
 same_reported false x h = cc
 
 pub marked : (es : List Entry) (n : ℕ) (e : Entry) → slice_get es n ≡ Some e →
-    Marks es (slice_set es n (record { path = e.path; bytes = e.bytes; is_open = true })) n (length e.bytes.items)
+    MarksOpen es (slice_set es n (record { path = e.path; bytes = e.bytes; is_open = true })) n (length e.bytes.items)
 marked es n e h =
     let f : Entry = record { path = e.path; bytes = e.bytes; is_open = true } in
     let at : slice_get (slice_set es n f) n ≡ Some f = get_set_same es n e f h in

@@ -4,7 +4,7 @@ ghost use Rattle.std.specs.Prelude.{is_err, IsOk, IfOk, IsSomeAnd, ⊤};
 ghost use Rattle.std.specs.Vec.{vec_len};
 ghost use Rattle.cord_io.specs.Device.{FileSystem, file_at, bytes_at, count_after};
 ghost use Rattle.cord_io.specs.Memory.{file_system_of, paths_differ};
-ghost use Rattle.cord_io.specs.inner.Memory.{IsAt, Marks, Rewrites};
+ghost use Rattle.cord_io.specs.inner.Memory.{IsAt, MarksOpen, Rewrites};
 
 mod adding;
 
@@ -43,7 +43,7 @@ fn place_of(entries: &[Entry], path: &str) -> Option<usize>
 // Marks an entry as open, and reports its length.
 fn mark(entries: &mut [Entry], place: usize) -> usize
     requires { place < length entries.old }
-    ensures { Marks entries.old entries.new place result }
+    ensures { MarksOpen entries.old entries.new place result }
 {
     let entry = &mut entries[place];
     entry.is_open = true;

@@ -19,7 +19,7 @@ use Rattle.cord_node.specs.declared.Node.TheVariants.{Func, Cat'}
 use Rattle.cord_node.specs.Tree.{len_of, IsSound}
 use Rattle.cord_node.specs.Tables.{bytes_over}
 use Rattle.cord_iter.specs.Output.{IsPrefixOf, Takes, Writes}
-use Rattle.cord_iter.specs.inner.Output.{IsTextOver, IsPrefixOver}
+use Rattle.cord_iter.specs.inner.Output.{IsTextRead, IsPrefixOver}
 
 -- bytes after bytes
 pub appends_both : (a b c x y : List ℕ) → b ≡ a ++ x → c ≡ b ++ y → c ≡ a ++ (x ++ y)
@@ -59,8 +59,8 @@ func_range : (xs x y : List ℕ) (s a b : ℕ) → x ≡ take a (drop s xs) → 
 func_range xs x y s a b h k = rw (h, k) (sym (range_join xs s a b))
 
 pub func_text : {before consistent : FileSystem → Type 0} (table : FileSystem → Table) (id : SourceId) (s a b : ℕ) (x y : List ℕ) →
-    ((file_system : FileSystem) → consistent file_system → before file_system) → IsTextOver before table (Func id a s) x →
-    IsTextOver consistent table (Func id b (s + a)) y → IsTextOver consistent table (Func id (a + b) s) (x ++ y)
+    ((file_system : FileSystem) → consistent file_system → before file_system) → IsTextRead before table (Func id a s) x →
+    IsTextRead consistent table (Func id b (s + a)) y → IsTextRead consistent table (Func id (a + b) s) (x ++ y)
 func_text table id s a b x y earlier h k = record {
   len = length-append x y ∙ (let i : length x ≡ a = h.len in let j : length y ≡ b = k.len in omega arith);
   text = λ file_system agrees. func_range (table file_system id.0) x y s a b (h.text file_system (earlier file_system agrees))
@@ -79,7 +79,7 @@ range_prefix xs x y s a b n e h k =
 
 pub func_prefix : {before consistent : FileSystem → Type 0} (table : FileSystem → Table) (id : SourceId) (s a b n : ℕ) (x y : List ℕ) → a +
     b ≤ n →
-    ((file_system : FileSystem) → consistent file_system → before file_system) → IsTextOver before table (Func id a s) x →
+    ((file_system : FileSystem) → consistent file_system → before file_system) → IsTextRead before table (Func id a s) x →
     IsPrefixOver consistent table (Func id b (s + a)) y → IsPrefixOver consistent table (Func id n s) (x ++ y)
 func_prefix table id s a b n x y e earlier h k = record {
   len = rw (length-append x y) (let i : length x ≡ a = h.len in let j : length y ≤ b = k.len in omega arith);
@@ -94,9 +94,9 @@ pub record AreSides (l r n : Node) : Type 0 where
 
 -- the texts of both
 pub cat_text : {before consistent : FileSystem → Type 0} (table : FileSystem → Table) (l r n : Node) (x y : List ℕ) → AreSides l r n →
-    ((file_system : FileSystem) → consistent file_system → before file_system) → IsTextOver before table l x → IsTextOver consistent table r
+    ((file_system : FileSystem) → consistent file_system → before file_system) → IsTextRead before table l x → IsTextRead consistent table r
     y →
-    IsTextOver consistent table n (x ++ y)
+    IsTextRead consistent table n (x ++ y)
 cat_text table l r n x y e earlier h k = record {
   len = length-append x y ∙ (let i : length x ≡ len_of l = h.len in let j : length y ≡ len_of r = k.len in
       let m : len_of n ≡ len_of l + len_of r = e.len in omega arith);
@@ -115,7 +115,7 @@ cat_left table l r n x e h = record {
 
 -- the left one and a prefix of the right one
 pub cat_right : {before consistent : FileSystem → Type 0} (table : FileSystem → Table) (l r n : Node) (x y : List ℕ) → AreSides l r n →
-    ((file_system : FileSystem) → consistent file_system → before file_system) → IsTextOver before table l x → IsPrefixOver consistent table
+    ((file_system : FileSystem) → consistent file_system → before file_system) → IsTextRead before table l x → IsPrefixOver consistent table
     r y →
     IsPrefixOver consistent table n (x ++ y)
 cat_right table l r n x y e earlier h k = record {

@@ -7,7 +7,7 @@ ghost use Rattle.cord_node.specs.Tree.{IsSound};
 ghost use Rattle.cord_node.specs.Tables.{FitsIn};
 ghost use Rattle.cord_core.specs.Cord.{text_len, bytes_of, CordFitsIn};
 ghost use Rattle.cord_iter.specs.Output.{IsPrefixOf, Takes, CountsFaults, failures_of};
-ghost use Rattle.cord_iter.specs.inner.Output.{IsTextOver, IsPrefixOver};
+ghost use Rattle.cord_iter.specs.inner.Output.{IsTextRead, IsPrefixOver};
 
 use crate::pieces::{piece_len, put_all, put_run};
 use crate::{BLOCK_LEN, PAGE_LEN, PIECE_LEN};
@@ -67,7 +67,7 @@ pub fn put<S: Source, W: Sink>(cord: &Cord, src: &mut S, sink: &mut W) -> Result
 fn put_node<S: Source, W: Sink>(node: &Node, src: &mut S, sink: &mut W) -> Result<(), CordError>
     requires sound { IsSound node.now }
     requires fits { FitsIn (S.lengths src.old) node.now }
-    ensures text { OnOk result (Takes (IsTextOver (S.consistent src.new) (S.table src.old) node.now) (W.taken sink.old)
+    ensures text { OnOk result (Takes (IsTextRead (S.consistent src.new) (S.table src.old) node.now) (W.taken sink.old)
         (W.taken sink.new)) }
     ensures prefix { OnErr result (Takes (IsPrefixOver (S.consistent src.new) (S.table src.old) node.now)
         (W.taken sink.old)
@@ -109,7 +109,7 @@ fn put_func<S: Source, W: Sink>(
 ) -> Result<(), CordError>
     requires fits { start + len ≤ length_at (S.lengths src.old) id.0 }
     requires limit { start + len ≤ MAX_LEN }
-    ensures text { OnOk result (Takes (IsTextOver (S.consistent src.new) (S.table src.old) (Node.Func id len start))
+    ensures text { OnOk result (Takes (IsTextRead (S.consistent src.new) (S.table src.old) (Node.Func id len start))
         (W.taken sink.old) (W.taken sink.new)) }
     ensures prefix { OnErr result (Takes (IsPrefixOver (S.consistent src.new) (S.table src.old)
         (Node.Func id len start))
@@ -142,7 +142,7 @@ fn put_range<const N: usize, S: Source, W: Sink>(
     requires few { N ≤ BLOCK_LEN }
     requires fits { start + len ≤ length_at (S.lengths src.old) id.0 }
     requires limit { start + len ≤ MAX_LEN }
-    ensures text { OnOk result (Takes (IsTextOver (S.consistent src.new) (S.table src.old) (Node.Func id len start))
+    ensures text { OnOk result (Takes (IsTextRead (S.consistent src.new) (S.table src.old) (Node.Func id len start))
         (W.taken sink.old) (W.taken sink.new)) }
     ensures prefix { OnErr result (Takes (IsPrefixOver (S.consistent src.new) (S.table src.old)
         (Node.Func id len start))
@@ -187,7 +187,7 @@ fn put_piece<S: Source, W: Sink>(
     requires some { 0 < length piece.old }
     requires fits { start + length piece.old ≤ length_at (S.lengths src.old) id.0 }
     ensures text { OnOk result
-        (Takes (IsTextOver (S.consistent src.new) (S.table src.old) (Node.Func id (length piece.old) start))
+        (Takes (IsTextRead (S.consistent src.new) (S.table src.old) (Node.Func id (length piece.old) start))
         (W.taken sink.old) (W.taken sink.new)) }
     ensures prefix { OnErr result
         (Takes (IsPrefixOver (S.consistent src.new) (S.table src.old) (Node.Func id (length piece.old) start))

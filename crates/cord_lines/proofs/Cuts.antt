@@ -13,22 +13,22 @@ use Rattle.cord_lines.specs.declared.counting.Counts.{Counts}
 use Rattle.cord_lines.specs.declared.blocks.Block.{Block}
 use Rattle.cord_lines.specs.Counts.{counts_of, ends_in, plus, AreFew, AreNarrow}
 use Rattle.cord_lines.specs.inner.Blocks.{block_counts, total}
-use Rattle.cord_lines.specs.inner.Cuts.{IsCut, AreModest, AreOfSomeText, shown}
+use Rattle.cord_lines.specs.inner.Cuts.{AreBlocksOf, AreModest, AreOfSomeText, shown}
 use Rattle.cord_lines.proofs.Countings.{counts-append, ends-le, chars-le}
 use Rattle.cord_lines.proofs.Sums.{min_prefix, total-cons}
 
-pub total_is : (bs : List Block) (x : List ℕ) → IsCut bs x → total bs ≡ counts_of x
+pub total_is : (bs : List Block) (x : List ℕ) → AreBlocksOf bs x → total bs ≡ counts_of x
 total_is [] x c = ap counts_of (sym c)
 total_is (b ∷ bs) x (piece, rest, text, here, more) =
     total-cons b bs ∙ ap (λ (a : Counts). plus a (total bs)) here ∙ ap (plus (counts_of piece)) (total_is bs rest more)
     ∙ sym (counts-append piece rest) ∙ ap counts_of (sym text)
 
 -- the blocks of an index are cut from its text
-pub cut_of : (bs : List Block) (x : List ℕ) → AreCountsOf (map block_counts bs) x → IsCut bs x
+pub cut_of : (bs : List Block) (x : List ℕ) → AreCountsOf (map block_counts bs) x → AreBlocksOf bs x
 cut_of [] x none = none
 cut_of (b ∷ bs) x (here, more) = (take b.bytes x, drop b.bytes x, sym (take-append-drop b.bytes x), here, cut_of bs (drop b.bytes x) more)
 
-pub counted_of : (bs : List Block) (x : List ℕ) → IsCut bs x → AreCountsOf (map block_counts bs) x
+pub counted_of : (bs : List Block) (x : List ℕ) → AreBlocksOf bs x → AreCountsOf (map block_counts bs) x
 counted_of [] x none = none
 counted_of (b ∷ bs) x (piece, rest, text, here, more) =
     let len : b.bytes ≡ length piece = ap (λ (a : Counts). a.bytes) here in
@@ -36,10 +36,10 @@ counted_of (b ∷ bs) x (piece, rest, text, here, more) =
     let left : drop b.bytes x ≡ rest = ap (λ (n : ℕ). drop n x) len ∙ ap (drop (length piece)) text ∙ drop-append_seam piece rest in
     (here ∙ ap counts_of (sym first), subst (λ (y : List ℕ). AreCountsOf (map block_counts bs) y) (sym left) (counted_of bs rest more))
 
-pub cut_from : (bs : List Block) (lacks : Bool) (i : Indexed) (x : List ℕ) → shown bs lacks ≡ i → IsIndexOf i x → IsCut bs x
+pub cut_from : (bs : List Block) (lacks : Bool) (i : Indexed) (x : List ℕ) → shown bs lacks ≡ i → IsIndexOf i x → AreBlocksOf bs x
 cut_from bs lacks i x seen is = cut_of bs x (subst (λ (j : Indexed). AreCountsOf j.pieces x) (sym seen) is.counted)
 
-pub index_from : (bs : List Block) (lacks : Bool) (x : List ℕ) → IsCut bs x → lacks ≡ lacks_end x → IsIndexOf (shown bs lacks) x
+pub index_from : (bs : List Block) (lacks : Bool) (x : List ℕ) → AreBlocksOf bs x → lacks ≡ lacks_end x → IsIndexOf (shown bs lacks) x
 index_from bs lacks x c e = record { counted = counted_of bs x c; end = e }
 
 -- a text in two, between two blocks
@@ -47,10 +47,10 @@ pub record Split (i : ℕ) (bs : List Block) (x : List ℕ) : Type 0 where
   pub prefix : List ℕ
   pub back : List ℕ
   pub text : x ≡ prefix ++ back
-  pub first : IsCut (take i bs) prefix
-  pub second : IsCut (drop i bs) back
+  pub first : AreBlocksOf (take i bs) prefix
+  pub second : AreBlocksOf (drop i bs) back
 
-pub split : (i : ℕ) (bs : List Block) (x : List ℕ) → IsCut bs x → Split i bs x
+pub split : (i : ℕ) (bs : List Block) (x : List ℕ) → AreBlocksOf bs x → Split i bs x
 split zero bs x c = record { prefix = []; back = x; text = refl; first = refl; second = c }
 split (suc i) [] x c = record { prefix = []; back = x; text = refl; first = refl; second = c }
 split (suc i) (b ∷ bs) x (piece, rest, text, here, more) =
@@ -63,19 +63,19 @@ split (suc i) (b ∷ bs) x (piece, rest, text, here, more) =
       second = s.second;
     }
 
-pub joined : (cs bs : List Block) (x y : List ℕ) → IsCut cs x → IsCut bs y → IsCut (cs ++ bs) (x ++ y)
-joined [] bs x y c d = subst (λ (z : List ℕ). IsCut bs z) (ap (λ (z : List ℕ). z ++ y) (sym c)) d
+pub joined : (cs bs : List Block) (x y : List ℕ) → AreBlocksOf cs x → AreBlocksOf bs y → AreBlocksOf (cs ++ bs) (x ++ y)
+joined [] bs x y c d = subst (λ (z : List ℕ). AreBlocksOf bs z) (ap (λ (z : List ℕ). z ++ y) (sym c)) d
 joined (a ∷ cs) bs x y (piece, rest, text, here, more) d =
     (piece, rest ++ y, ap (λ (z : List ℕ). z ++ y) text ∙ append_assoc piece rest y, here, joined cs bs rest y more d)
 
 -- what is before a block
-pub prefix_counts : (i : ℕ) (bs : List Block) (x : List ℕ) (c : IsCut bs x) → total (take i bs) ≡ counts_of (split i bs x c).prefix
+pub prefix_counts : (i : ℕ) (bs : List Block) (x : List ℕ) (c : AreBlocksOf bs x) → total (take i bs) ≡ counts_of (split i bs x c).prefix
 prefix_counts i bs x c = total_is (take i bs) (split i bs x c).prefix (split i bs x c).first
 
 pub few : (bs : List Block) → AreModest bs → AreFew (total bs)
 few bs m = record { bytes = omega (arith, m.bytes); ends = omega (arith, m.ends); chars = omega (arith, m.chars) }
 
-pub modest : (bs : List Block) (x : List ℕ) → IsCut bs x → length x ≤ MAX_LEN → AreModest bs
+pub modest : (bs : List Block) (x : List ℕ) → AreBlocksOf bs x → length x ≤ MAX_LEN → AreModest bs
 modest bs x c le =
     let all : total bs ≡ counts_of x = total_is bs x c in
     record {
@@ -90,8 +90,8 @@ modest_by bs some = modest bs some.text some.cut some.limit
 pub few_by : (bs : List Block) → AreOfSomeText bs → AreFew (total bs)
 few_by bs some = few bs (modest_by bs some)
 
-pub one_piece_more : (bs : List Block) (b : Block) (x y z : List ℕ) → IsCut bs x → block_counts b ≡ counts_of y → z ≡ x ++ y → IsCut (bs ++ b ∷ []) z
-one_piece_more bs b x y z c here text = subst (λ (w : List ℕ). IsCut (bs ++ b ∷ []) w) (sym text)
+pub one_piece_more : (bs : List Block) (b : Block) (x y z : List ℕ) → AreBlocksOf bs x → block_counts b ≡ counts_of y → z ≡ x ++ y → AreBlocksOf (bs ++ b ∷ []) z
+one_piece_more bs b x y z c here text = subst (λ (w : List ℕ). AreBlocksOf (bs ++ b ∷ []) w) (sym text)
     (joined bs (b ∷ []) x y c (y, [], sym (append-nil y), here, refl))
 
 -- a range in two
@@ -123,7 +123,7 @@ few_more bs i p n x m le le2 =
       chars = omega (arith, m.chars, le, here, chars-le (take (n - p) (drop p x)), sum_by-take-le (λ (b : Block). b.chars) bs i);
     }
 
-module _ (bs : List Block) (x : List ℕ) (c : IsCut bs x) (i : ℕ) where
+module _ (bs : List Block) (x : List ℕ) (c : AreBlocksOf bs x) (i : ℕ) where
   abbrev s : Split i bs x
   s = split i bs x c
 

@@ -14,8 +14,8 @@ use Rattle.cord_lines.specs.declared.renewing.Span.{Span}
 use Rattle.cord_lines.specs.Counts.{begins_char, chars_in, counts_of, ends_in, is_end, plus, AreFew}
 use Rattle.cord_lines.specs.Lines.{IsEditOf}
 use Rattle.cord_lines.specs.inner.Blocks.{block_counts, exchanged, total}
-use Rattle.cord_lines.specs.inner.Cuts.{IsCut, AreModest, AreOfSomeText}
-use Rattle.cord_lines.specs.inner.Edits.{AreOfBytes, Covers, Fits, FollowEdit}
+use Rattle.cord_lines.specs.inner.Cuts.{AreBlocksOf, AreModest, AreOfSomeText}
+use Rattle.cord_lines.specs.inner.Edits.{AreOfBytes, Covers, EditFits, FollowEdit}
 use Rattle.cord_lines.proofs.Countings.{chars-append, chars-le, counts-append, ends-le, plus_assoc, same_counts}
 use Rattle.cord_lines.proofs.Ends.{ends-append}
 use Rattle.cord_lines.proofs.Cuts.{Split, split, joined, total_is}
@@ -105,7 +105,7 @@ exchanged_part m fresh k rem =
     ∙ sym (counts-append (take k m ++ fresh) (drop (k + rem) m) ∙ ap (λ (c : Counts). plus c (counts_of (drop (k + rem) m))) (counts-append (take k m) fresh))
 
 -- blocks of a text, some of which are replaced
-module _ (bs news : List Block) (x : List ℕ) (c : IsCut bs x) (first count start bytes : ℕ)
+module _ (bs news : List Block) (x : List ℕ) (c : AreBlocksOf bs x) (first count start bytes : ℕ)
     (here : start ≡ (total (take first bs)).bytes) (end : start + bytes ≡ (total (take (first + count) bs)).bytes) where
   abbrev s : Split first bs x
   s = split first bs x c
@@ -119,22 +119,22 @@ module _ (bs news : List Block) (x : List ℕ) (c : IsCut bs x) (first count sta
   prefix-len : start ≡ length s.prefix
   prefix-len = here ∙ ap (λ (a : Counts). a.bytes) (total_is (take first bs) s.prefix s.first)
 
-  both : IsCut (take (first + count) bs) (s.prefix ++ r.prefix)
-  both = subst (λ (ys : List Block). IsCut ys (s.prefix ++ r.prefix)) (sym (take-add first count bs))
+  both : AreBlocksOf (take (first + count) bs) (s.prefix ++ r.prefix)
+  both = subst (λ (ys : List Block). AreBlocksOf ys (s.prefix ++ r.prefix)) (sym (take-add first count bs))
       (joined (take first bs) (take count (drop first bs)) s.prefix r.prefix s.first r.first)
 
   middle-is : bytes ≡ length r.prefix
   middle-is = (let all = end ∙ ap (λ (a : Counts). a.bytes) (total_is (take (first + count) bs) (s.prefix ++ r.prefix) both) in
       omega (arith, all, prefix-len, length-append s.prefix r.prefix))
 
-  replaced : (piece : List ℕ) → IsCut news piece → IsCut (take first bs ++ news ++ drop (first + count) bs) (s.prefix ++ (piece ++ r.back))
-  replaced piece n = subst (λ (ys : List Block). IsCut ys (s.prefix ++ (piece ++ r.back)))
+  replaced : (piece : List ℕ) → AreBlocksOf news piece → AreBlocksOf (take first bs ++ news ++ drop (first + count) bs) (s.prefix ++ (piece ++ r.back))
+  replaced piece n = subst (λ (ys : List Block). AreBlocksOf ys (s.prefix ++ (piece ++ r.back)))
       (sym (append_assoc (take first bs) news (drop (first + count) bs)))
       (joined (take first bs) (news ++ drop (first + count) bs) s.prefix (piece ++ r.back) s.first
-      (joined news (drop (first + count) bs) piece r.back n (subst (λ (ys : List Block). IsCut ys r.back) (drop-drop count first bs) r.second)))
+      (joined news (drop (first + count) bs) piece r.back n (subst (λ (ys : List Block). AreBlocksOf ys r.back) (drop-drop count first bs) r.second)))
 
   -- the result is of some text
-  pub of_some : (piece : List ℕ) → IsCut news piece → length x - bytes + length piece ≤ MAX_LEN →
+  pub of_some : (piece : List ℕ) → AreBlocksOf news piece → length x - bytes + length piece ≤ MAX_LEN →
       AreOfSomeText (take first bs ++ news ++ drop (first + count) bs)
   of_some piece n le = record {
     text = s.prefix ++ (piece ++ r.back);
@@ -154,7 +154,7 @@ module _ (bs news : List Block) (x : List ℕ) (c : IsCut bs x) (first count sta
 
   -- and of the text after an edit, where the pieces are
   pub renewed : (after : List ℕ) (st rem ins len : ℕ) (e : IsEditOf x after st rem ins) → start ≤ st → st + rem ≤ start + bytes →
-      len ≡ bytes - rem + ins → IsCut news (take len (drop start after)) → IsCut (take first bs ++ news ++ drop (first + count) bs) after
+      len ≡ bytes - rem + ins → AreBlocksOf news (take len (drop start after)) → AreBlocksOf (take first bs ++ news ++ drop (first + count) bs) after
   renewed after st rem ins len e from to new-len n =
       let edited : after ≡ take st (s.prefix ++ (r.prefix ++ r.back)) ++ e.fresh ++ drop (st + rem) (s.prefix ++ (r.prefix ++ r.back)) =
       subst (λ (y : List ℕ). after ≡ take st y ++ e.fresh ++ drop (st + rem) y) text e.text in
@@ -163,9 +163,9 @@ module _ (bs news : List Block) (x : List ℕ) (c : IsCut bs x) (first count sta
       let there : take len (drop start after) ≡ middle s.prefix r.prefix r.back after e.fresh st rem a-from a-to edited =
       ap (λ (n : ℕ). take len (drop n after)) prefix-len
       ∙ middle_at s.prefix r.prefix r.back after e.fresh st rem a-from a-to edited len (omega (arith, new-len, middle-is, e.count)) in
-      subst (λ (y : List ℕ). IsCut (take first bs ++ news ++ drop (first + count) bs) y)
+      subst (λ (y : List ℕ). AreBlocksOf (take first bs ++ news ++ drop (first + count) bs) y)
       (sym (after_is s.prefix r.prefix r.back after e.fresh st rem a-from a-to edited))
-      (replaced (middle s.prefix r.prefix r.back after e.fresh st rem a-from a-to edited) (subst (λ (y : List ℕ). IsCut news y) there n))
+      (replaced (middle s.prefix r.prefix r.back after e.fresh st rem a-from a-to edited) (subst (λ (y : List ℕ). AreBlocksOf news y) there n))
 
   -- what they hold
   own_is : (own : Counts) → total (take (first + count) bs) ≡ plus (total (take first bs)) own → own ≡ counts_of r.prefix
@@ -202,15 +202,15 @@ module _ (bs news : List Block) (x : List ℕ) (c : IsCut bs x) (first count sta
         ∙ exchanged_part r.prefix e.fresh (st - length s.prefix) rem
 
     pub exchanged_in : (b : Block) → block_counts b ≡ exchanged own removed (counts_of e.fresh) → news ≡ b ∷ [] →
-        IsCut (take first bs ++ news ++ drop (first + count) bs) after
-    exchanged_in b counted one = subst (λ (y : List ℕ). IsCut (take first bs ++ news ++ drop (first + count) bs) y)
+        AreBlocksOf (take first bs ++ news ++ drop (first + count) bs) after
+    exchanged_in b counted one = subst (λ (y : List ℕ). AreBlocksOf (take first bs ++ news ++ drop (first + count) bs) y)
         (sym (after_is s.prefix r.prefix r.back after e.fresh st rem a-from a-to edited))
-        (replaced m (subst (λ (ys : List Block). IsCut ys m) (sym one) (m, [], sym (append-nil m), counted ∙ counts_then, refl)))
+        (replaced m (subst (λ (ys : List Block). AreBlocksOf ys m) (sym one) (m, [], sym (append-nil m), counted ∙ counts_then, refl)))
 
 -- the blocks that an edit meets are replaced by those of as many bytes as there are then
 pub replaced_by : (bs news : List Block) (some : AreOfSomeText bs) (span : Span) (edit : Edit) (len : ℕ) → Covers bs span edit →
-    Fits edit (total bs).bytes len → len ≤ MAX_LEN →
-    (piece : List ℕ) → length piece ≤ span.bytes - edit.removed + edit.inserted → IsCut news piece →
+    EditFits edit (total bs).bytes len → len ≤ MAX_LEN →
+    (piece : List ℕ) → length piece ≤ span.bytes - edit.removed + edit.inserted → AreBlocksOf news piece →
     AreOfSomeText (take span.first bs ++ news ++ drop (span.first + span.count) bs)
 replaced_by bs news some span edit len covers fits le piece fewer cut =
     let whole : (total bs).bytes ≡ length some.text = ap (λ (a : Counts). a.bytes) (total_is bs some.text some.cut) in
@@ -227,8 +227,8 @@ replaced_by bs news some span edit len covers fits le piece fewer cut =
     ))
 
 pub replaced_some : (bs news : List Block) (some : AreOfSomeText bs) (span : Span) (edit : Edit) (after : List ℕ) → Covers bs span edit →
-    Fits edit (total bs).bytes (length after) → length after ≤ MAX_LEN →
-    IsCut news (take (span.bytes - edit.removed + edit.inserted) (drop span.start after)) →
+    EditFits edit (total bs).bytes (length after) → length after ≤ MAX_LEN →
+    AreBlocksOf news (take (span.bytes - edit.removed + edit.inserted) (drop span.start after)) →
     AreOfSomeText (take span.first bs ++ news ++ drop (span.first + span.count) bs)
 replaced_some bs news some span edit after covers fits le cut =
     let len : ℕ = span.bytes - edit.removed + edit.inserted in
@@ -309,7 +309,7 @@ module _ (bs : List Block) (edit : Edit) (own removed inserted : Counts) (b : Bl
   set-is = (let lt : span.first < length bs = omega (arith, covers.span.inside, one) in
       ap (λ (n : ℕ). take span.first bs ++ (b ∷ []) ++ drop (span.first + n) bs) one ∙ sym (set_one bs span.first b lt))
 
-  pub set_some : AreOfSomeText bs → Fits edit (total bs).bytes (length after) → length after ≤ MAX_LEN → AreOfBytes b →
+  pub set_some : AreOfSomeText bs → EditFits edit (total bs).bytes (length after) → length after ≤ MAX_LEN → AreOfBytes b →
       b.bytes ≡ span.bytes - edit.removed + edit.inserted → AreOfSomeText (set bs span.first b)
   set_some some fits le of len = (let y : List ℕ = bytes_with b.bytes b.ends b.chars in
       let is : block_counts b ≡ counts_of y = some_counts b.bytes b.ends b.chars of.ends of.chars in
@@ -325,6 +325,6 @@ module _ (bs : List Block) (edit : Edit) (own removed inserted : Counts) (b : Bl
       let both-is = ap (λ (n : ℕ). total (take (span.first + n) bs)) one ∙ own-is in
       let same : inserted ≡ counts_of edited.fresh =
       inserted-is ∙ ap counts_of (fresh_at old after edit.start edit.removed edit.inserted ((edit.start + edit.inserted) - edit.start) edited n) in
-      subst (λ (ys : List Block). IsCut ys after) set-is
+      subst (λ (ys : List Block). AreBlocksOf ys after) set-is
       (exchanged_in bs (b ∷ []) old cut span.first span.count span.start span.bytes covers.span.start covers.span.end own removed after
       edit.start edit.removed edit.inserted edited covers.from covers.to both-is known b (counted ∙ ap (exchanged own removed) same) refl)

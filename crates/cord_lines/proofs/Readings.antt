@@ -4,7 +4,7 @@ use Rattle.std.proofs.lemmas.List.{drop_all, take-take, take-append-drop, drop-d
 use Rattle.cord_pos.specs.Position.{Standing}
 use Rattle.cord_pos.specs.declared.span.Span.{Span}
 use Rattle.cord_pos.specs.Spans.{span_len, span_bytes, IsSpanOf, IsSpanPrefix, IsAheadOf}
-use Rattle.cord_lines.specs.inner.Standing.{IsReader}
+use Rattle.cord_lines.specs.inner.Standing.{IsReaderAt}
 use Rattle.std.specs.Prelude.{nat_lt, if◌then◌else◌, true, false, Bool}
 use Rattle.std.proofs.lemmas.Bool.Decides.{nat_tests}
 use Rattle.cord_node.specs.Tables.{lengths_of}
@@ -23,7 +23,7 @@ pub limited : (c : Option Node) → IsCord c → text_len c ≤ MAX_LEN
 limited None s = omega arith
 limited (Some n) s = len_limit n s
 
-module _ (x : List ℕ) (p : Standing) (place : ℕ) (r : IsReader x p place) where
+module _ (x : List ℕ) (p : Standing) (place : ℕ) (r : IsReaderAt x p place) where
   -- nothing is left where the position has no index
   past_end : (inside : Bool) → nat_lt place (text_len p.cord) ≡ inside → p.index ≡ (if inside then Some place else None) →
       IsAheadOf p.cord p.index None → drop place x ≡ []

@@ -1,7 +1,7 @@
 // Ranges of a text that are cut into blocks.
 ghost use Rattle.std.specs.Prelude.{◌≡◌, ◌-◌, ◌<◌, ◌≤◌, IfOk, IsOkUnless, length, take, drop};
 ghost use Rattle.cord_io.specs.declared.CordError.TheVariants.{NoMemory};
-ghost use Rattle.cord_lines.specs.inner.Cuts.{IsCut};
+ghost use Rattle.cord_lines.specs.inner.Cuts.{AreBlocksOf};
 
 use crate::blocks::Block;
 use crate::reading::count_range;
@@ -27,7 +27,7 @@ pub(crate) fn cut(
     requires inside { to ≤ length text.now }
     requires some { 0 < size }
     requires few { size ≤ LARGEST }
-    ensures cut { IfOk result (λ blocks. IsCut blocks.items (take (to - from) (drop from text.now))) }
+    ensures cut { IfOk result (λ blocks. AreBlocksOf blocks.items (take (to - from) (drop from text.now))) }
     ensures refused { IsOkUnless result NoMemory }
 {
     let mut blocks = Vec::with_capacity(alloc, ((to - from) / size).max(1) as usize)?;

@@ -23,13 +23,13 @@ struct Reader<'a> {
 
 impl<'a> Model for Reader<'a> {
     ghost use Rattle.std.specs.Prelude.{List, ℕ, drop};
-    ghost use Rattle.cord_lines.specs.inner.Standing.{IsReader};
+    ghost use Rattle.cord_lines.specs.inner.Standing.{IsReaderAt};
 
     ghost Value = { List ℕ };
 
     ghost view = { λ r. drop r.place r.text.now };
 
-    ghost invariant = { λ r. IsReader r.text.now r.position r.place };
+    ghost invariant = { λ r. IsReaderAt r.text.now r.position r.place };
 }
 
 impl<'a> Reader<'a> {

@@ -4,7 +4,7 @@ ghost use Rattle.cord_io.specs.declared.CordError.TheVariants.{NoMemory};
 ghost use Rattle.cord_lines.specs.Counts.{plus, AreFew};
 ghost use Rattle.cord_lines.specs.inner.Blocks.{block_counts, exchanged, total};
 ghost use Rattle.cord_lines.specs.inner.Cuts.{AreModest, AreOfSomeText};
-ghost use Rattle.cord_lines.specs.inner.Edits.{AreOfBytes, AreRemoved, Covers, Fits, FollowEdit, IsSpan};
+ghost use Rattle.cord_lines.specs.inner.Edits.{AreOfBytes, AreRemoved, Covers, EditFits, FollowEdit, IsSpan};
 
 use crate::blocks::{Block, Blocks, Measure};
 use crate::counting::Counts;
@@ -27,7 +27,7 @@ pub(crate) struct Edit {
 impl Edit {
     /// Whether it may make a text of `after` bytes of one of `before` bytes.
     pub(crate) fn fits(self, before: u64, after: u64) -> bool
-        ensures { IsTrue result ↔ Fits self before after }
+        ensures { IsTrue result ↔ EditFits self before after }
     {
         self.start <= before
             && self.removed <= before - self.start
@@ -78,7 +78,7 @@ pub(crate) fn renew(
     removed: Option<Counts>,
 ) -> Result<(), CordError>
     requires blocks { AreOfSomeText blocks.old }
-    requires edit { Fits edit (total blocks.old).bytes (length after.now) }
+    requires edit { EditFits edit (total blocks.old).bytes (length after.now) }
     ensures blocks { AreOfSomeText blocks.new }
     ensures cut { OnOk result (FollowEdit blocks.old blocks.new after.now edit removed) }
     ensures unchanged { IsErr result → blocks.new ≡ blocks.old }

@@ -12,16 +12,16 @@ use types.Logic.{Logic, sem}
 use types.Owned.{own_glued}
 use contract.Monad.{fact, fact_i}
 use denote.Sharing.{ShrLaws, said}
-use Rattle.cord_mark.specs.inner.Ownership.{Reported, reporting, reported}
+use Rattle.cord_mark.specs.inner.Ownership.{MarkedText, reporting, reported}
 
 module _ {M : Type 1} {𝓤 : Ura M} (𝓛 : Logic 𝓤) (γ : GName) where
   pub reported_twice : (parts : List Part) (b o : ℕ) → ent 𝓤 (sem 𝓛 (reported γ parts b o))
       (sep 𝓤 (sem 𝓛 (reported γ parts b o)) (sem 𝓛 (reported γ parts b o)))
-  reported_twice parts b o = let t : Reported = (parts, (b, o)) in
+  reported_twice parts b o = let t : MarkedText = (parts, (b, o)) in
       𝓛.algebras.own_cut reporting γ t t t (Ag.idem (SetCoded-set (coded (coded× coded_parts (coded× coded_ℕ coded_ℕ)))) t)
 
   pub reported_same : (s t : List Part) (b o c e : ℕ) → ent 𝓤 (sep 𝓤 (sem 𝓛 (reported γ s b o)) (sem 𝓛 (reported γ t c e)))
-      (fact 𝓤 (◌≡◌ {A = Reported} (s, (b, o)) (t, (c, e))))
+      (fact 𝓤 (◌≡◌ {A = MarkedText} (s, (b, o)) (t, (c, e))))
   reported_same s t b o c e = own_glued 𝓛 reporting γ (s, (b, o)) (t, (c, e)) _ (λ u m. fact_i 𝓤 _ _ m.0)
 
 pub reported_shr_laws : (γ : GName) (parts : List Part) (b o : ℕ) → ShrLaws (said (reported γ parts b o))

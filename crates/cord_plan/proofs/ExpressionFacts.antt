@@ -12,7 +12,7 @@ use Rattle.cord_plan.specs.Exprs.{names, names_of, parts}
 use Rattle.cord_plan.specs.Operands.{has}
 use Rattle.cord_plan.specs.Inlined as plain
 use Rattle.cord_plan.specs.inner.Choices.{Has, IsChoice, expression_in, simple_operands}
-use Rattle.cord_plan.specs.inner.ExpressionFacts.{HasFacts, IsFacts, IsFrom, AreFactsOf}
+use Rattle.cord_plan.specs.inner.ExpressionFacts.{HasFacts, IsFacts, IsChoiceOf, AreFactsOf}
 use Rattle.cord_plan.specs.inner.NameSets.{IsBit, Marks, bit}
 use Rattle.cord_plan.specs.inner.Numbering.{number_of}
 use Rattle.cord_plan.specs.Exprs.{lacks}
@@ -124,22 +124,22 @@ bare_table (o ∷ table) = λ i. o ∷ bare_table table i
 module _ (s : List Statement) (later : List ℕ → ℕ → Bool) (table : List (Option Expr)) (b : ℕ) (l : Statement) (x : List ℕ) where
   module _ (t : plain.Table) (before after : List Expr) where
     by_expression : (a : ℕ) (f : Option Expr) → expression_in table a ≡ f →
-        IsFrom table x (plain.chosen_from s later b l x before after a f)
+        IsChoiceOf table x (plain.chosen_from s later b l x before after a f)
     by_expression a None is = refl
     by_expression a (Some e) is = by_test (plain.fits s later e a b l x && plain.is_small (plain.expr_with l (before ++ e ∷ after)))
       where
-        by_test : (v : Bool) → IsFrom table x (if v then plain.replaced a e else plain.named x)
+        by_test : (v : Bool) → IsChoiceOf table x (if v then plain.replaced a e else plain.named x)
         by_test true = is
         by_test false = refl
 
-    by_place : (o : Option ℕ) → Has table t → IsFrom table x (plain.chosen_of s later t b l x before after o)
+    by_place : (o : Option ℕ) → Has table t → IsChoiceOf table x (plain.chosen_of s later t b l x before after o)
     by_place None has = refl
     by_place (Some a) has = by_expression a (plain.first_of (slice_get t a)) (first_in table t a has)
 
   -- a choice is the operand itself or an expression of the table
   pub choice_from : (xs : List (List ℕ)) (done : List plain.Choice) (c : plain.Choice) → IsChoice s later b l xs x table done c →
-      IsFrom table x c
+      IsChoiceOf table x c
   choice_from xs done c chosen =
       let t : plain.Table = map (λ o. (o, [])) table in
-      subst (λ (d : plain.Choice). IsFrom table x d) (sym (chosen t (bare_table table)))
+      subst (λ (d : plain.Choice). IsChoiceOf table x d) (sym (chosen t (bare_table table)))
       (by_place t _ _ (plain.setter s x b) (bare_table table))

@@ -14,7 +14,7 @@ use Rattle.cord_plan.specs.Operands.{assigns, assigns_at, reads, reads_at}
 use Rattle.cord_plan.specs.declared.flow.numbering.Numbering.{Numbering}
 use Rattle.cord_plan.specs.Inlined.{each_from, is_block, is_block_at, preserves, setter}
 use Rattle.cord_plan.specs.inner.Choices.{nearest}
-use Rattle.cord_plan.specs.inner.Recent.{Puts, entry_of, reader, blocker, is_before, is_after, stay, unless_after}
+use Rattle.cord_plan.specs.inner.Recent.{PutsPlaces, entry_of, reader, blocker, is_before, is_after, stay, unless_after}
 use Rattle.cord_plan.proofs.Appending.{names_append}
 use Rattle.cord_plan.proofs.Chosen.{setter_is}
 use Rattle.cord_plan.proofs.Nearest.{each_more}
@@ -188,13 +188,13 @@ module _ (s : List Statement) (t : Numbering) (b : ℕ) (l : Statement) (here : 
   up : b + 1 ≡ suc b
   up = omega arith
 
-  pub assigned_then : (old new : List (Option ℕ)) → Puts t (λ x. assigns l x) (Some b) old new →
+  pub assigned_then : (old new : List (Option ℕ)) → PutsPlaces t (λ x. assigns l x) (Some b) old new →
       ((x : List ℕ) → entry_of t old x ≡ setter s x b) → (x : List ℕ) → entry_of t new x ≡ setter s x (b + 1)
   assigned_then old new notes before x =
       notes x ∙ ap (λ (o : Option ℕ). if assigns l x then Some b else o) (before x)
       ∙ sym (ap (λ (n : ℕ). setter s x n) up ∙ ap (λ (at : Option Statement). if assigns_at at x then Some b else setter s x b) here)
 
-  pub read_then : (old new : List (Option ℕ)) → Puts t (λ x. reads l x) (Some b) old new →
+  pub read_then : (old new : List (Option ℕ)) → PutsPlaces t (λ x. reads l x) (Some b) old new →
       ((x : List ℕ) → entry_of t old x ≡ reader s x b) → (x : List ℕ) → entry_of t new x ≡ reader s x (b + 1)
   read_then old new notes before x =
       notes x ∙ ap (λ (o : Option ℕ). if reads l x then Some b else o) (before x)

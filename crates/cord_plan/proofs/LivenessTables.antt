@@ -13,7 +13,7 @@ use Rattle.cord_plan.specs.declared.flow.successors.Successors.{Successors}
 use Rattle.cord_plan.specs.declared.flow.numbering.Numbering.{Numbering}
 use Rattle.cord_plan.specs.Operands.{has, reads_at}
 use Rattle.cord_plan.specs.Liveness.{ReadBy, ReadLater, NotLive, IsLater, successors, some_of}
-use Rattle.cord_plan.specs.inner.Numbering.{Covers, names_of, number_of}
+use Rattle.cord_plan.specs.inner.Numbering.{CoversNames, names_of, number_of}
 use Rattle.cord_plan.specs.inner.NameSets.{IsBit, column}
 use Rattle.cord_plan.specs.inner.Liveness.{ArePaths, AreLive, AllLive, LiveTo, IsLive, at, column_of, places_at, reports_of}
 use Rattle.cord_plan.proofs.Flows.{Found, shape_found, shape_held}
@@ -63,7 +63,7 @@ live_more s t k groups last size before live g lt = by_place (eq-or-lt_of_le (om
         (found.0, get_before groups last found.0 g found.1, found.2)
 
 module _ (s : List Statement) (t : Numbering) (table : List Successors) (groups : List Group) (paths : ArePaths (map shape_of s) table)
-    (covers : Covers s t) (all : AllLive s t groups) where
+    (covers : CoversNames s t) (all : AllLive s t groups) where
   module _ (x : List ℕ) where
     live : has (names_of t) x ≡ true → IsLive s x (live_of t groups x)
     live known =

@@ -20,8 +20,8 @@ use Rattle.cord_plan.specs.declared.flow.numbering.NumberedLine.{NumberedLine}
 use Rattle.cord_plan.specs.declared.flow.numbering.Numbering.{Numbering}
 use Rattle.cord_plan.specs.Operands.{has, cord_arguments, read_by, reads_at, target_of}
 use Rattle.cord_plan.specs.inner.Choices.{simple_operands}
-use Rattle.cord_plan.specs.inner.Numbering.{Covers, IsLineAt, IsNumbered, IsNumbering, names_of, number_in, number_of}
-use Rattle.cord_plan.specs.inner.Places.{Adds, AddsLine, AreNumbers, Grows, IsLine, IsNumber, TakesNumber, place_of}
+use Rattle.cord_plan.specs.inner.Numbering.{CoversNames, IsLineAt, IsNumbered, IsNumbering, names_of, number_in, number_of}
+use Rattle.cord_plan.specs.inner.Places.{AddsPlaces, AddsLine, AreNumbers, GainsNames, IsNumberedLine, IsNumber, TakesNumber, place_of}
 use Rattle.cord_plan.proofs.Choices.{simple_reads}
 use Rattle.cord_plan.proofs.Named.{same_bytes, own_bytes}
 
@@ -138,10 +138,10 @@ get_last : {A : Type 0} (xs : List A) (x : A) → slice_get (xs ++ x ∷ []) (le
 get_last [] x = refl
 get_last (z ∷ xs) x = get_last xs x
 
-pub same_names : (names : List (List ℕ)) → Grows names names
+pub same_names : (names : List (List ℕ)) → GainsNames names names
 same_names names = record { remains = λ n x e. e; distinct = λ d. d }
 
-then_grows : (a b c : List (List ℕ)) → Grows a b → Grows b c → Grows a c
+then_grows : (a b c : List (List ℕ)) → GainsNames a b → GainsNames b c → GainsNames a c
 then_grows a b c one two = record {
   remains = λ n x e. two.remains n x (one.remains n x e);
   distinct = λ d. two.distinct (one.distinct d);
@@ -162,7 +162,7 @@ pub name_known : (y : List ℕ) (names : List (List ℕ)) (n : ℕ) → slice_ge
 name_known y names n there = record { grows = same_names names; is = there }
 
 -- ---- the numbers of names stay when other names come
-module _ (old new : List (List ℕ)) (grows : Grows old new) where
+module _ (old new : List (List ℕ)) (grows : GainsNames old new) where
   numbers_stay : (xs : List (List ℕ)) (ns : List ℕ) → AreNumbers old xs ns → AreNumbers new xs ns
   numbers_stay [] [] e = refl
   numbers_stay [] (n ∷ ns) e = let bad : ⊥ = cc in absurd bad
@@ -180,7 +180,7 @@ module _ (old new : List (List ℕ)) (grows : Grows old new) where
       let there : slice_get old n ≡ Some x = cc in
       ap Some (grows.remains n x there)
 
-  line_stays : (read more : List ℕ) (l : Statement) (line : NumberedLine) → IsLine old read l line → IsLine new (read ++ more) l line
+  line_stays : (read more : List ℕ) (l : Statement) (line : NumberedLine) → IsNumberedLine old read l line → IsNumberedLine new (read ++ more) l line
   line_stays read more l line is =
       let order : line.start ≤ line.end = is.order in
       let within : line.end ≤ length read = is.within in
@@ -196,12 +196,12 @@ module _ (old new : List (List ℕ)) (grows : Grows old new) where
       }
 
 -- ---- numbers that are noted
-pub none_added : (names : List (List ℕ)) (numbers : List ℕ) → Adds [] names names numbers numbers
+pub none_added : (names : List (List ℕ)) (numbers : List ℕ) → AddsPlaces [] names names numbers numbers
 none_added names numbers = record { grows = same_names names; numbers = []; noted = sym (append-nil numbers); are = refl }
 
 pub one_added : (x : List ℕ) (n : ℕ) (old new : List (List ℕ)) (before after : List ℕ) → TakesNumber x n old new → after ≡ before ++ n ∷ []
     →
-    Adds (x ∷ []) old new before after
+    AddsPlaces (x ∷ []) old new before after
 one_added x n old new before after takes noted = record {
   grows = takes.grows;
   numbers = n ∷ [];
@@ -209,7 +209,7 @@ one_added x n old new before after takes noted = record {
   are = ap (λ (o : Option (List ℕ)). o ∷ []) takes.is;
 }
 
-pub both_added : (xs ys a b c : List (List ℕ)) (p q r : List ℕ) → Adds xs a b p q → Adds ys b c q r → Adds (xs ++ ys) a c p r
+pub both_added : (xs ys a b c : List (List ℕ)) (p q r : List ℕ) → AddsPlaces xs a b p q → AddsPlaces ys b c q r → AddsPlaces (xs ++ ys) a c p r
 both_added xs ys a b c p q r one two = record {
   grows = then_grows a b c one.grows two.grows;
   numbers = one.numbers ++ two.numbers;
@@ -222,7 +222,7 @@ both_added xs ys a b c p q r one two = record {
     both e f = λ i. e i ++ f i
 
 pub more_added : (names : List (List ℕ)) (i : ℕ) (y : List ℕ) (a b c : List (List ℕ)) (p q r : List ℕ) → i < length names →
-    y ≡ get_or names i y → Adds (take i names) a b p q → Adds (y ∷ []) b c q r → Adds (take (i + 1) names) a c p r
+    y ≡ get_or names i y → AddsPlaces (take i names) a b p q → AddsPlaces (y ∷ []) b c q r → AddsPlaces (take (i + 1) names) a c p r
 more_added names i y a b c p q r lt is one two =
     let prefix : take (i + 1) names ≡ take i names ++ y ∷ [] =
     take_more names i y lt ∙ ap (λ (z : List ℕ). take i names ++ z ∷ []) (sym is) in
@@ -234,8 +234,8 @@ cords_append (Number n ∷ xs) ys = cords_append xs ys
 cords_append (Cord y ∷ xs) ys = ap (λ (zs : List (List ℕ)). y ∷ zs) (cords_append xs ys)
 
 pub more_arguments : (arguments : List Argument) (i : ℕ) (e : Argument) (a b c : List (List ℕ)) (p q r : List ℕ) →
-    i < length arguments → e ≡ get_or arguments i e → Adds (cord_arguments (take i arguments)) a b p q →
-    Adds (cord_arguments (e ∷ [])) b c q r → Adds (cord_arguments (take (i + 1) arguments)) a c p r
+    i < length arguments → e ≡ get_or arguments i e → AddsPlaces (cord_arguments (take i arguments)) a b p q →
+    AddsPlaces (cord_arguments (e ∷ [])) b c q r → AddsPlaces (cord_arguments (take (i + 1) arguments)) a c p r
 more_arguments arguments i e a b c p q r lt is one two =
     let prefix : take (i + 1) arguments ≡ take i arguments ++ e ∷ [] =
     take_more arguments i e lt ∙ ap (λ (z : Argument). take i arguments ++ z ∷ []) (sym is) in
@@ -250,7 +250,7 @@ last_noted p ns q is =
     rw (is, drop-append_seam p ns) (take_all (length (p ++ ns) - length p) ns (omega arith))
 
 -- the numbers of a line that assigns a name, or none
-pub line_added : (l : Statement) (a b c : List (List ℕ)) (p q : List ℕ) (line : NumberedLine) → Adds (read_by l) a b p q → Grows b c →
+pub line_added : (l : Statement) (a b c : List (List ℕ)) (p q : List ℕ) (line : NumberedLine) → AddsPlaces (read_by l) a b p q → GainsNames b c →
     IsNumber c (target_of l) line.target → line.start ≡ length p → line.end ≡ length q → AddsLine l a c p q line
 line_added l a b c p q line adds grows target start end =
     let long : length (p ++ adds.numbers) ≡ length p + length adds.numbers = length-append p adds.numbers in
@@ -270,7 +270,7 @@ line_added l a b c p q line adds grows target start end =
 -- the lines before a place have their numbers
 abbrev pub LinesTo : List Statement → ℕ → List (List ℕ) → List ℕ → List NumberedLine → Type 0
 LinesTo s i names read lines = (p : ℕ) (l : Statement) → p < i → slice_get s p ≡ Some l →
-    (line : NumberedLine) × (slice_get lines p ≡ Some line) × IsLine names read l line
+    (line : NumberedLine) × (slice_get lines p ≡ Some line) × IsNumberedLine names read l line
 
 pub lines_more : (s : List Statement) (i : ℕ) (l : Statement) (old new : List (List ℕ)) (before after : List ℕ) (lines : List NumberedLine)
     (line : NumberedLine) → length lines ≡ i → i < length s → l ≡ get_or s i l → AddsLine l old new before after line →
@@ -281,17 +281,17 @@ lines_more s i l old new before after lines line size lt is adds reported p m wi
     here : slice_get s i ≡ Some l
     here = slice_get-get_or s i l lt ∙ ap Some (sym is)
 
-    by_place : (p ≡ i) ⊎ (p < i) → (found : NumberedLine) × (slice_get (lines ++ line ∷ []) p ≡ Some found) × IsLine new after m found
+    by_place : (p ≡ i) ⊎ (p < i) → (found : NumberedLine) × (slice_get (lines ++ line ∷ []) p ≡ Some found) × IsNumberedLine new after m found
     by_place (inl same) =
         let mine : slice_get s i ≡ Some m = ap (λ (n : ℕ). slice_get s n) (sym same) ∙ there in
         let first = here in
         let one : l ≡ m = cc in (
           line,
           ap (λ (n : ℕ). slice_get (lines ++ line ∷ []) n) (same ∙ sym size) ∙ get_last lines line,
-          subst (λ (k : Statement). IsLine new after k line) one adds.is,
+          subst (λ (k : Statement). IsNumberedLine new after k line) one adds.is,
         )
     by_place (inr less) =
-        let found : (found : NumberedLine) × (slice_get lines p ≡ Some found) × IsLine old before m found = reported p m less there in (
+        let found : (found : NumberedLine) × (slice_get lines p ≡ Some found) × IsNumberedLine old before m found = reported p m less there in (
           found.0,
           get_before lines (line ∷ []) p found.0 found.1,
           rw adds.noted (line_stays old new adds.grows before adds.numbers m found.0 found.2),
@@ -379,7 +379,7 @@ module _ (t : Numbering) where
       by_name false other k others = others k
 
   -- the numbers of a line, as they are kept
-  pub line_numbered : (l : Statement) (line : NumberedLine) (numbers : LineNumbers) → IsLine (names_of t) t.read.items l line →
+  pub line_numbered : (l : Statement) (line : NumberedLine) (numbers : LineNumbers) → IsNumberedLine (names_of t) t.read.items l line →
       numbers.target ≡ line.target → numbers.read.now ≡ take (line.end - line.start) (drop line.start t.read.items) →
       IsNumbered t l numbers
   line_numbered l line numbers is target read = record {
@@ -389,7 +389,7 @@ module _ (t : Numbering) where
 
   -- each line of a script has its numbers
   module _ (s : List Statement) (numbering : IsNumbering s t) where
-    pub covers : Covers s t
+    pub covers : CoversNames s t
     covers p lt x r = by_line (slice_get s p) refl r
       where
         by_line : (o : Option Statement) → slice_get s p ≡ o → reads_at o x ≡ true → has (names_of t) x ≡ true

@@ -7,7 +7,7 @@ use Rattle.std.proofs.lemmas.Option.{slice_get_within}
 use Rattle.cord_plan.specs.Operands.{has, is_name}
 use Rattle.cord_plan.specs.inner.Numbering.{names_of, number_of}
 use Rattle.cord_plan.specs.inner.Places.{IsNumber}
-use Rattle.cord_plan.specs.inner.Recent.{AreFor, Puts, entry_at, entry_of}
+use Rattle.cord_plan.specs.inner.Recent.{AreFor, PutsPlaces, entry_at, entry_of}
 use Rattle.cord_plan.specs.declared.flow.numbering.Numbering.{Numbering}
 use Rattle.cord_plan.proofs.Named.{same_bytes, own_bytes}
 use Rattle.cord_plan.proofs.Numbers.{number_there, place_at}
@@ -27,12 +27,12 @@ set_apart (x ∷ xs) (suc n) zero v differ = refl
 set_apart (x ∷ xs) (suc n) (suc m) v differ = set_apart xs n m v (λ e. differ (ap suc e))
 
 module _ (t : Numbering) (w : Option ℕ) (places : List (Option ℕ)) where
-  pub puts_nothing : Puts t (λ x. false) w places places
+  pub puts_nothing : PutsPlaces t (λ x. false) w places places
   puts_nothing x = refl
 
   -- an entry for the name of a number
   puts_there : (y : List ℕ) (n : ℕ) → slice_get (names_of t) n ≡ Some y → n < length places →
-      Puts t (λ x. bytes_eq x y) w places (set places n w)
+      PutsPlaces t (λ x. bytes_eq x y) w places (set places n w)
   puts_there y n there lt x = by_name (bytes_eq x y) refl
     where
       by_number : (o : Option ℕ) → number_of t x ≡ o → bytes_eq x y ≡ false → entry_at (set places n w) o ≡ entry_at places o
@@ -51,12 +51,12 @@ module _ (t : Numbering) (w : Option ℕ) (places : List (Option ℕ)) where
       by_name false e = by_number (number_of t x) refl e
 
   -- an entry for a name, where there is one
-  pub puts_none : (o : Option (List ℕ)) → IsNumber (names_of t) o None → Puts t (λ x. is_name o x) w places places
+  pub puts_none : (o : Option (List ℕ)) → IsNumber (names_of t) o None → PutsPlaces t (λ x. is_name o x) w places places
   puts_none None e = puts_nothing
   puts_none (Some y) e = let bad : ⊥ = cc in absurd bad
 
   pub puts_one : (o : Option (List ℕ)) (n : ℕ) → IsNumber (names_of t) o (Some n) → n < length places →
-      Puts t (λ x. is_name o x) w places (set places n w)
+      PutsPlaces t (λ x. is_name o x) w places (set places n w)
   puts_one None n e lt = let bad : ⊥ = cc in absurd bad
   puts_one (Some y) n e lt = let there : slice_get (names_of t) n ≡ Some y = cc in puts_there y n there lt
 
@@ -69,8 +69,8 @@ module _ (t : Numbering) (w : Option ℕ) (places : List (Option ℕ)) where
       omega (arith, lt, size)
 
 module _ (t : Numbering) (w : Option ℕ) where
-  puts_or : (f h : List ℕ → Bool) (old now new : List (Option ℕ)) → Puts t f w old now → Puts t h w now new →
-      Puts t (λ x. f x || h x) w old new
+  puts_or : (f h : List ℕ → Bool) (old now new : List (Option ℕ)) → PutsPlaces t f w old now → PutsPlaces t h w now new →
+      PutsPlaces t (λ x. f x || h x) w old new
   puts_or f h old now new one two x =
       two x ∙ (ap (λ (o : Option ℕ). if h x then w else o) (one x) ∙ both (f x) (h x) (entry_of t old x))
     where
@@ -80,8 +80,8 @@ module _ (t : Numbering) (w : Option ℕ) where
       both false u o = refl
 
   pub puts_more : (names : List (List ℕ)) (i : ℕ) (y : List ℕ) (old now new : List (Option ℕ)) → i < length names → y ≡ get_or names i y →
-      Puts t (λ x. has (take i names) x) w old now → Puts t (λ x. bytes_eq x y) w now new →
-      Puts t (λ x. has (take (i + 1) names) x) w old new
+      PutsPlaces t (λ x. has (take i names) x) w old now → PutsPlaces t (λ x. bytes_eq x y) w now new →
+      PutsPlaces t (λ x. has (take (i + 1) names) x) w old new
   puts_more names i y old now new lt is one two x =
       puts_or (λ x. has (take i names) x) (λ x. bytes_eq x y) old now new one two x
       ∙ ap (λ (v : Bool). if v then w else entry_of t old x) (sym (has_more names i y x lt is))

@@ -16,7 +16,7 @@ use Rattle.cord_plan.specs.Operands.{assigns, read_by, reads, target_of}
 use Rattle.cord_plan.specs.inner.StraightLine.{AreNextReads, AreBits, AreReportedFrom, IsLineLater, flow, later_in}
 use Rattle.cord_plan.specs.inner.NameSets.{bit}
 use Rattle.cord_plan.specs.inner.Numbering.{names_of, number_in}
-use Rattle.cord_plan.specs.inner.Recent.{Puts, entry_at, entry_of}
+use Rattle.cord_plan.specs.inner.Recent.{PutsPlaces, entry_at, entry_of}
 use Rattle.cord_plan.specs.declared.flow.straight_line.LineLater.{LineLater}
 use Rattle.cord_plan.specs.declared.flow.numbering.Numbering.{Numbering}
 use Rattle.cord_plan.proofs.Choices.{simple_reads}
@@ -37,7 +37,7 @@ after_line false true p e = sym (and-false (is_some e))
 after_line false false p e = sym (and-true (is_some e))
 
 pub line_more : (t : Numbering) (l : Statement) (ls : List Statement) (p : ℕ) (old now new : List (Option ℕ)) → length new ≡ length old →
-    Puts t (λ x. assigns l x) None old now → Puts t (λ x. reads l x) (Some p) now new → AreNextReads ls t old → AreNextReads (l ∷ ls) t new
+    PutsPlaces t (λ x. assigns l x) None old now → PutsPlaces t (λ x. reads l x) (Some p) now new → AreNextReads ls t old → AreNextReads (l ∷ ls) t new
 line_more t l ls p old now new same clears notes next_reads = record {
   places_for = same ∙ next_reads.places_for;
   reported = λ x. ap is_some (notes x ∙ ap (λ (o : Option ℕ). if reads l x then Some p else o) (clears x))

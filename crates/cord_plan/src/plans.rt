@@ -45,10 +45,10 @@ impl Model for Plan {
     ghost view = { λ p. p.operations.items };
 
     ghost use Rattle.std.specs.Prelude.{map};
-    ghost use Rattle.cord_plan.specs.inner.Extensions.{IsPlan};
+    ghost use Rattle.cord_plan.specs.inner.Extensions.{HasPlanFacts};
     ghost use Rattle.cord_plan.specs.Views.{operation_view};
 
-    ghost invariant = { λ p. IsPlan p.extending.items (map operation_view p.operations.items) p.names.items };
+    ghost invariant = { λ p. HasPlanFacts p.extending.items (map operation_view p.operations.items) p.names.items };
 }
 
 // The operations of the trivial plan.

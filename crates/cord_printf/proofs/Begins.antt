@@ -6,7 +6,7 @@ use Rattle.cord_printf.specs.declared.pieces.Flags.{Flags}
 use Rattle.cord_printf.specs.declared.pieces.Piece.{Piece}
 use Rattle.cord_printf.specs.Pieces.{IsMark, StartsNo, IsPoint, Conversion, Spells, number_of, flags_of}
 use Rattle.cord_printf.specs.Format.{Converts, BeginsConversion}
-use Rattle.cord_printf.specs.inner.Reading.{AreParts, IsLettered, IsNoLetter, IsAllowed}
+use Rattle.cord_printf.specs.inner.Reading.{AreParts, IsLettered, IsNoLetter, IsAllowedSpelling}
 use Rattle.cord_printf.proofs.Spans.{SameParts}
 use Rattle.cord_printf.proofs.Spelled.{same_parts, spelling-append}
 use Rattle.cord_printf.proofs.Lettered.{HasParts, spells_of, lettered_of, lettered-unique, point_of, small_width, allowed_of, some_letter}
@@ -63,12 +63,12 @@ pub same_lettered : (letter width : ℕ) (flags : Flags) (l w : ℕ) (f : Flags)
     width ≡ w → IsLettered l f w precision q → IsLettered letter flags width precision q
 same_lettered letter width flags l w f precision q a b d h = rw (a, b, d) h
 
-same_allowed : (q k : Piece) (m d p l n e s t : List ℕ) → k ≡ q → m ≡ n → d ≡ e → p ≡ s → l ≡ t → IsAllowed k n e s t → IsAllowed q m d p l
+same_allowed : (q k : Piece) (m d p l n e s t : List ℕ) → k ≡ q → m ≡ n → d ≡ e → p ≡ s → l ≡ t → IsAllowedSpelling k n e s t → IsAllowedSpelling q m d p l
 same_allowed q k m d p l n e s t a b x y z h = rw (← a, b, x, y, z) h
 
 pub not_allowed : (b m d p l r rest : List ℕ) (letter width : ℕ) (flags : Flags) (precision : Option ℕ) (q : Piece) →
     AreParts b m d p l r → r ≡ letter ∷ rest → flags ≡ flags_of m → width ≡ number_of d → IsPoint p precision →
-    IsLettered letter flags width precision q → ¬ IsAllowed q m d p l → ¬ BeginsConversion (37 ∷ b)
+    IsLettered letter flags width precision q → ¬ IsAllowedSpelling q m d p l → ¬ BeginsConversion (37 ∷ b)
 not_allowed b m d p l r rest letter width flags precision q parts e f w point lettered refused h =
     let k = begun b m d p l r parts h in
     let c : Conversion = k.conversion in
@@ -88,7 +88,7 @@ no_zero (b ∷ digits) rest after e h = λ z. subst (StartsNo IsMark) e h (inr (
 
 pub converts : (b m d p l r rest : List ℕ) (letter width : ℕ) (flags : Flags) (precision : Option ℕ) (q : Piece) → AreParts b m d p l r →
     r ≡ letter ∷ rest → flags ≡ flags_of m → (width ≡ number_of d) × (width ≤ MAX_WIDTH) → IsPoint p precision →
-    IsLettered letter flags width precision q → IsAllowed q m d p l → Converts (37 ∷ b) q rest
+    IsLettered letter flags width precision q → IsAllowedSpelling q m d p l → Converts (37 ∷ b) q rest
 converts b m d p l r rest letter width flags precision q parts e f w point lettered allowed =
     let c : Conversion = record { marks = m; digits = d; point = p; modifier = l; letter = letter } in
     let has : HasParts c precision = record {

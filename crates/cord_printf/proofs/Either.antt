@@ -10,7 +10,7 @@ use Rattle.cord_printf.specs.declared.pieces.Radix.TheVariants.{Decimal, Octal, 
 use Rattle.cord_printf.specs.declared.pieces.Piece.{Piece}
 use Rattle.cord_printf.specs.declared.pieces.Piece.TheVariants.{Text, Signed, Unsigned, Byte, Cord, Percent}
 use Rattle.cord_printf.specs.Pieces.{IsMark, IsDigit, StartsNo, IsPoint, IsPiece, spelling, number_of, flags_of}
-use Rattle.cord_printf.specs.inner.Reading.{AreParts, IsDotted, IsPointed, IsLettered, IsNoLetter, IsAllowed}
+use Rattle.cord_printf.specs.inner.Reading.{AreParts, IsDotted, IsPointed, IsLettered, IsNoLetter, IsAllowedSpelling}
 use Rattle.cord_printf.specs.Format.{IsFormat, BeginsConversion, IsBadAt}
 use Rattle.cord_printf.specs.FormatLaws.{FormatOrBad}
 use Rattle.cord_printf.proofs.Spelled.{not_mark_of}
@@ -200,7 +200,7 @@ four_hold (inl a) (inr n) c d = inr (λ h. n h.1)
 four_hold (inl a) (inl b) (inr n) d = inr (λ h. n h.2)
 four_hold (inl a) (inl b) (inl c) (inr n) = inr (λ h. n h.3)
 
-allowed_or_not : (q : Piece) (m d p l : List ℕ) → Decided (IsAllowed q m d p l)
+allowed_or_not : (q : Piece) (m d p l : List ℕ) → Decided (IsAllowedSpelling q m d p l)
 allowed_or_not (Text t) m d p l = inr (λ h. h)
 allowed_or_not (Signed flags width precision) m d p l = is_short l
 allowed_or_not (Unsigned radix flags width precision) m d p l = both_hold (is_off flags.plus) (is_short l)

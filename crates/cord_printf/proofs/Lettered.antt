@@ -9,7 +9,7 @@ use Rattle.cord_printf.specs.declared.pieces.Radix.TheVariants.{Decimal, Octal, 
 use Rattle.cord_printf.specs.declared.pieces.Piece.{Piece}
 use Rattle.cord_printf.specs.declared.pieces.Piece.TheVariants.{Text, Signed, Unsigned, Byte, Cord, Percent}
 use Rattle.cord_printf.specs.Pieces.{IsMark, IsDigit, StartsNo, IsPoint, IsModifier, Conversion, Spells, number_of, flags_of, HasWidth}
-use Rattle.cord_printf.specs.inner.Reading.{IsLettered, IsNoLetter, IsAllowed}
+use Rattle.cord_printf.specs.inner.Reading.{IsLettered, IsNoLetter, IsAllowedSpelling}
 use Rattle.cord_printf.proofs.Spelled.{IsLong}
 
 modifier_of : (m : List ℕ) → All IsLong m → length m ≤ 2 → IsModifier m
@@ -48,7 +48,7 @@ has_width c precision flags width h f w = record {
 
 -- a letter with parts that it may have spells its piece
 pub spells_of : (c : Conversion) (precision : Option ℕ) (p : Piece) → HasParts c precision →
-    IsLettered c.letter (flags_of c.marks) (number_of c.digits) precision p → IsAllowed p c.marks c.digits c.point c.modifier → Spells c p
+    IsLettered c.letter (flags_of c.marks) (number_of c.digits) precision p → IsAllowedSpelling p c.marks c.digits c.point c.modifier → Spells c p
 spells_of c precision (Text t) h l a = a
 spells_of c precision (Signed f w p) h l a = (
   has_width c precision f w h l.0 l.1,
@@ -109,7 +109,7 @@ small_width c (Byte f w) s = omega (arith, s.0.small, s.0.width_is)
 small_width c (Cord f w p) s = omega (arith, s.0.small, s.0.width_is)
 small_width c Percent s = omega (arith, ap number_of s.1)
 
-pub allowed_of : (c : Conversion) (p : Piece) → Spells c p → IsAllowed p c.marks c.digits c.point c.modifier
+pub allowed_of : (c : Conversion) (p : Piece) → Spells c p → IsAllowedSpelling p c.marks c.digits c.point c.modifier
 allowed_of c (Text t) s = s
 allowed_of c (Signed f w p) s = short_modifier c.modifier s.2
 allowed_of c (Unsigned r f w p) s = (s.4, short_modifier c.modifier s.2)

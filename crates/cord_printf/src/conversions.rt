@@ -3,7 +3,7 @@ ghost use Rattle.std.specs.Prelude.{◌≡◌, ◌↔◌, ℕ, Option, ◌∷◌
 ghost use Rattle.cord_printf.specs.declared.pieces.Piece.{Piece};
 ghost use Rattle.cord_printf.specs.Pieces.{IsPoint};
 ghost use Rattle.cord_printf.specs.Format.{Converts, BeginsConversion};
-ghost use Rattle.cord_printf.specs.inner.Reading.{IsLettered, IsNoLetter, IsAllowed, IsPointed};
+ghost use Rattle.cord_printf.specs.inner.Reading.{IsLettered, IsNoLetter, IsAllowedSpelling, IsPointed};
 
 use crate::reading::{Parts, flags_in, number, split_parts, uncons};
 use crate::{Flags, Piece, Radix};
@@ -46,7 +46,7 @@ fn piece_of(letter: u8, flags: Flags, width: u16, precision: Option<u16>) -> Opt
 
 // The piece may be written with these parts.
 fn is_allowed(piece: &Piece, parts: &Parts<'_>) -> bool
-    ensures { IsTrue result ↔ IsAllowed piece.now parts.now.marks.now parts.now.digits.now parts.now.point.now
+    ensures { IsTrue result ↔ IsAllowedSpelling piece.now parts.now.marks.now parts.now.digits.now parts.now.point.now
         parts.now.modifier.now }
 {
     match piece {

@@ -14,11 +14,11 @@ use Rattle.cord_ec.specs.Grown.{bytes_of_cells, IsCordOf, IsGrownBy}
 use Rattle.cord_file.specs.FileTable.{lengths_in, table_in}
 use Rattle.cord_operands.specs.declared.operands.Function.{Function}
 use Rattle.cord_operands.specs.declared.operands.Function.TheVariants.{Digits, Bytes}
-use Rattle.cord_run.specs.inner.Contents.{IsStartOf, IsTextOf, function_source}
+use Rattle.cord_run.specs.inner.Contents.{IsStartOf, IsCordOfText, function_source}
 
 -- an extensible cord of no bytes that has grown by a text
 pub gathered_text : (text : List ℕ) (before after : List Cell) (cord : Option Node) → before ≡ [] → length before + length text ≤ MAX_LEN →
-    IsGrownBy before after text → IsCordOf after cord → IsCord cord → IsTextOf text cord
+    IsGrownBy before after text → IsCordOf after cord → IsCord cord → IsCordOfText text cord
 gathered_text text before after cord none short grown of sound = record {
   sound = sound;
   short = let more : length text ≤ length before + length text = omega arith in omega (arith, more, short);

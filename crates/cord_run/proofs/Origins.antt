@@ -4,7 +4,7 @@ use Rattle.std.specs.Prelude.{Option}
 use Rattle.cord_node.specs.declared.Node.{Node}
 use Rattle.cord_plan.specs.Exprs.{Exprs}
 use Rattle.cord_run.specs.declared.store.Entry.{Entry}
-use Rattle.cord_run.specs.inner.Origins.{Origin, origins_of, InTurn, IsPieceOf, AddsAtMostOne, AddsInTurn}
+use Rattle.cord_run.specs.inner.Origins.{Origin, origins_of, InTurn, IsPieceFrom, AddsAtMostOne, AddsInTurn}
 
 -- no pieces
 pub none_in_turn : (entries : List Entry) (os : List Origin) → InTurn entries os []
@@ -29,7 +29,7 @@ turns_joined entries (o ∷ os) others (p ∷ ps) more h k =
     (λ rest. inr (turns_joined entries os others (p ∷ ps) more rest k)) h
 
 -- one piece of an origin at most
-pub one_in_turn : (entries : List Entry) (o : Origin) (old new : List (Option Node)) → AddsAtMostOne (IsPieceOf entries o) old new →
+pub one_in_turn : (entries : List Entry) (o : Origin) (old new : List (Option Node)) → AddsAtMostOne (IsPieceFrom entries o) old new →
     AddsInTurn entries (o ∷ []) old new
 one_in_turn entries o old new = ⊎_elim (λ same. record { added = []; is = same ∙ sym (append-nil old); each = tt })
     (λ one. record { added = one.piece ∷ []; is = one.is; each = inl (one.holds, tt) })

@@ -30,7 +30,7 @@ use Rattle.cord_run.specs.inner.Contents.{stop_of_cord}
 use Rattle.cord_run.specs.inner.Entries.{content_in, cord_in, operand_in, IsOver}
 use Rattle.cord_run.specs.inner.Holdings.{holding_of, plain_of}
 use Rattle.cord_run.specs.inner.Expressions.{IsBuilt, IsUnbuilt}
-use Rattle.cord_run.specs.inner.Origins.{Origin, named, copied, origins, InTurn, IsCutOf, IsPieceOf}
+use Rattle.cord_run.specs.inner.Origins.{Origin, named, copied, origins, InTurn, IsCutOf, IsPieceFrom}
 use Rattle.cord_run.proofs.Files.{long_text, short_text}
 use Rattle.cord_run.proofs.Prefixes.{joined}
 use Rattle.cord_run.proofs.Lengths.{Both, cord_fits, content_text, length_passed, operand_value, texts_split}
@@ -40,7 +40,7 @@ use Rattle.cord_run.proofs.Origins.{turns_joined}
 -- ---- one part
 module _ (entries : List Entry) where
   -- one cord of one origin
-  one_built : (e : Expr) (o : Origin) (cord : Option Node) → origins e ≡ o ∷ [] → IsPieceOf entries o cord → IsCord cord →
+  one_built : (e : Expr) (o : Origin) (cord : Option Node) → origins e ≡ o ∷ [] → IsPieceFrom entries o cord → IsCord cord →
       ((lengths : Lengths) → IsOver lengths entries → CordFitsIn lengths cord) →
       ((t : Table) → IsOver (lengths_of t) entries → text_in MAX_LEN (plain_of t entries) e ≡ Ok (bytes_of t cord)) → IsBuilt entries e cord
   one_built e o cord from piece sound fits text = record {

@@ -24,7 +24,7 @@ use Rattle.cord_run.specs.inner.Extents.{extent_in, members_extent}
 use Rattle.cord_run.specs.inner.Entries.{content_in, cord_in, operand_in}
 use Rattle.cord_run.specs.inner.Holdings.{holding_of, plain_of}
 use Rattle.cord_run.specs.inner.Origins.{AddsAtMostOne, AreCopies, IsCutOf, named, copied}
-use Rattle.cord_run.specs.inner.Ranges.{AddsCordRange, AddsCopies, AddsRun, AddsExpression, AddsMembers, AreFew, IsAfter, IsInside}
+use Rattle.cord_run.specs.inner.Ranges.{AddsCordRange, AddsCopies, AddsRun, AddsExpression, AddsMembers, AddsFew, IsAfter, IsInnerWanted}
 use Rattle.cord_run.specs.inner.Ranges.{IsOutside}
 use Rattle.cord_run.specs.inner.Ranges.{IsPast}
 use Rattle.cord_run.proofs.MemberRanges.{nothing_taken}
@@ -66,7 +66,7 @@ module _ (cord : Option Node) (wanted : Wanted) where
 
 -- one piece more, of the bytes that are taken
 pub few_more : (wanted after : Wanted) (len : ℕ) (old new : List (Option Node)) (piece : Option Node) → IsPast len wanted after →
-    text_len piece ≡ min wanted.count (len - wanted.skip) → new ≡ old ++ piece ∷ [] → AreFew wanted after old new
+    text_len piece ≡ min wanted.count (len - wanted.skip) → new ≡ old ++ piece ∷ [] → AddsFew wanted after old new
 few_more wanted after len old new piece past long pushed =
     let more : all_len new ≡ all_len old + text_len piece = ap all_len pushed ∙ all_len_more old piece in
     let left : after.count ≡ wanted.count - (len - wanted.skip) = past.count in
@@ -253,7 +253,7 @@ ok_value P r a h e = subst (λ q. IfOk q P) e h
 
 module _ (entries : List Entry) (e : Expr) (i n : Number) (start most : ℕ) (wanted inner : Wanted)
     (start_is : IfOk (as_index (operand_in entries i)) (λ k. start ≡ k)) (most_is : IfOk (as_index (operand_in entries n)) (λ k. most ≡ k))
-    (inside : IsInside start most wanted inner) where
+    (inside : IsInnerWanted start most wanted inner) where
   pub sub_added : (old new : List (Option Node)) → AddsExpression entries e inner old new →
       AddsExpression entries (sub e i n) wanted old new
   sub_added old new part = record {

@@ -8,11 +8,11 @@ ghost use Rattle.std.specs.Prelude.{◌≡◌, ◌+◌, ◌<◌, ◌≤◌, ℕ,
 ghost use Rattle.std.specs.Prelude.{Err, None, Some, IfErr, IsErr};
 ghost use Rattle.cord_core.specs.Cord.{text_len};
 ghost use Rattle.cord_core.specs.Refusals.{IsRefusal};
-ghost use Rattle.cord_run.specs.inner.Edits.{HasSplice, IsWhole, IsWholeAt, spliced_len};
+ghost use Rattle.cord_run.specs.inner.Edits.{HasSplice, IsWholeContent, IsWholeAt, spliced_len};
 ghost use Rattle.cord_run.specs.inner.Extensibles.{cells_of, Grew};
 ghost use Rattle.cord_run.specs.inner.Entries.{are_distinct, cells_in, content_in, content_length, cord_in};
 ghost use Rattle.cord_run.specs.inner.Entries.{extensible_in, length_in, names_in, number_in, operand_in, HasContent, HasExtensible};
-ghost use Rattle.cord_run.specs.inner.Entries.{HasNoEntry, HasNumber, IsEntryAt, IsFirst};
+ghost use Rattle.cord_run.specs.inner.Entries.{HasNoEntry, HasNumber, IsEntryAt, IsFirstEntry};
 
 use crate::store::appends::append_at;
 use crate::store::contents::{set_content, set_extensible, set_length, set_number, splice_content};
@@ -36,7 +36,7 @@ impl Content {
     pub(crate) fn cord(&self) -> Option<&Cord>
         ensures some { IfSome result (λ cord. cord.now ≡ cord_in self.now) }
         ensures len { IfSome result (λ cord. text_len cord.now ≡ content_length self.now) }
-        ensures whole { IfSome result (λ _. IsWhole self.now) }
+        ensures whole { IfSome result (λ _. IsWholeContent self.now) }
         ensures none { IfNone result (cord_in self.now ≡ None) }
     {
         match self {
@@ -96,7 +96,7 @@ impl Store {
     // The entry of a name.
     #[inline(always)]
     fn entry(&self, name: &Name) -> Option<&Entry>
-        ensures some { IfSome result (λ entry. IsFirst self.now.entries.items name.now entry.now) }
+        ensures some { IfSome result (λ entry. IsFirstEntry self.now.entries.items name.now entry.now) }
         ensures none { IfNone result (HasNoEntry self.now.entries.items name.now) }
     {
         entry_by(&self.entries, name)

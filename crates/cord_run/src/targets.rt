@@ -21,8 +21,8 @@ ghost use Rattle.cord_run.specs.inner.Failing.{FailsBy, FailsIn};
 ghost use Rattle.cord_run.specs.inner.Entries.{HasContent, IsOver, SameEntries};
 ghost use Rattle.cord_run.specs.inner.Extents.{extent_in};
 ghost use Rattle.cord_run.specs.inner.Holdings.{holding_of};
-ghost use Rattle.cord_run.specs.inner.Known.{IsExtent, IsKnown, StaysKnown};
-ghost use Rattle.cord_run.specs.inner.Outcomes.{CountsReads, Gives};
+ghost use Rattle.cord_run.specs.inner.Known.{IsExtent, IsKnownLength, StaysKnown};
+ghost use Rattle.cord_run.specs.inner.Outcomes.{CountsReadStop, Gives};
 ghost use Rattle.cord_run.specs.inner.Frames.{NoMoreConsistent};
 
 use crate::checks::as_length;
@@ -60,7 +60,7 @@ pub(crate) fn give_cord<F: Files>(
         (holding_of (table_in (opened_in sources.old) file_system) store.old.entries.items))
         (holding_of (table_in (opened_in sources.new) file_system) store.new.entries.items) result }
     ensures fails { IfErr result (FailsIn (plan.Build 0 target.now (made_view made.now))) }
-    ensures counts { CountsReads (F.failures (device_in sources.old)) (F.failures (device_in sources.new)) result }
+    ensures counts { CountsReadStop (F.failures (device_in sources.old)) (F.failures (device_in sources.new)) result }
 {
     match edit_of(target, made, store) {
         Some(edit) => edit_in_place(alloc, store, target, made, edit),
@@ -82,7 +82,7 @@ pub(crate) fn give_length<F: Files>(
     known: Option<u64>,
 ) -> Result<(), Stop>
     requires over { IsOver (lengths_in (opened_in sources.old)) store.old.entries.items }
-    requires known { IfSome known (IsKnown store.old.entries.items (made_view made.now)) }
+    requires known { IfSome known (IsKnownLength store.old.entries.items (made_view made.now)) }
     ensures stays { IfOk result (λ _. StaysKnown store.new.entries.items
         (plan.Measure 0 target.now (made_view made.now))) }
     ensures over { IfOk result (λ _. IsOver (lengths_in (opened_in sources.new)) store.new.entries.items) }
@@ -92,7 +92,7 @@ pub(crate) fn give_length<F: Files>(
         (holding_of (table_in (opened_in sources.old) file_system) store.old.entries.items))
         (holding_of (table_in (opened_in sources.new) file_system) store.new.entries.items) result }
     ensures fails { IfErr result (FailsIn (plan.Measure 0 target.now (made_view made.now))) }
-    ensures counts { CountsReads (F.failures (device_in sources.old)) (F.failures (device_in sources.new)) result }
+    ensures counts { CountsReadStop (F.failures (device_in sources.old)) (F.failures (device_in sources.new)) result }
 {
     let len = measure(alloc, store, sources, made, known)?;
     give_long(store, target, len)
@@ -152,16 +152,10 @@ fn make_of_names(alloc: Global, store: &mut Store, made: &Made) -> Result<Cord, 
 {
     match made {
         Made::Joined(expression) => build(alloc, expression, store),
-        Made::Literal(text) => {
-            Ok(literal(alloc, text.as_slice())?)
-        }
+        Made::Literal(text) => Ok(literal(alloc, text.as_slice())?),
         Made::OfFunction(function, count) => start(alloc, *function, store.value_of(count)),
-        Made::Balanced(name) => {
-            Ok(balanced(alloc, store, name)?)
-        }
-        Made::OfExtensible(name) => {
-            Ok(store.extended(alloc, name)?)
-        }
+        Made::Balanced(name) => Ok(balanced(alloc, store, name)?),
+        Made::OfExtensible(name) => Ok(store.extended(alloc, name)?),
         Made::Printed(_, format, arguments) => {
             print(alloc, store, format.as_ref(), arguments.as_ref().as_slice())
         }
@@ -180,7 +174,7 @@ fn measure<F: Files>(
     known: Option<u64>,
 ) -> Result<u64, Stop>
     requires over { IsOver (lengths_in (opened_in sources.old)) store.now.entries.items }
-    requires known { IfSome known (IsKnown store.now.entries.items (made_view made.now)) }
+    requires known { IfSome known (IsKnownLength store.now.entries.items (made_view made.now)) }
     ensures extent { IfOk result (IsExtent store.now.entries.items (made_view made.now)) }
     ensures reported { IfOk result (IsLength (F.consistent (device_in sources.new))
         (opened_in sources.old) store.now.entries.items (made_view made.now)) }
@@ -212,7 +206,7 @@ fn measure_of_names(
     known: Option<u64>,
 ) -> Result<u64, Stop>
     requires fileless { IsFileMade (made_view made.now) → ⊥ }
-    requires known { IfSome known (IsKnown store.now.entries.items (made_view made.now)) }
+    requires known { IfSome known (IsKnownLength store.now.entries.items (made_view made.now)) }
     ensures extent { IfOk result (IsExtent store.now.entries.items (made_view made.now)) }
     ensures reported { IfOk result (IsLengthOfNames store.now.entries.items (made_view made.now)) }
     ensures refused { IfErr result (IsUnmeasuredOfNames store.now.entries.items (made_view made.now)) }
@@ -234,7 +228,7 @@ fn measure_of_names(
 // The length of an expression, or its fault. It is measured where it isn't known.
 #[inline(always)]
 fn joined_length(expression: &Expr, known: Option<u64>, store: &Store) -> Result<u64, FaultKind>
-    requires { IfSome known (IsKnown store.now.entries.items (plan.Joined (expr_view expression.now))) }
+    requires { IfSome known (IsKnownLength store.now.entries.items (plan.Joined (expr_view expression.now))) }
     ensures { result ≡ extent_in store.now.entries.items (expr_view expression.now) }
 {
     match known {

@@ -10,7 +10,7 @@ use Rattle.cord_script.specs.FirstErrors.{block_error}
 use Rattle.cord_script.specs.Forms.{Form, form_of, effect_of, terms_of}
 use Rattle.cord_script.specs.Script.{Scope, FitsBlocks, after, paths_after, blocks_after}
 use Rattle.cord_script.specs.inner.LineReading.{LineView, SaysLine, left_after}
-use Rattle.cord_script.specs.inner.Steps.{Adds}
+use Rattle.cord_script.specs.inner.Steps.{AddsStatement}
 use Rattle.cord_script.specs.inner.Verbal.{verb_word, verb_effect}
 use Rattle.cord_script.proofs.Allowed.{block_right}
 use Rattle.cord_script.proofs.Unique.{Begins}
@@ -62,7 +62,7 @@ leaves v n old new s h =
 -- a line that begins with the verb's word, before words that say a statement of the verb
 pub adds : (v : Verb) (n : ℕ) (line : List ℕ) (old new : LineView) (left : Scope) (s : Statement) (ss grown : List Statement) →
     HasWord line (Plain (verb_word v)) old.rest → block_error (verb_effect v) old.scope.blocks ≡ None → SaysLine v n old new s →
-    left ≡ left_after (verb_effect v) n new.name new.path old.scope → grown ≡ ss ++ s ∷ [] → Adds n line old.scope left ss grown
+    left ≡ left_after (verb_effect v) n new.name new.path old.scope → grown ≡ ss ++ s ∷ [] → AddsStatement n line old.scope left ss grown
 adds v n line old new left s ss grown first fits h is added =
     let right = right_form h.words s h.says h.suits in
     record {

@@ -18,7 +18,7 @@ use Rattle.cord_script.specs.Formats.{wants_of_pieces}
 use Rattle.cord_script.specs.Forms.{Term, terms_of, argument_term, argument_want}
 use Rattle.cord_script.specs.Forms.Term.{Target, Operand, Value, Literal, FilePath, Applies, Compares, Formats}
 use Rattle.cord_script.specs.Script.{IsTerm, AreTerms, IsAllowed, AreAllowed, names_after, paths_after}
-use Rattle.cord_script.specs.inner.LineReading.{LineView, IsFresh, PassesWord, Gives, GivesAll, IsBuilt, SaysLine, paired}
+use Rattle.cord_script.specs.inner.LineReading.{LineView, IsFresh, PassesWord, GivesTerm, GivesAll, IsStatementBuilt, SaysLine, paired}
 use Rattle.cord_script.specs.inner.LineReading.{names_with, paths_with}
 use Rattle.cord_script.specs.inner.Verbal.{fixed_word}
 
@@ -27,22 +27,22 @@ unfolding GivesAll
 no_field a = refl
 
 -- one more field, in front of others
-pub first_field : {a b : LineView} {t : Term} (c : LineView) (ts : List Term) → Gives a t b → GivesAll b ts c → GivesAll a (t ∷ ts) c
+pub first_field : {a b : LineView} {t : Term} (c : LineView) (ts : List Term) → GivesTerm a t b → GivesAll b ts c → GivesAll a (t ∷ ts) c
 unfolding GivesAll
 first_field {b = b} c ts h more = (b, h, more)
 
-pub one_field : {a b : LineView} {t : Term} → Gives a t b → GivesAll a (t ∷ []) b
+pub one_field : {a b : LineView} {t : Term} → GivesTerm a t b → GivesAll a (t ∷ []) b
 one_field {b = b} h = first_field b [] h (no_field b)
 
 -- one more field, after others
-pub last_field : (ts : List Term) (t : Term) (a b c : LineView) → GivesAll a ts b → Gives b t c → GivesAll a (ts ++ t ∷ []) c
+pub last_field : (ts : List Term) (t : Term) (a b c : LineView) → GivesAll a ts b → GivesTerm b t c → GivesAll a (ts ++ t ∷ []) c
 unfolding GivesAll
-last_field [] t a b c h k = (c, subst (λ s. Gives s t c) (sym h) k, refl)
+last_field [] t a b c h k = (c, subst (λ s. GivesTerm s t c) (sym h) k, refl)
 last_field (u ∷ us) t a b c h k = (h.0, h.1, last_field us t h.0 b c h.2 k)
 
 -- a field that was asked for after others, unless it was refused
 pub next_field : {X Y E : Type 0} (ts : X → List Term) (u : Y → Term) (a b c : LineView) (before : X) (next : Result Y E)
-    (all : Result (X × Y) E) → GivesAll a (ts before) b → all ≡ paired before next → IfOk next (λ y. Gives b (u y) c) →
+    (all : Result (X × Y) E) → GivesAll a (ts before) b → all ≡ paired before next → IfOk next (λ y. GivesTerm b (u y) c) →
     IfOk all (λ p. GivesAll a (ts p.0 ++ u p.1 ∷ []) c)
 next_field ts u a b c before (Ok y) all h e k =
     subst (λ r. IfOk r (λ p. GivesAll a (ts p.0 ++ u p.1 ∷ []) c)) (sym e) (last_field (ts before) (u y) a b c h k)
@@ -50,7 +50,7 @@ next_field ts u a b c before (Err x) all h e k = subst (λ r. IfOk r (λ p. Give
 
 -- one more field of a list
 pub field_pushed : {X : Type 0} (f : X → Term) (xs grown : List X) (x : X) (a b c : LineView) → grown ≡ xs ++ x ∷ [] →
-    GivesAll a (map f xs) b → Gives b (f x) c → GivesAll a (map f grown) c
+    GivesAll a (map f xs) b → GivesTerm b (f x) c → GivesAll a (map f grown) c
 field_pushed f xs grown x a b c e h k =
     subst (λ ts. GivesAll a ts c) (sym (ap (map f) e ∙ map-append f xs (x ∷ []))) (last_field (map f xs) (f x) a b c h k)
 
@@ -59,10 +59,10 @@ pub sprintf_built : (line : ℕ) (old new : LineView) (target text : List ℕ) (
     (target_put text_put : List ℕ) (format_put : List Piece) (args_put : List Argument) → target_put ≡ target → text_put ≡ text →
     format_put ≡ format → args_put ≡ args → GivesAll old (Target kinds.Cord target ∷ Formats text ∷ map argument_term args) new →
     IsFormat text format → map argument_want args ≡ wants_of_pieces format →
-    IsBuilt verbs.Sprintf line old new (Sprintf line target_put text_put format_put args_put)
+    IsStatementBuilt verbs.Sprintf line old new (Sprintf line target_put text_put format_put args_put)
 sprintf_built line old new target text format args target_put text_put format_put args_put a b c d fields is wants =
     let same : Sprintf line target text format args ≡ Sprintf line target_put text_put format_put args_put = cc in
-    subst (IsBuilt verbs.Sprintf line old new) same (record { word = refl; effect = refl; numbered = refl; fields = fields; suits = (is, wants) })
+    subst (IsStatementBuilt verbs.Sprintf line old new) same (record { word = refl; effect = refl; numbered = refl; fields = fields; suits = (is, wants) })
 
 -- the word of a verb that is reported
 pub spelled : {V : Type 0} (of : V → FixedVerb) {a b : V} → a ≡ b → fixed_word (of b) ≡ fixed_word (of a)
@@ -78,7 +78,7 @@ same_paths old new e = ap (paths_with old.scope.paths) e
 -- a term that adds nothing
 pub word_given : (word : Word) (t : Term) (old mid : LineView) → PassesWord old word mid → IsTerm word t → IsAllowed old.scope t →
     ((names : List Known) → names_after (t ∷ []) names ≡ names) → ((paths : List (List ℕ)) → paths_after (t ∷ []) paths ≡ paths) →
-    Gives old t mid
+    GivesTerm old t mid
 word_given word t old mid p says allowed names paths = record {
   word = word;
   has = p.has;
@@ -146,7 +146,7 @@ words_given old new (t ∷ ts) h =
     }
 
 -- the statement of words of which none is left
-pub says_line : (v : Verb) (n : ℕ) (old new : LineView) (s : Statement) → IsFresh old → IsBuilt v n old new s → All IsBlank new.rest →
+pub says_line : (v : Verb) (n : ℕ) (old new : LineView) (s : Statement) → IsFresh old → IsStatementBuilt v n old new s → All IsBlank new.rest →
     SaysLine v n old new s
 says_line v n old new s fresh h blank =
     let said = words_given old new (terms_of s) h.fields in

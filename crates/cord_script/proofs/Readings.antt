@@ -15,7 +15,7 @@ use Rattle.cord_script.specs.Script.{Scope, Block, ReadsBy, ReadsUpTo, Says, Lin
 use Rattle.cord_script.specs.Script.Block.{InRepeat, InIf, InElse}
 use Rattle.cord_script.specs.FirstErrors.{FirstErrorBy, HasBadLine}
 use Rattle.cord_script.specs.inner.ContextViews.{IsInnermostOpen}
-use Rattle.cord_script.specs.inner.Steps.{TakesLine, HasWrong, HasRead}
+use Rattle.cord_script.specs.inner.Steps.{TakesLine, HasWrong, HasReadLines}
 
 all_more_at : {X : Type 0} (P : X → Type 0) (x : X) (xs : List X) → P x → All P xs → (k : ℕ) (d : X) → k < length (x ∷ xs) →
     P (get_or (x ∷ xs) k d)
@@ -89,9 +89,9 @@ says_more g n m scope (x ∷ prefix) line ss s words (inr h) e shows hw says =
     )
 
 -- a line that was read is one of the lines in front
-pub reads_line : (b rest suffix line : List ℕ) (n : ℕ) (old new : Scope) (ss grown : List Statement) → HasRead b rest n old ss →
+pub reads_line : (b rest suffix line : List ℕ) (n : ℕ) (old new : Scope) (ss grown : List Statement) → HasReadLines b rest n old ss →
     ((lines : List (List ℕ)) → IsSplit suffix lines → IsSplit rest (line ∷ lines)) → TakesLine n line old new ss grown →
-    HasRead b suffix (n + 1) new grown
+    HasReadLines b suffix (n + 1) new grown
 reads_line b rest suffix line n old new ss grown r first (None, t, e) =
     let same : grown ≡ ss = e ∙ append-nil ss in
     record {
@@ -114,7 +114,7 @@ reads_line b rest suffix line n old new ss grown r first (Some s, t, e) =
 
 -- the line that is being read
 pub reached : (b rest suffix line : List ℕ) (n : ℕ) (scope : Scope) (ss : List Statement) → length b ≤ MAX_SCRIPT → n ≤ MAX_LINES →
-    HasRead b rest n scope ss → ((lines : List (List ℕ)) → IsSplit suffix lines → IsSplit rest (line ∷ lines)) → ReadsUpTo b n
+    HasReadLines b rest n scope ss → ((lines : List (List ℕ)) → IsSplit suffix lines → IsSplit rest (line ∷ lines)) → ReadsUpTo b n
 reached b rest suffix line n scope ss small few r first =
     let later = some_lines suffix in
     record {
@@ -138,7 +138,7 @@ left_found (InElse line ∷ blocks) n kind h = λ e. cc
 
 -- a line that is too much, or wrong
 pub stops : (b rest suffix line : List ℕ) (n : ℕ) (scope : Scope) (ss : List Statement) (kind : RefusalKind) → length b ≤ MAX_SCRIPT →
-    HasRead b rest n scope ss → ((lines : List (List ℕ)) → IsSplit suffix lines → IsSplit rest (line ∷ lines)) →
+    HasReadLines b rest n scope ss → ((lines : List (List ℕ)) → IsSplit suffix lines → IsSplit rest (line ∷ lines)) →
     HasBadLine whole n scope line kind → FirstErrorBy whole b n kind
 stops b rest suffix line n scope ss kind small r first wrong =
     let later = some_lines suffix in
@@ -155,7 +155,7 @@ stops b rest suffix line n scope ss kind small r first wrong =
     }))
 
 too_many_by : (b rest : List ℕ) (n : ℕ) (scope : Scope) (ss : List Statement) (lines : List (List ℕ)) → length b ≤ MAX_SCRIPT →
-    HasRead b rest n scope ss → rest ≢ [] → n ≡ MAX_LINES + 1 → IsSplit rest lines → FirstErrorBy whole b n TooBig
+    HasReadLines b rest n scope ss → rest ≢ [] → n ≡ MAX_LINES + 1 → IsSplit rest lines → FirstErrorBy whole b n TooBig
 too_many_by b rest n scope ss [] small r some e h = absurd (some h)
 too_many_by b rest n scope ss (line ∷ later) small r some e h =
     inr (inl (record {
@@ -171,7 +171,7 @@ too_many_by b rest n scope ss (line ∷ later) small r some e h =
     }))
 
 -- more lines than there may be
-pub too_many : (b rest : List ℕ) (n : ℕ) (scope : Scope) (ss : List Statement) → length b ≤ MAX_SCRIPT → HasRead b rest n scope ss →
+pub too_many : (b rest : List ℕ) (n : ℕ) (scope : Scope) (ss : List Statement) → length b ≤ MAX_SCRIPT → HasReadLines b rest n scope ss →
     rest ≢ [] → n ≡ MAX_LINES + 1 → FirstErrorBy whole b n TooBig
 too_many b rest n scope ss small r some e = let later = some_lines rest in too_many_by b rest n scope ss later.0 small r some e later.1
 
@@ -182,7 +182,7 @@ is_wrong n line scope kind few h = inr (few, h.0, h.1)
 
 -- the bytes are these statements, where no line and no block is left
 pub read_whole : (b rest : List ℕ) (n : ℕ) (scope : Scope) (ss : List Statement) → length b ≤ MAX_SCRIPT → n ≤ MAX_LINES + 1 →
-    rest ≡ [] → HasRead b rest n scope ss → scope.blocks ≡ [] → ReadsBy whole b ss
+    rest ≡ [] → HasReadLines b rest n scope ss → scope.blocks ≡ [] → ReadsBy whole b ss
 read_whole b rest n scope ss small few e r closed = record {
   size = small;
   lines = r.prefix;
@@ -193,7 +193,7 @@ read_whole b rest n scope ss small few e r closed = record {
 }
 
 open_by : (b rest : List ℕ) (n at : ℕ) (scope : Scope) (ss : List Statement) (kind : RefusalKind) (blocks : List Block) →
-    length b ≤ MAX_SCRIPT → n ≤ MAX_LINES + 1 → rest ≡ [] → HasRead b rest n scope ss → scope.blocks ≡ blocks →
+    length b ≤ MAX_SCRIPT → n ≤ MAX_LINES + 1 → rest ≡ [] → HasReadLines b rest n scope ss → scope.blocks ≡ blocks →
     IsInnermostOpen blocks at kind → FirstErrorBy whole b at kind
 open_by b rest n at scope ss kind [] small few e r same h = absurd h
 open_by b rest n at scope ss kind (block ∷ others) small few e r same h =
@@ -212,7 +212,7 @@ open_by b rest n at scope ss kind (block ∷ others) small few e r same h =
 
 -- a block that is open where no line is left
 pub leaves_open : (b rest : List ℕ) (n at : ℕ) (scope : Scope) (ss : List Statement) (kind : RefusalKind) → length b ≤ MAX_SCRIPT →
-    n ≤ MAX_LINES + 1 → rest ≡ [] → HasRead b rest n scope ss → IsInnermostOpen scope.blocks at kind → FirstErrorBy whole b at kind
+    n ≤ MAX_LINES + 1 → rest ≡ [] → HasReadLines b rest n scope ss → IsInnermostOpen scope.blocks at kind → FirstErrorBy whole b at kind
 leaves_open b rest n at scope ss kind small few e r h = open_by b rest n at scope ss kind scope.blocks small few e r refl h
 
 -- nothing is left

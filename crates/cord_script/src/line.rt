@@ -4,7 +4,7 @@ ghost use Rattle.cord_script.specs.Words.{HasWord};
 ghost use Rattle.cord_script.specs.declared.words.Word.TheVariants.{Plain};
 ghost use Rattle.cord_script.specs.inner.ContextViews.{scope_of};
 ghost use Rattle.cord_script.specs.inner.LineReading.{IsFresh, SaysLine};
-ghost use Rattle.cord_script.specs.inner.Steps.{Adds};
+ghost use Rattle.cord_script.specs.inner.Steps.{AddsStatement};
 ghost use Rattle.cord_script.specs.inner.Verbal.{verb_word};
 
 use crate::blocks::block_error;
@@ -61,7 +61,7 @@ pub fn take_statement(
     context: &mut Context,
     statements: &mut Vec<Statement>,
 ) -> Result<bool, RefusalKind>
-    ensures adds { IfOk result (λ taken. taken ≡ true → Adds number line.now (scope_of context.old)
+    ensures adds { IfOk result (λ taken. taken ≡ true → AddsStatement number line.now (scope_of context.old)
         (scope_of context.new) statements.old.items statements.new.items) }
     ensures keeps { IfOk result (λ taken. taken ≡ false → (scope_of context.new ≡ scope_of context.old) ×
         (statements.new.items ≡ statements.old.items)) }

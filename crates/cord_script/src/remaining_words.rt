@@ -10,7 +10,7 @@ ghost use Rattle.cord_script.specs.Forms.{argument_term, argument_want};
 ghost use Rattle.cord_script.specs.Forms.Term.{Target, Operand, Value, Literal, FilePath, Applies, Compares, Formats};
 ghost use Rattle.cord_script.specs.Script.{kind_of};
 ghost use Rattle.cord_script.specs.inner.ContextViews.{scope_of};
-ghost use Rattle.cord_script.specs.inner.LineReading.{IsFresh, PassesWord, Gives, GivesAll, name_added};
+ghost use Rattle.cord_script.specs.inner.LineReading.{IsFresh, PassesWord, GivesTerm, GivesAll, name_added};
 
 use crate::added::{Added, NewName};
 use crate::context::Context;
@@ -153,7 +153,7 @@ impl<'a> LineWords<'a> {
     #[inline(always)]
     pub fn target(&mut self, kind: Kind) -> Result<Name, NoStatement>
         requires { IsFresh self.old }
-        ensures gave { IfOk result (λ name. Gives self.old (Target kind name) self.new) }
+        ensures gave { IfOk result (λ name. GivesTerm self.old (Target kind name) self.new) }
         ensures path { OnOk result (self.new.path ≡ None) }
     {
         let word = self.plain()?;
@@ -166,7 +166,7 @@ impl<'a> LineWords<'a> {
     /// A name that is used, of this kind.
     #[inline(always)]
     pub fn operand(&mut self, kind: Kind) -> Result<Name, NoStatement>
-        ensures { IfOk result (λ name. Gives self.old (Operand kind name) self.new) }
+        ensures { IfOk result (λ name. GivesTerm self.old (Operand kind name) self.new) }
     {
         let word = self.plain()?;
         self.named(word, kind)
@@ -175,7 +175,7 @@ impl<'a> LineWords<'a> {
     /// A number operand.
     #[inline(always)]
     pub fn number(&mut self) -> Result<Number, NoStatement>
-        ensures { IfOk result (λ number. Gives self.old (Value number) self.new) }
+        ensures { IfOk result (λ number. GivesTerm self.old (Value number) self.new) }
     {
         let word = self.plain()?;
         if begins_numeral(word) {
@@ -190,7 +190,7 @@ impl<'a> LineWords<'a> {
 
     /// A number operand, on the heap.
     pub fn shared_number(&mut self) -> Result<Shared<Number>, NoStatement>
-        ensures { IfOk result (λ number. Gives self.old (Value number) self.new) }
+        ensures { IfOk result (λ number. GivesTerm self.old (Value number) self.new) }
     {
         let number = self.number()?;
         Ok(Shared::new(self.alloc, number)?)
@@ -208,7 +208,7 @@ impl<'a> LineWords<'a> {
 
     /// A text.
     pub fn text(&mut self) -> Result<Text, NoStatement>
-        ensures { IfOk result (λ text. Gives self.old (Literal text) self.new) }
+        ensures { IfOk result (λ text. GivesTerm self.old (Literal text) self.new) }
     {
         self.quoted()
     }
@@ -216,7 +216,7 @@ impl<'a> LineWords<'a> {
     /// A path.
     pub fn path(&mut self) -> Result<Path, NoStatement>
         requires { self.old.path ≡ None }
-        ensures { IfOk result (λ path. Gives self.old (FilePath path) self.new) }
+        ensures { IfOk result (λ path. GivesTerm self.old (FilePath path) self.new) }
     {
         let word = self.word()?;
         let path = path_of(word)?;
@@ -232,7 +232,7 @@ impl<'a> LineWords<'a> {
 
     /// A function.
     pub fn function(&mut self) -> Result<Function, NoStatement>
-        ensures { IfOk result (λ function. Gives self.old (Applies function) self.new) }
+        ensures { IfOk result (λ function. GivesTerm self.old (Applies function) self.new) }
     {
         let word = self.word()?;
         Ok(function_of(&word)?)
@@ -240,7 +240,7 @@ impl<'a> LineWords<'a> {
 
     /// A relation.
     pub fn relation(&mut self) -> Result<Relation, NoStatement>
-        ensures { IfOk result (λ relation. Gives self.old (Compares relation) self.new) }
+        ensures { IfOk result (λ relation. GivesTerm self.old (Compares relation) self.new) }
     {
         let word = self.word()?;
         Ok(relation_of(&word)?)
@@ -248,7 +248,7 @@ impl<'a> LineWords<'a> {
 
     /// The text of a format, and what it is read as.
     pub fn format(&mut self) -> Result<(Text, Format), NoStatement>
-        ensures gave { IfOk result (λ r. Gives self.old (Formats r.0) self.new) }
+        ensures gave { IfOk result (λ r. GivesTerm self.old (Formats r.0) self.new) }
         ensures format { IfOk result (λ r. IsFormat r.0 r.1) }
     {
         let text = self.quoted()?;
@@ -278,7 +278,7 @@ impl<'a> LineWords<'a> {
 
     // An argument of a format, which is this.
     fn argument(&mut self, want: Want) -> Result<Argument, NoStatement>
-        ensures gave { IfOk result (λ argument. Gives self.old (argument_term argument) self.new) }
+        ensures gave { IfOk result (λ argument. GivesTerm self.old (argument_term argument) self.new) }
         ensures want { IfOk result (λ argument. argument_want argument ≡ want) }
     {
         match want {

@@ -1,7 +1,7 @@
 // The statements of lines, family by family, of the words that follow their verbs.
 ghost use Rattle.std.specs.Prelude.{◌≡◌, IfOk};
 ghost use Rattle.cord_script.specs.declared.verbs.Verb.{Verb};
-ghost use Rattle.cord_script.specs.inner.LineReading.{IsFresh, IsBuilt};
+ghost use Rattle.cord_script.specs.inner.LineReading.{IsFresh, IsStatementBuilt};
 
 use crate::formats::wants_of_pieces;
 use crate::kinds::Kind;
@@ -40,7 +40,7 @@ macro_rules! statement {
 #[inline(always)]
 fn origin_of(verb: Origin, line: u32, words: &mut LineWords) -> Result<Statement, NoStatement>
     requires { IsFresh words.old }
-    ensures { IfOk result (IsBuilt (Verb.Fixed (FixedVerb.Origin verb)) line words.old words.new) }
+    ensures { IfOk result (IsStatementBuilt (Verb.Fixed (FixedVerb.Origin verb)) line words.old words.new) }
 {
     match verb {
         Origin::Let => statement!(
@@ -70,7 +70,7 @@ fn composition_of(
     words: &mut LineWords,
 ) -> Result<Statement, NoStatement>
     requires { IsFresh words.old }
-    ensures { IfOk result (IsBuilt (Verb.Fixed (FixedVerb.Composition verb)) line words.old words.new) }
+    ensures { IfOk result (IsStatementBuilt (Verb.Fixed (FixedVerb.Composition verb)) line words.old words.new) }
 {
     match verb {
         Composition::Chars => statement!(
@@ -109,7 +109,7 @@ fn derivation_of(
     words: &mut LineWords,
 ) -> Result<Statement, NoStatement>
     requires { IsFresh words.old }
-    ensures { IfOk result (IsBuilt (Verb.Fixed (FixedVerb.Derivation verb)) line words.old words.new) }
+    ensures { IfOk result (IsStatementBuilt (Verb.Fixed (FixedVerb.Derivation verb)) line words.old words.new) }
 {
     match verb {
         Derivation::Balance => statement!(
@@ -133,7 +133,7 @@ fn computation_of(
     words: &mut LineWords,
 ) -> Result<Statement, NoStatement>
     requires { IsFresh words.old }
-    ensures { IfOk result (IsBuilt (Verb.Fixed (FixedVerb.Computation verb)) line words.old words.new) }
+    ensures { IfOk result (IsStatementBuilt (Verb.Fixed (FixedVerb.Computation verb)) line words.old words.new) }
 {
     match verb {
         Computation::Assign => statement!(
@@ -163,7 +163,7 @@ fn computation_of(
 #[inline(always)]
 fn look_of(verb: Look, line: u32, words: &mut LineWords) -> Result<Statement, NoStatement>
     requires { IsFresh words.old }
-    ensures { IfOk result (IsBuilt (Verb.Fixed (FixedVerb.Look verb)) line words.old words.new) }
+    ensures { IfOk result (IsStatementBuilt (Verb.Fixed (FixedVerb.Look verb)) line words.old words.new) }
 {
     match verb {
         Look::Fetch => statement!(
@@ -194,7 +194,7 @@ fn look_of(verb: Look, line: u32, words: &mut LineWords) -> Result<Statement, No
 #[inline(always)]
 fn search_of(verb: Search, line: u32, words: &mut LineWords) -> Result<Statement, NoStatement>
     requires { IsFresh words.old }
-    ensures { IfOk result (IsBuilt (Verb.Fixed (FixedVerb.Search verb)) line words.old words.new) }
+    ensures { IfOk result (IsStatementBuilt (Verb.Fixed (FixedVerb.Search verb)) line words.old words.new) }
 {
     match verb {
         Search::Str => statement!(
@@ -219,7 +219,7 @@ fn search_of(verb: Search, line: u32, words: &mut LineWords) -> Result<Statement
 #[inline(always)]
 fn growth_of(verb: Growth, line: u32, words: &mut LineWords) -> Result<Statement, NoStatement>
     requires { IsFresh words.old }
-    ensures { IfOk result (IsBuilt (Verb.Fixed (FixedVerb.Growth verb)) line words.old words.new) }
+    ensures { IfOk result (IsStatementBuilt (Verb.Fixed (FixedVerb.Growth verb)) line words.old words.new) }
 {
     match verb {
         Growth::EcInit => statement!(line, EcInit, (target) = words.target(Kind::Extensible)),
@@ -248,7 +248,7 @@ fn growth_of(verb: Growth, line: u32, words: &mut LineWords) -> Result<Statement
 #[inline(always)]
 fn control_of(verb: Control, line: u32, words: &mut LineWords) -> Result<Statement, NoStatement>
     requires { IsFresh words.old }
-    ensures { IfOk result (IsBuilt (Verb.Fixed (FixedVerb.Control verb)) line words.old words.new) }
+    ensures { IfOk result (IsStatementBuilt (Verb.Fixed (FixedVerb.Control verb)) line words.old words.new) }
 {
     match verb {
         Control::Repeat => statement!(line, Repeat, (count) = words.number()),
@@ -269,7 +269,7 @@ fn control_of(verb: Control, line: u32, words: &mut LineWords) -> Result<Stateme
 #[inline(always)]
 fn put_of(line: u32, words: &mut LineWords) -> Result<Statement, NoStatement>
     requires { IsFresh words.old }
-    ensures { IfOk result (IsBuilt (Verb.Fixed FixedVerb.Put) line words.old words.new) }
+    ensures { IfOk result (IsStatementBuilt (Verb.Fixed FixedVerb.Put) line words.old words.new) }
 {
     statement!(line, Put, (operand) = words.operand(Kind::Cord))
 }
@@ -282,7 +282,7 @@ fn fixed_statement_of(
     words: &mut LineWords,
 ) -> Result<Statement, NoStatement>
     requires { IsFresh words.old }
-    ensures { IfOk result (IsBuilt (Verb.Fixed verb) line words.old words.new) }
+    ensures { IfOk result (IsStatementBuilt (Verb.Fixed verb) line words.old words.new) }
 {
     match verb {
         FixedVerb::Origin(origin) => origin_of(origin, line, words),
@@ -300,7 +300,7 @@ fn fixed_statement_of(
 // A `catn`.
 fn catn_of(line: u32, words: &mut LineWords) -> Result<Statement, NoStatement>
     requires { IsFresh words.old }
-    ensures { IfOk result (IsBuilt Verb.Catn line words.old words.new) }
+    ensures { IfOk result (IsStatementBuilt Verb.Catn line words.old words.new) }
 {
     let target = words.target(Kind::Cord)?;
     let parts = words.cords()?;
@@ -316,7 +316,7 @@ fn catn_of(line: u32, words: &mut LineWords) -> Result<Statement, NoStatement>
 #[inline(never)]
 fn sprintf_of(alloc: Global, line: u32, words: &mut LineWords) -> Result<Statement, NoStatement>
     requires { IsFresh words.old }
-    ensures { IfOk result (IsBuilt Verb.Sprintf line words.old words.new) }
+    ensures { IfOk result (IsStatementBuilt Verb.Sprintf line words.old words.new) }
 {
     let target = words.target(Kind::Cord)?;
     let (text, format) = words.format()?;
@@ -340,7 +340,7 @@ pub fn statement_of(
     words: &mut LineWords,
 ) -> Result<Statement, NoStatement>
     requires { IsFresh words.old }
-    ensures { IfOk result (IsBuilt verb line words.old words.new) }
+    ensures { IfOk result (IsStatementBuilt verb line words.old words.new) }
 {
     match verb {
         Verb::Fixed(fixed) => fixed_statement_of(fixed, line, words),

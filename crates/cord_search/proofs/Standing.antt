@@ -18,7 +18,7 @@ use Rattle.cord_node.specs.declared.Node.{Node}
 use Rattle.cord_core.specs.Cord.{text_len, bytes_of, IsCord, CordFitsIn}
 use Rattle.cord_core.specs.Texts.{StandsAt, first, IsFirst}
 use Rattle.cord_core.proofs.Searches.{first_is_least}
-use Rattle.cord_search.specs.inner.Pieces.{IsPieceOf, IsFilled, IsOrderOf, IsStanding, StandsNot}
+use Rattle.cord_search.specs.inner.Pieces.{IsPieceOf, HoldsText, IsOrderOf, IsStanding, StandsNot}
 use Rattle.cord_pos.specs.Spans.{span_len, span_bytes, IsSpanOf}
 use Rattle.cord_search.specs.inner.Spans.{IsMisfit, DoesNotFit}
 use Rattle.cord_pos.specs.declared.span.Span.{Span}
@@ -27,8 +27,8 @@ use Rattle.cord_search.proofs.Finding.{range_at, range_inside, first_only}
 use Rattle.cord_search.proofs.Comparing.{cmp_same, cmp_equal, piece_prefix}
 
 -- bytes were copied after what was filled
-pub filled_on : (t : Table) (c : Option Node) (place done k n : ℕ) (out part : List ℕ) → IsFilled t c place done out →
-    IsPieceOf t c (place + done) part → length part ≡ n → done ≤ length out → IsFilled t c place (done + n) (put_mid done k out part)
+pub filled_on : (t : Table) (c : Option Node) (place done k n : ℕ) (out part : List ℕ) → HoldsText t c place done out →
+    IsPieceOf t c (place + done) part → length part ≡ n → done ≤ length out → HoldsText t c place (done + n) (put_mid done k out part)
 filled_on t c place done k n out part h e long q =
     let x = drop place (bytes_of t c) in
     let next : part ≡ take n (drop done x) =

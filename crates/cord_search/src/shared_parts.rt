@@ -6,7 +6,7 @@ ghost use Rattle.cord_node.specs.declared.Node.{Node as Tree};
 ghost use Rattle.cord_node.specs.Tree.{len_of, depth_of, IsSound};
 ghost use Rattle.cord_pos.specs.Spans.{is_part, span_len, IsSpanAt};
 ghost use Rattle.cord_pos.specs.inner.Spans.{IsWithin};
-ghost use Rattle.cord_search.specs.inner.SharedParts.{IsSpot, AreOneSpot, IsSpotOf, IsWay, IsAhead};
+ghost use Rattle.cord_search.specs.inner.SharedParts.{IsSpot, AreOneSpot, IsSpotOf, IsWay, IsCommonAhead};
 
 use crate::spans::begin_alike;
 use arrayvec::ArrayVec;
@@ -258,7 +258,7 @@ pub(crate) fn look_ahead<'a>(
     requires right_inside { j < text_len y.now }
     requires left_way { IsWay x.now way.old }
     requires right_way { IsWay y.now other_way.old }
-    ensures ahead { IsAhead x.now i y.now j most result }
+    ensures ahead { IsCommonAhead x.now i y.now j most result }
     ensures left_way { IsWay x.now way.new }
     ensures right_way { IsWay y.now other_way.new }
 {

@@ -28,10 +28,10 @@ IsCut text before after n =
     Takes (IsPrefixOf text) before after × (n.failed_after ≡ raised n.failed_before) × (n.ended_after ≡ n.ended_before)
 
 -- it was handed the message
-abbrev pub Says : List ℕ → List ℕ → SinkCounts → List ℕ → Type 0
-Says before after n message = IsWritten message before after n ⊎ IsCut message before after n
+abbrev pub SaysMessage : List ℕ → List ℕ → SinkCounts → List ℕ → Type 0
+SaysMessage before after n message = IsWritten message before after n ⊎ IsCut message before after n
 
 -- the same, but that with no message it was left alone
 abbrev pub Reports : List ℕ → List ℕ → SinkCounts → List ℕ → Type 0
 Reports before after n [] = IsUntouched before after n
-Reports before after n (b ∷ message) = Says before after n (b ∷ message)
+Reports before after n (b ∷ message) = SaysMessage before after n (b ∷ message)

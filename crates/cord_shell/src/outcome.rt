@@ -4,7 +4,7 @@ ghost use Rattle.cord_io.specs.SinkCounts.{sink_counts};
 ghost use Rattle.cord_shell.specs.Outcomes.{line_text, message_of, message_of_end, status_of_end};
 ghost use Rattle.cord_shell.specs.inner.Outcomes.{outcome_of};
 ghost use Rattle.cord_shell.specs.Outcomes.{status_of_outcome};
-ghost use Rattle.cord_shell.specs.Reports.{IsCut, IsWritten, Says, Reports};
+ghost use Rattle.cord_shell.specs.Reports.{IsCut, IsWritten, SaysMessage, Reports};
 
 use arrayvec::ArrayString;
 use cord_io::{Sink, WriteFault};
@@ -116,7 +116,7 @@ pub fn write_text<S: Sink>(text: &str, sink: &mut S) -> Result<(), WriteFault>
 
 // Hands a message over. A fault changes nothing else.
 fn put_message<T: Sink>(message: &str, err: &mut T)
-    ensures { Says (T.taken err.old) (T.taken err.new)
+    ensures { SaysMessage (T.taken err.old) (T.taken err.new)
         (sink_counts ⟦<T as Sink>⟧ err.old err.new) message.now }
 {
     let _ = write_text(message, err);
@@ -124,7 +124,7 @@ fn put_message<T: Sink>(message: &str, err: &mut T)
 
 fn put_message_at<T: Sink>(line: u32, text: &str, err: &mut T)
     requires { length text.now ≤ MAX_TEXT }
-    ensures { Says (T.taken err.old) (T.taken err.new)
+    ensures { SaysMessage (T.taken err.old) (T.taken err.new)
         (sink_counts ⟦<T as Sink>⟧ err.old err.new) (line_text line text.now) }
 {
     let message = message_at(line, text);

@@ -16,6 +16,6 @@ left_to c None = []
 left_to c (Some i) = take (i + 1) (plain_bytes c)
 
 -- a chunk with which the bytes begin, and nothing where there is none
-abbrev pub IsAhead : List ℕ → Option Chunk → Type 0
-IsAhead left answer = MatchOption answer (left ≡ []) (λ chunk. (0 < length (chunk_bytes chunk)) ×
+abbrev pub IsNextChunk : List ℕ → Option Chunk → Type 0
+IsNextChunk left answer = MatchOption answer (left ≡ []) (λ chunk. (0 < length (chunk_bytes chunk)) ×
     (left ≡ chunk_bytes chunk ++ drop (length (chunk_bytes chunk)) left))

@@ -12,7 +12,7 @@ use Rattle.cord_node.specs.Tree.{len_of, depth_of, count_of}
 use Rattle.cord_node.specs.PartsFrom.{parts}
 use Rattle.cord_node.proofs.TreeLemmas.{count_within_len, count_of-parts}
 use Rattle.cord_balance.specs.Fib.{IsSlotOf}
-use Rattle.cord_balance.specs.inner.Forest.{IsGathered, IsKnown}
+use Rattle.cord_balance.specs.inner.Forest.{IsGatheredBelow, IsKnown}
 use Rattle.cord_balance.proofs.FibLemmas.{fib_below}
 use Rattle.cord_balance.proofs.PiecesLemmas.{joined_over}
 use Rattle.cord_balance.proofs.balance_parts.Goals as goal
@@ -68,19 +68,19 @@ returns-clause-len c =
 
 pub returns-clause-slot : goal.returns-clause-slot
 returns-clause-slot c = λ (n : ℕ) (i : IsSlotOf (len_of c.in-Some.node.value) n).
-    let g : IsGathered MAX_INDEX (Some c.in-Some.node) = rw c.in-Some.is at c.in_ok-node.ensures.gathered in
+    let g : IsGatheredBelow MAX_INDEX (Some c.in-Some.node) = rw c.in-Some.is at c.in_ok-node.ensures.gathered in
     let few : count_of c.in-Some.node.value ≤ len_of c.in-Some.node.value = count_within_len c.in-Some.node.value g.0 in
     let h : depth_of c.in-Some.node.value < n + 1 = fib_below (depth_of c.in-Some.node.value) (n + 1) (omega (arith, g.1, i.below)) in
     omega arith
 
 pub returns-clause-part_slot : goal.returns-clause-part_slot
 returns-clause-part_slot c = λ (n : ℕ) (i : IsSlotOf (length (parts c.in-Some.node.value)) n).
-    let g : IsGathered MAX_INDEX (Some c.in-Some.node) = rw c.in-Some.is at c.in_ok-node.ensures.gathered in
+    let g : IsGatheredBelow MAX_INDEX (Some c.in-Some.node) = rw c.in-Some.is at c.in_ok-node.ensures.gathered in
     let all : count_of c.in-Some.node.value ≡ length (parts c.in-Some.node.value) = count_of-parts c.in-Some.node.value g.0 in
     let h : depth_of c.in-Some.node.value < n + 1 = fib_below (depth_of c.in-Some.node.value) (n + 1) (omega (arith, g.1, i.below)) in
     omega arith
 
 pub returns-clause-over : goal.returns-clause-over
 returns-clause-over c =
-    let g : IsGathered MAX_INDEX (Some c.in-Some.node) = rw c.in-Some.is at c.in_ok-node.ensures.gathered in
+    let g : IsGatheredBelow MAX_INDEX (Some c.in-Some.node) = rw c.in-Some.is at c.in_ok-node.ensures.gathered in
     joined_over c.args.ropes.now c.in-Some.node.value g.0 (returns-clause-text c)

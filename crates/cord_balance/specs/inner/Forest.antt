@@ -9,7 +9,7 @@ use Rattle.cord_balance.specs.declared.forest.Piece.{Piece}
 use Rattle.cord_balance.specs.declared.forest.balanced_trees.Known.{Known}
 
 -- a piece in its slot, less deep than the slot's number
-pub record IsPiece (p : Piece) : Type 0 where
+pub record IsPieceInSlot (p : Piece) : Type 0 where
   pub sound : IsSound p.node.value
   pub slot : IsSlotOf (count_of p.node.value) p.slot
   pub shallow : fib_of (depth_of p.node.value + 1) ≤ count_of p.node.value
@@ -27,7 +27,7 @@ AllFrom k (p ∷ ps) = (k ≤ p.slot) × AllFrom k ps
 -- pieces whose slots fall
 abbrev pub IsForest : List Piece → Type 0
 IsForest [] = ⊤
-IsForest (p ∷ ps) = IsPiece p × AllBelow p.slot ps × IsForest ps
+IsForest (p ∷ ps) = IsPieceInSlot p × AllBelow p.slot ps × IsForest ps
 
 -- the text so far
 abbrev pub forest_cells : List Piece → List Cell
@@ -60,9 +60,9 @@ piece_len None = 0
 piece_len (Some n) = len_of n.value
 
 -- small pieces joined: sound, and less deep than the slot that comes
-abbrev pub IsGathered : ℕ → Option Shared → Type 0
-IsGathered below None = ⊤
-IsGathered below (Some n) = IsSound n.value × (fib_of (depth_of n.value) ≤ count_of n.value) × (depth_of n.value < below)
+abbrev pub IsGatheredBelow : ℕ → Option Shared → Type 0
+IsGatheredBelow below None = ⊤
+IsGatheredBelow below (Some n) = IsSound n.value × (fib_of (depth_of n.value) ≤ count_of n.value) × (depth_of n.value < below)
 
 -- it has the text and the parts of the node, and is as long
 pub record IsForm (node form : Node) : Type 0 where

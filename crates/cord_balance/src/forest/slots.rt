@@ -4,8 +4,8 @@ ghost use Rattle.std.specs.Option.{ForSome};
 ghost use Rattle.cord_node.specs.Tree.{cells, len_of, depth_of, count_of, IsSound};
 ghost use Rattle.cord_node.specs.PartsFrom.{parts, PartsFrom};
 ghost use Rattle.cord_balance.specs.Fib.{fib_of, IsSlotOf};
-ghost use Rattle.cord_balance.specs.inner.Forest.{IsPiece, AllFrom, IsForest, forest_cells, forest_parts, forest_len};
-ghost use Rattle.cord_balance.specs.inner.Forest.{piece_cells, piece_parts, piece_len, IsGathered};
+ghost use Rattle.cord_balance.specs.inner.Forest.{IsPieceInSlot, AllFrom, IsForest, forest_cells, forest_parts, forest_len};
+ghost use Rattle.cord_balance.specs.inner.Forest.{piece_cells, piece_parts, piece_len, IsGatheredBelow};
 
 use super::Piece;
 use crate::{MAX_INDEX, slot_of};
@@ -18,7 +18,7 @@ use std::rc::Rc;
 fn pop_below(forest: &mut Vec<Piece>, below: u32) -> Option<Piece>
     requires { IsForest forest.old.items }
     ensures taken { IfSome result (λ p. forest.old.items ≡ forest.new.items ++ p ∷ []) }
-    ensures piece { IfSome result (λ p. IsPiece p) }
+    ensures piece { IfSome result (λ p. IsPieceInSlot p) }
     ensures below { IfSome result (λ p. p.slot < below) }
     ensures falls { IfSome result (λ p. AllFrom (p.slot + 1) forest.new.items) }
     ensures rest { IsForest forest.new.items }
@@ -71,7 +71,7 @@ pub fn gather(
     ensures len { IfOk result (λ o. forest_len forest.old.items ≡ forest_len forest.new.items + piece_len o) }
     ensures parts_from { IfOk result (λ o. PartsFrom (forest_parts forest.old.items)
         (forest_parts forest.new.items ++ piece_parts o)) }
-    ensures gathered { IfOk result (λ o. IsGathered below o) }
+    ensures gathered { IfOk result (λ o. IsGatheredBelow below o) }
 {
     let mut joined: Option<Rc<Node>> = None;
     while let Some(piece) = pop_below(forest, below) {

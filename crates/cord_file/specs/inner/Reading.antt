@@ -9,8 +9,8 @@ use Rattle.cord_file.specs.declared.files.OpenFile.{OpenFile}
 use Rattle.cord_file.specs.declared.sources.Sources.{Sources}
 
 -- so many bytes from a place on lie inside the opened file
-abbrev pub IsInside : Option OpenFile → ℕ → ℕ → Type 0
-IsInside slot start count = IsSomeAnd slot (λ file. start + count ≤ file.len)
+abbrev pub IsInsideFile : Option OpenFile → ℕ → ℕ → Type 0
+IsInsideFile slot start count = IsSomeAnd slot (λ file. start + count ≤ file.len)
 
 -- a call opened no file and makes no file system consistent that wasn't so before it, and the device counted its failure
 abbrev pub LeavesFiles : {F : Type 0} {ghosts : Ghosts F} → Bool → Sources F ghosts → Sources F ghosts → Type 0

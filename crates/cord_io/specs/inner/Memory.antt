@@ -19,7 +19,7 @@ pub record IsAt (es : List Entry) (at : List ℕ) (n : ℕ) (e : Entry) : Type 0
   pub file : file_at (file_system_of es) at ≡ Some e.bytes.items
 
 -- one entry is marked as open, and its length reported
-pub record Marks (old new : List Entry) (n len : ℕ) : Type 0 where
+pub record MarksOpen (old new : List Entry) (n len : ℕ) : Type 0 where
   pub file_system : file_system_of new ≡ file_system_of old
   pub reported : IsSomeAnd (slice_get old n) (λ e. (opened_of new n ≡ Some (string_bytes e.path, len)) × (len ≡ length e.bytes.items))
   pub others : (k : ℕ) → k ≢ n → opened_of new k ≡ opened_of old k

@@ -8,7 +8,7 @@ use Rattle.cord_node.specs.Tables.{bytes_over}
 use Rattle.cord_iter.specs.Output.{IsPrefixOf}
 
 -- the bytes of a node over a source: as many as it stores, and its text over the table of each consistent file system
-pub record IsTextOver (consistent : FileSystem → Type 0) (table : FileSystem → Table) (n : Node) (out : List ℕ) : Type 0 where
+pub record IsTextRead (consistent : FileSystem → Type 0) (table : FileSystem → Table) (n : Node) (out : List ℕ) : Type 0 where
   pub len : length out ≡ len_of n
   pub text : (file_system : FileSystem) → consistent file_system → out ≡ bytes_over (table file_system) n
 

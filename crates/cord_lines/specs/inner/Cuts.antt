@@ -6,9 +6,9 @@ use Rattle.cord_lines.specs.Index.{Indexed}
 use Rattle.cord_lines.specs.declared.blocks.Block.{Block}
 use Rattle.cord_lines.specs.inner.Blocks.{block_counts, total}
 
-abbrev pub IsCut : List Block → List ℕ → Type 0
-IsCut [] x = x ≡ []
-IsCut (b ∷ bs) x = (piece : List ℕ) × (rest : List ℕ) × (x ≡ piece ++ rest) × (block_counts b ≡ counts_of piece) × IsCut bs rest
+abbrev pub AreBlocksOf : List Block → List ℕ → Type 0
+AreBlocksOf [] x = x ≡ []
+AreBlocksOf (b ∷ bs) x = (piece : List ℕ) × (rest : List ℕ) × (x ≡ piece ++ rest) × (block_counts b ≡ counts_of piece) × AreBlocksOf bs rest
 
 -- they hold no more than a text can have
 pub record AreModest (bs : List Block) : Type 0 where
@@ -19,7 +19,7 @@ pub record AreModest (bs : List Block) : Type 0 where
 -- they are those of some text
 pub record AreOfSomeText (bs : List Block) : Type 0 where
   pub text : List ℕ
-  pub cut : IsCut bs text
+  pub cut : AreBlocksOf bs text
   pub limit : length text ≤ MAX_LEN
 
 -- what an index of these blocks shows

@@ -7,10 +7,10 @@ use Rattle.cord_lines.specs.declared.blocks.Block.{Block}
 use Rattle.cord_lines.specs.declared.renewing.Edit.{Edit}
 use Rattle.cord_lines.specs.declared.renewing.Span.{Span}
 use Rattle.cord_lines.specs.inner.Blocks.{total}
-use Rattle.cord_lines.specs.inner.Cuts.{IsCut}
+use Rattle.cord_lines.specs.inner.Cuts.{AreBlocksOf}
 
 -- the edit may make a text of one length of a text of another one
-pub record Fits (edit : Edit) (before after : ℕ) : Type 0 where
+pub record EditFits (edit : Edit) (before after : ℕ) : Type 0 where
   pub inside : edit.start + edit.removed ≤ before
   pub len : before - edit.removed + edit.inserted ≡ after
 
@@ -25,8 +25,8 @@ pub record AreOfBytes (b : Block) : Type 0 where
 
 -- where the old blocks are those of a text before an edit, the new ones are those of the text after it
 abbrev pub FollowEdit : List Block → List Block → List ℕ → Edit → Option Counts → Type 0
-FollowEdit old new after edit removed = (before : List ℕ) → IsCut old before → AreRemoved removed edit before →
-    IsEditOf before after edit.start edit.removed edit.inserted → IsCut new after
+FollowEdit old new after edit removed = (before : List ℕ) → AreBlocksOf old before → AreRemoved removed edit before →
+    IsEditOf before after edit.start edit.removed edit.inserted → AreBlocksOf new after
 
 -- these blocks hold these bytes
 pub record IsSpan (bs : List Block) (s : Span) : Type 0 where

@@ -5,7 +5,7 @@ use Rattle.cord_core.specs.Equations.{HasText}
 use Rattle.cord_pos.specs.Position.{Standing, index_at}
 
 -- the position is at this place of a cord of the text
-pub record IsReader (x : List ℕ) (p : Standing) (place : ℕ) : Type 0 where
+pub record IsReaderAt (x : List ℕ) (p : Standing) (place : ℕ) : Type 0 where
   pub sound : IsCord p.cord
   pub inside : place ≤ length x
   pub text : HasText x p.cord

@@ -15,8 +15,8 @@ use denote.Sharing.{said, beside, some}
 use denote.Hidden.{guarded}
 
 -- the parts of a text, and where its mark lies
-abbrev pub Reported : Type 0
-Reported = List Part × (ℕ × ℕ)
+abbrev pub MarkedText : Type 0
+MarkedText = List Part × (ℕ × ℕ)
 
 -- a name that tells one of these, the same to all who see it
 abbrev pub reporting : Algebra

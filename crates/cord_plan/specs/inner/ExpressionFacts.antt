@@ -28,6 +28,6 @@ AreFactsOf t table known = (n : ℕ) (entry : Entry) → slice_get known.entries
     HasFacts t (expression_in table entry.place) entry.facts
 
 -- x stands for itself, or an expression of the table does
-abbrev pub IsFrom : List (Option Expr) → List ℕ → plain.Choice → Type 0
-IsFrom table x (plain.named y) = y ≡ x
-IsFrom table x (plain.replaced a e) = expression_in table a ≡ Some e
+abbrev pub IsChoiceOf : List (Option Expr) → List ℕ → plain.Choice → Type 0
+IsChoiceOf table x (plain.named y) = y ≡ x
+IsChoiceOf table x (plain.replaced a e) = expression_in table a ≡ Some e

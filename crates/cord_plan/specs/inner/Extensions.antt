@@ -11,7 +11,7 @@ abbrev pub AreExtending : List Bool → List Operation → Type 0
 AreExtending reported operations = (place : ℕ) → slice_get reported place ≡ Some true → Extends operations place
 
 -- what holds of the operations of a plan, and of its names
-pub record IsPlan (reported : List Bool) (operations : List Operation) (names : List (List ℕ)) : Type 0 where
+pub record HasPlanFacts (reported : List Bool) (operations : List Operation) (names : List (List ℕ)) : Type 0 where
   pub kept : All KeepsNoOther operations
   pub extending : AreExtending reported operations
   pub distinct : IsDistinct bytes_eq names

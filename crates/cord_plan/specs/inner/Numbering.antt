@@ -30,5 +30,5 @@ abbrev pub IsNumbering : List Statement → Numbering → Type 0
 IsNumbering s t = AreLines s (names_of t) t.read.items t.lines.items
 
 -- the names that the lines read have numbers
-abbrev pub Covers : List Statement → Numbering → Type 0
-Covers s t = (p : ℕ) → p < length s → (x : List ℕ) → reads_at (slice_get s p) x ≡ true → has (names_of t) x ≡ true
+abbrev pub CoversNames : List Statement → Numbering → Type 0
+CoversNames s t = (p : ℕ) → p < length s → (x : List ℕ) → reads_at (slice_get s p) x ≡ true → has (names_of t) x ≡ true

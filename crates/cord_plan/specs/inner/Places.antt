@@ -25,24 +25,24 @@ abbrev pub IsNumber : List (List ℕ) → Option (List ℕ) → Option ℕ → T
 IsNumber names o number = option_map (λ n. slice_get names n) number ≡ option_map Some o
 
 -- a list of names comes to have more
-pub record Grows (old new : List (List ℕ)) : Type 0 where
+pub record GainsNames (old new : List (List ℕ)) : Type 0 where
   pub remains : (n : ℕ) (x : List ℕ) → slice_get old n ≡ Some x → slice_get new n ≡ Some x
   pub distinct : IsDistinct bytes_eq old → IsDistinct bytes_eq new
 
 -- it has a name at a place then
 pub record TakesNumber (x : List ℕ) (n : ℕ) (old new : List (List ℕ)) : Type 0 where
-  pub grows : Grows old new
+  pub grows : GainsNames old new
   pub is : slice_get new n ≡ Some x
 
 -- it has these names, and places of them come to stand in a list of numbers
-pub record Adds (xs old new : List (List ℕ)) (before after : List ℕ) : Type 0 where
-  pub grows : Grows old new
+pub record AddsPlaces (xs old new : List (List ℕ)) (before after : List ℕ) : Type 0 where
+  pub grows : GainsNames old new
   pub numbers : List ℕ
   pub noted : after ≡ before ++ numbers
   pub are : AreNumbers new xs numbers
 
 -- the number of the name that a line assigns, and those of the names that it reads
-pub record IsLine (names : List (List ℕ)) (read : List ℕ) (l : Statement) (line : NumberedLine) : Type 0 where
+pub record IsNumberedLine (names : List (List ℕ)) (read : List ℕ) (l : Statement) (line : NumberedLine) : Type 0 where
   pub target : IsNumber names (target_of l) line.target
   pub order : line.start ≤ line.end
   pub within : line.end ≤ length read
@@ -50,14 +50,14 @@ pub record IsLine (names : List (List ℕ)) (read : List ℕ) (l : Statement) (l
 
 -- they have come to stand there
 pub record AddsLine (l : Statement) (old new : List (List ℕ)) (before after : List ℕ) (line : NumberedLine) : Type 0 where
-  pub grows : Grows old new
+  pub grows : GainsNames old new
   pub numbers : List ℕ
   pub noted : after ≡ before ++ numbers
-  pub is : IsLine new after l line
+  pub is : IsNumberedLine new after l line
 
 -- that of a line at a place, and of each line of a script
 abbrev pub IsLineIn : List (List ℕ) → List ℕ → List NumberedLine → Statement → ℕ → Type 0
-IsLineIn names read lines l p = (line : NumberedLine) × (slice_get lines p ≡ Some line) × IsLine names read l line
+IsLineIn names read lines l p = (line : NumberedLine) × (slice_get lines p ≡ Some line) × IsNumberedLine names read l line
 
 abbrev pub AreLines : List Statement → List (List ℕ) → List ℕ → List NumberedLine → Type 0
 AreLines s names read lines = (p : ℕ) (l : Statement) → slice_get s p ≡ Some l → IsLineIn names read lines l p

@@ -49,8 +49,8 @@ abbrev pub AreFor : Numbering → List (Option ℕ) → Type 0
 AreFor t places = length places ≡ length (names_of t)
 
 -- places come to have this for the names of which this holds, and for no other
-abbrev pub Puts : Numbering → (List ℕ → Bool) → Option ℕ → List (Option ℕ) → List (Option ℕ) → Type 0
-Puts t holds v old new = (x : List ℕ) → entry_of t new x ≡ (if holds x then v else entry_of t old x)
+abbrev pub PutsPlaces : Numbering → (List ℕ → Bool) → Option ℕ → List (Option ℕ) → List (Option ℕ) → Type 0
+PutsPlaces t holds v old new = (x : List ℕ) → entry_of t new x ≡ (if holds x then v else entry_of t old x)
 
 -- the numbers are those of the lines, and the places those of the lines before b
 pub record IsRecent (s : List Statement) (b : ℕ) (r : Recent) : Type 0 where

@@ -6,7 +6,7 @@ ghost use Rattle.std.proofs.Props.{props};
 ghost use Rattle.cord_syntax.specs.Readings.{read_names};
 ghost use Rattle.cord_syntax.specs.declared.statements.Statement.{Statement};
 ghost use Rattle.cord_plan.specs.Operands.{cord_arguments};
-ghost use Rattle.cord_plan.specs.inner.Places.{Adds, AddsLine, AreLines, HasNumbers, IsLineIn, TakesNumber, place_of};
+ghost use Rattle.cord_plan.specs.inner.Places.{AddsPlaces, AddsLine, AreLines, HasNumbers, IsLineIn, TakesNumber, place_of};
 
 use cord_script::{Argument, Name, Statement};
 use cord_syntax::{Operands, Reading};
@@ -70,7 +70,7 @@ fn number_new(names: &mut Vec<Name>, name: &Name) -> Result<usize, AllocError>
 // Notes the number of a name.
 #[inline(always)]
 fn add(names: &mut Vec<Name>, read: &mut Vec<usize>, name: &Name) -> Result<(), AllocError>
-    ensures { OnOk result (Adds (name.now ∷ []) names.old.items names.new.items read.old.items read.new.items) }
+    ensures { OnOk result (AddsPlaces (name.now ∷ []) names.old.items names.new.items read.old.items read.new.items) }
 {
     let number = number(names, name)?;
     read.push(number)?;
@@ -84,7 +84,7 @@ fn add_two(
     left: &Name,
     right: &Name,
 ) -> Result<(), AllocError>
-    ensures { OnOk result (Adds (left.now ∷ right.now ∷ []) names.old.items names.new.items
+    ensures { OnOk result (AddsPlaces (left.now ∷ right.now ∷ []) names.old.items names.new.items
         read.old.items read.new.items) }
 {
     add(names, read, left)?;
@@ -93,7 +93,7 @@ fn add_two(
 
 // Notes the numbers of these names.
 fn add_all(names: &mut Vec<Name>, read: &mut Vec<usize>, others: &[Name]) -> Result<(), AllocError>
-    ensures { OnOk result (Adds others.now names.old.items names.new.items read.old.items read.new.items) }
+    ensures { OnOk result (AddsPlaces others.now names.old.items names.new.items read.old.items read.new.items) }
 {
     for name in others {
         add(names, read, name)?;
@@ -107,7 +107,7 @@ fn add_arguments(
     read: &mut Vec<usize>,
     arguments: &[Argument],
 ) -> Result<(), AllocError>
-    ensures { OnOk result (Adds (cord_arguments arguments.now) names.old.items names.new.items
+    ensures { OnOk result (AddsPlaces (cord_arguments arguments.now) names.old.items names.new.items
         read.old.items read.new.items) }
 {
     for argument in arguments {
@@ -125,7 +125,7 @@ fn add_reading(
     read: &mut Vec<usize>,
     reading: Reading,
 ) -> Result<(), AllocError>
-    ensures { OnOk result (Adds (read_names reading.entry) names.old.items names.new.items
+    ensures { OnOk result (AddsPlaces (read_names reading.entry) names.old.items names.new.items
         read.old.items read.new.items) }
 {
     match reading {

@@ -7,7 +7,7 @@ ghost use Rattle.cord_plan.specs.Operands.{has, is_name};
 ghost use Rattle.cord_plan.specs.declared.flow.numbering.Numbering.{Numbering};
 ghost use Rattle.cord_plan.specs.inner.Numbering.{IsNumbered, IsNumberIn, IsNumbering, names_of};
 ghost use Rattle.cord_plan.specs.inner.Places.{AreNumbers};
-ghost use Rattle.cord_plan.specs.inner.Recent.{AreFor, IsRecent, Puts, entry_at, is_before, is_after, unless_after};
+ghost use Rattle.cord_plan.specs.inner.Recent.{AreFor, IsRecent, PutsPlaces, entry_at, is_before, is_after, unless_after};
 
 use crate::flow::liveness::Later;
 use crate::flow::numbering::LineNumbers;
@@ -70,7 +70,7 @@ pub(crate) fn is_before(place: Option<usize>, other: usize) -> bool
 /// Puts an entry for the name of a number, where there is one.
 pub(crate) fn put(places: &mut [Option<usize>], number: Option<usize>, entry: Option<usize>)
     ensures { (t : Numbering) (o : Option (List ℕ)) → IsNumberIn t o number → AreFor t places.old →
-        Puts t (λ x. is_name o x) entry places.old places.new }
+        PutsPlaces t (λ x. is_name o x) entry places.old places.new }
 {
     match number {
         None => {}
@@ -85,7 +85,7 @@ pub(crate) fn put(places: &mut [Option<usize>], number: Option<usize>, entry: Op
 /// Notes a place for the names of these numbers.
 pub(crate) fn note_all(places: &mut [Option<usize>], numbers: &[usize], place: usize)
     ensures { (t : Numbering) (xs : List (List ℕ)) → AreNumbers (names_of t) xs numbers.now → AreFor t places.old →
-        Puts t (λ x. has xs x) (Some place) places.old places.new }
+        PutsPlaces t (λ x. has xs x) (Some place) places.old places.new }
 {
     for number in numbers {
         put(places, Some(*number), Some(place));

@@ -7,7 +7,7 @@ ghost use Rattle.cord_plan.specs.Exprs.{members, names, parts};
 ghost use Rattle.cord_plan.specs.Inlined.{expr_of, expr_with};
 ghost use Rattle.cord_plan.specs.declared.flow.numbering.Numbering.{Numbering};
 ghost use Rattle.cord_plan.specs.inner.Choices.{choice_view, expression_in, room_left, simple_operands};
-ghost use Rattle.cord_plan.specs.inner.ExpressionFacts.{HasFacts, IsFacts, IsFrom, AreFactsOf};
+ghost use Rattle.cord_plan.specs.inner.ExpressionFacts.{HasFacts, IsFacts, IsChoiceOf, AreFactsOf};
 ghost use Rattle.cord_plan.specs.inner.Numbering.{IsNumbered, number_of};
 ghost use Rattle.cord_plan.specs.Exprs.{lacks};
 
@@ -120,7 +120,7 @@ impl ExpressionFacts {
     // What is known of what stands for an operand, whose name has this number.
     fn of_choice(&self, choice: &Choice, number: Option<usize>) -> Option<Facts>
         ensures { (t : Numbering) (table : List (Option plain.Expr)) (x : List ℕ) → AreFactsOf t table self.now →
-            number ≡ number_of t x → IsFrom table x (choice_view choice.now) →
+            number ≡ number_of t x → IsChoiceOf table x (choice_view choice.now) →
             IfSome result (λ f. IsFacts t (expr_of (choice_view choice.now)) f) }
     {
         match choice {
@@ -132,7 +132,7 @@ impl ExpressionFacts {
     // What is known of the expression of a line, where this stands for its operand.
     fn of_one(&self, statement: &Statement, choice: &Choice, number: Option<usize>) -> Option<Facts>
         ensures { (t : Numbering) (table : List (Option plain.Expr)) (x : List ℕ) → AreFactsOf t table self.now →
-            number ≡ number_of t x → IsFrom table x (choice_view choice.now) →
+            number ≡ number_of t x → IsChoiceOf table x (choice_view choice.now) →
             IfSome result (λ f. HasFacts t (expr_with statement.now (expr_of (choice_view choice.now) ∷ [])) f) }
     {
         match statement {
@@ -155,8 +155,8 @@ impl ExpressionFacts {
         second: Option<usize>,
     ) -> Option<Facts>
         ensures { (t : Numbering) (table : List (Option plain.Expr)) (x y : List ℕ) → AreFactsOf t table self.now →
-            first ≡ number_of t x → IsFrom table x (choice_view left.now) →
-            second ≡ number_of t y → IsFrom table y (choice_view right.now) →
+            first ≡ number_of t x → IsChoiceOf table x (choice_view left.now) →
+            second ≡ number_of t y → IsChoiceOf table y (choice_view right.now) →
             IfSome result (λ f. IsFacts t (plain.cat (members
             (expr_of (choice_view left.now) ∷ expr_of (choice_view right.now) ∷ []))) f) }
     {
@@ -186,7 +186,7 @@ impl ExpressionFacts {
         ensures { (t : Numbering) (table : List (Option plain.Expr)) (x : List ℕ) → AreFactsOf t table self.old →
             length table ≡ line.now.place → simple_operands line.now.statement.now ≡ Some (x ∷ []) →
             IsNumbered t line.now.statement.now line.now.numbers →
-            IsFrom table x (choice_view choice.now) → AreFactsOf t (table ++ expr_with line.now.statement.now
+            IsChoiceOf table x (choice_view choice.now) → AreFactsOf t (table ++ expr_with line.now.statement.now
             (expr_of (choice_view choice.now) ∷ []) ∷ []) self.new }
     {
         let number = number_at(line.numbers.read, 0);
@@ -199,7 +199,7 @@ impl ExpressionFacts {
         ensures { (t : Numbering) (table : List (Option plain.Expr)) (x y : List ℕ) → AreFactsOf t table self.old →
             length table ≡ line.now.place → simple_operands line.now.statement.now ≡ Some (x ∷ y ∷ []) →
             IsNumbered t line.now.statement.now line.now.numbers →
-            IsFrom table x (choice_view left.now) → IsFrom table y (choice_view right.now) →
+            IsChoiceOf table x (choice_view left.now) → IsChoiceOf table y (choice_view right.now) →
             AreFactsOf t (table ++ expr_with line.now.statement.now
             (expr_of (choice_view left.now) ∷ expr_of (choice_view right.now) ∷ []) ∷ []) self.new }
     {

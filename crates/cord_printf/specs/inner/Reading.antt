@@ -51,13 +51,13 @@ abbrev pub IsNoLetter : ℕ → Type 0
 IsNoLetter b = (b ≢ 100) × (b ≢ 105) × (b ≢ 117) × (b ≢ 111) × (b ≢ 120) × (b ≢ 88) × (b ≢ 99) × (b ≢ 115) × (b ≢ 114) × (b ≢ 37)
 
 -- the piece may be written with these parts
-abbrev pub IsAllowed : Piece → (marks digits point modifier : List ℕ) → Type 0
-IsAllowed (Text t) marks digits point modifier = ⊥
-IsAllowed (Signed flags width precision) marks digits point modifier = length modifier ≤ 2
-IsAllowed (Unsigned radix flags width precision) marks digits point modifier = (flags.plus ≡ false) × (length modifier ≤ 2)
-IsAllowed (Byte flags width) marks digits point modifier = (flags.zero ≡ false) × (flags.plus ≡ false) × (point ≡ []) × (modifier ≡ [])
-IsAllowed (Cord flags width precision) marks digits point modifier = (flags.zero ≡ false) × (flags.plus ≡ false) × (modifier ≡ [])
-IsAllowed Percent marks digits point modifier = (marks ≡ []) × (digits ≡ []) × (point ≡ []) × (modifier ≡ [])
+abbrev pub IsAllowedSpelling : Piece → (marks digits point modifier : List ℕ) → Type 0
+IsAllowedSpelling (Text t) marks digits point modifier = ⊥
+IsAllowedSpelling (Signed flags width precision) marks digits point modifier = length modifier ≤ 2
+IsAllowedSpelling (Unsigned radix flags width precision) marks digits point modifier = (flags.plus ≡ false) × (length modifier ≤ 2)
+IsAllowedSpelling (Byte flags width) marks digits point modifier = (flags.zero ≡ false) × (flags.plus ≡ false) × (point ≡ []) × (modifier ≡ [])
+IsAllowedSpelling (Cord flags width precision) marks digits point modifier = (flags.zero ≡ false) × (flags.plus ≡ false) × (modifier ≡ [])
+IsAllowedSpelling Percent marks digits point modifier = (marks ≡ []) × (digits ≡ []) × (point ≡ []) × (modifier ≡ [])
 
 -- what stands where a precision may
 abbrev pub IsPointed : List ℕ → Type 0

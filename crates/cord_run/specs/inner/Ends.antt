@@ -6,8 +6,8 @@ use Rattle.cord_meaning.specs.declared.ends.End.{End}
 use Rattle.cord_meaning.specs.declared.ends.End.TheVariants as ends
 
 -- it finished
-abbrev pub Finishes : SinkCounts → Type 0
-Finishes n = (n.failed_after ≡ n.failed_before) × (n.ended_after ≡ n.ended_before + 1)
+abbrev pub HasFinished : SinkCounts → Type 0
+HasFinished n = (n.failed_after ≡ n.failed_before) × (n.ended_after ≡ n.ended_before + 1)
 
 -- it failed to finish
 abbrev pub FailsToFinish : SinkCounts → Type 0
@@ -26,4 +26,4 @@ abbrev pub Closes : SinkCounts → End → End → Type 0
 Closes n (ends.WriteFailed line) reported = (reported ≡ ends.WriteFailed line) × IsLeftAlone n
 Closes n (ends.ReadFailed line) reported = (reported ≡ ends.ReadFailed line) × IsAskedOnce n
 Closes n (ends.NoMemory line) reported = (reported ≡ ends.NoMemory line) × IsAskedOnce n
-Closes n own reported = ((reported ≡ own) × Finishes n) ⊎ ((reported ≡ ends.WriteFailed 0) × FailsToFinish n)
+Closes n own reported = ((reported ≡ own) × HasFinished n) ⊎ ((reported ≡ ends.WriteFailed 0) × FailsToFinish n)

@@ -14,13 +14,13 @@ IsExtent entries (Joined e) len = extent_in entries e ≡ Ok len
 IsExtent entries _ len = ⊤
 
 -- an expression is joined, of this length, unless that is more than a cord can have
-abbrev pub IsKnown : List Entry → Made → ℕ → Type 0
-IsKnown entries (Joined e) len = extent_in entries e ≡ as_length MAX_LEN len
-IsKnown entries _ len = ⊥
+abbrev pub IsKnownLength : List Entry → Made → ℕ → Type 0
+IsKnownLength entries (Joined e) len = extent_in entries e ≡ as_length MAX_LEN len
+IsKnownLength entries _ len = ⊥
 
 -- an operation measures what has this length
 abbrev pub IsKnownOf : List Entry → Operation → ℕ → Type 0
-IsKnownOf entries (Measure line x made) len = IsKnown entries made len
+IsKnownOf entries (Measure line x made) len = IsKnownLength entries made len
 IsKnownOf entries _ len = ⊥
 
 -- the operation at a place does, where there is one

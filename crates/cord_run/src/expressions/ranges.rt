@@ -9,8 +9,8 @@ ghost use Rattle.cord_plan.specs.Values.{measured_copies};
 ghost use Rattle.cord_plan.specs.Views.{expr_view, members_view};
 ghost use Rattle.cord_run.specs.inner.Extents.{extent_in, members_extent, members_seen};
 ghost use Rattle.cord_run.specs.inner.Entries.{content_in, cord_in, length_in, operand_in};
-ghost use Rattle.cord_run.specs.inner.Ranges.{AddsCopies, AddsExpression, AddsMembers, AddsCordRange, AddsRun, AreFew};
-ghost use Rattle.cord_run.specs.inner.Ranges.{IsAfter, IsInside, IsOutside, IsPast};
+ghost use Rattle.cord_run.specs.inner.Ranges.{AddsCopies, AddsExpression, AddsMembers, AddsCordRange, AddsRun, AddsFew};
+ghost use Rattle.cord_run.specs.inner.Ranges.{IsAfter, IsInnerWanted, IsOutside, IsPast};
 ghost use Rattle.cord_run.specs.inner.Origins.{AddsAtMostOne, AreCopies, IsCutOf};
 
 use crate::checks::as_index;
@@ -62,7 +62,7 @@ impl Wanted {
     // What is wanted of a text, where this is wanted of at most so many bytes of it from a place on.
     fn inside(self, start: u64, most: u64) -> Wanted
         requires { start + most < 2 ^ 64 }
-        ensures { IsInside start most self result }
+        ensures { IsInnerWanted start most self result }
     {
         Wanted {
             skip: start + self.skip.min(most),
@@ -95,7 +95,7 @@ pub(crate) fn add_range(
     ensures added { IfOk result (λ _. AddsExpression store.now.entries.items
         (expr_view expression.now) wanted pieces.old.items pieces.new.items) }
     ensures past { IfOk result (IsAfter (extent_in store.now.entries.items (expr_view expression.now)) wanted) }
-    ensures few { IfOk result (λ after. AreFew wanted after pieces.old.items pieces.new.items) }
+    ensures few { IfOk result (λ after. AddsFew wanted after pieces.old.items pieces.new.items) }
     ensures refused { IsOkUnless result CordError.NoMemory }
 {
     match expression {
@@ -127,7 +127,7 @@ fn add_members(
     ensures added { IfOk result (λ _. AddsMembers store.now.entries.items
         (members_view members.now) wanted pieces.old.items pieces.new.items) }
     ensures past { IfOk result (IsAfter (members_extent store.now.entries.items (members_view members.now)) wanted) }
-    ensures few { IfOk result (λ after. AreFew wanted after pieces.old.items pieces.new.items) }
+    ensures few { IfOk result (λ after. AddsFew wanted after pieces.old.items pieces.new.items) }
     ensures refused { IsOkUnless result CordError.NoMemory }
 {
     let (prefix, rest) = members.halves();
@@ -152,7 +152,7 @@ fn add_all(
     ensures added { IfOk result (λ _. AddsMembers store.now.entries.items
         (members_seen members.now) wanted pieces.old.items pieces.new.items) }
     ensures past { IfOk result (IsAfter (members_extent store.now.entries.items (members_seen members.now)) wanted) }
-    ensures few { IfOk result (λ after. AreFew wanted after pieces.old.items pieces.new.items) }
+    ensures few { IfOk result (λ after. AddsFew wanted after pieces.old.items pieces.new.items) }
     ensures refused { IsOkUnless result CordError.NoMemory }
 {
     let mut left = wanted;
@@ -190,7 +190,7 @@ fn add_name(
     ensures in_turn { IfOk result (λ _. AddsAtMostOne (IsCutOf (cord_in (content_in store.now.entries.items name.now)))
         pieces.old.items pieces.new.items) }
     ensures past { IfOk result (IsPast (length_in store.now.entries.items name.now) wanted) }
-    ensures few { IfOk result (λ after. AreFew wanted after pieces.old.items pieces.new.items) }
+    ensures few { IfOk result (λ after. AddsFew wanted after pieces.old.items pieces.new.items) }
     ensures refused { IsOkUnless result CordError.NoMemory }
 {
     match store.cord_of(name) {
@@ -209,7 +209,7 @@ fn add_cord_range(
     ensures added { IfOk result (λ _. AddsCordRange cord.now wanted pieces.old.items pieces.new.items) }
     ensures in_turn { IfOk result (λ _. AddsAtMostOne (IsCutOf cord.now) pieces.old.items pieces.new.items) }
     ensures past { IfOk result (IsPast (text_len cord.now) wanted) }
-    ensures few { IfOk result (λ after. AreFew wanted after pieces.old.items pieces.new.items) }
+    ensures few { IfOk result (λ after. AddsFew wanted after pieces.old.items pieces.new.items) }
     ensures refused { IsOkUnless result CordError.NoMemory }
 {
     let len = cord.len();
@@ -238,7 +238,7 @@ fn add_run(
     ensures past { IfOk result
         (IsAfter (measured_copies MAX_LEN (operand_in store.now.entries.items byte.now)
         (operand_in store.now.entries.items count.now)) wanted) }
-    ensures few { IfOk result (λ after. AreFew wanted after pieces.old.items pieces.new.items) }
+    ensures few { IfOk result (λ after. AddsFew wanted after pieces.old.items pieces.new.items) }
     ensures refused { IsOkUnless result CordError.NoMemory }
 {
     let copies = match copies_asked(store.value_of(byte), store.value_of(count)) {

@@ -6,11 +6,11 @@ ghost use Rattle.cord_meaning.specs.State as meant;
 ghost use Rattle.cord_node.specs.Tables.{lengths_of};
 ghost use Rattle.cord_syntax.specs.Families.{statement_of};
 ghost use Rattle.cord_syntax.specs.declared.families.Family.TheVariants as families;
-ghost use Rattle.cord_run.specs.inner.Extensibles.{Becomes, GrowsByByte, IsTaken, longer_text, refusal_of};
+ghost use Rattle.cord_run.specs.inner.Extensibles.{Becomes, GrowsByByte, IsTakenOut, longer_text, refusal_of};
 ghost use Rattle.cord_run.specs.inner.Numbers.{text_over};
 ghost use Rattle.cord_run.specs.inner.Entries.{HasExtensible, IsOver};
 ghost use Rattle.cord_run.specs.inner.Statements.{MeansOver, StaysOver};
-ghost use Rattle.cord_run.specs.inner.Outcomes.{CountsReads};
+ghost use Rattle.cord_run.specs.inner.Outcomes.{CountsReadStop};
 
 use crate::checks::as_byte;
 use crate::statements::numbers::cord_or;
@@ -31,7 +31,7 @@ pub(crate) fn serve_growth(alloc: Global, store: &mut Store, growth: Growth<'_>)
     ensures means { (t : Table) → IsOver (lengths_of t) store.old.entries.items → (line : ℕ) →
         MeansOver t (statement_of line (families.Growth growth.entry)) store.old.entries.items
         store.new.entries.items result }
-    ensures counts { (n : ℕ) → CountsReads n n result }
+    ensures counts { (n : ℕ) → CountsReadStop n n result }
 {
     match growth {
         Growth::EcInit { target } => begin(alloc, store, target),
@@ -122,7 +122,7 @@ fn refusal(error: CordError) -> Stop
 
 // The extensible cord of a name, taken out of its entry: an empty one where it was not begun.
 fn taken(alloc: Global, store: &mut Store, name: &Name) -> Result<ExtCord, Stop>
-    ensures taken { IfOk result (λ e. IsTaken name.now store.old.entries.items store.new.entries.items e.text) }
+    ensures taken { IfOk result (λ e. IsTakenOut name.now store.old.entries.items store.new.entries.items e.text) }
     ensures refused { IfErr result (λ stop. stop ≡ Stop.NoMemory) }
 {
     match store.take_extensible(name) {

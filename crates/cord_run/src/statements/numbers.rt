@@ -10,10 +10,10 @@ ghost use Rattle.cord_syntax.specs.Targets.{target_of};
 ghost use Rattle.cord_syntax.specs.declared.families.Family.TheVariants as families;
 ghost use Rattle.cord_syntax.specs.declared.statements.Statement.{Statement};
 ghost use Rattle.cord_syntax.specs.declared.statements.Statement.TheVariants as statements;
-ghost use Rattle.cord_run.specs.inner.Numbers.{CountsFinding, FindsOver, HasRead, in_i64, number_or_stop};
+ghost use Rattle.cord_run.specs.inner.Numbers.{CountsFinding, FindsOver, HasReadForNumber, in_i64, number_or_stop};
 ghost use Rattle.cord_run.specs.inner.Entries.{content_in, cord_in, HasNumber, IsOver, length_in};
 ghost use Rattle.cord_run.specs.inner.Statements.{MeansOver, StaysOver};
-ghost use Rattle.cord_run.specs.inner.Outcomes.{CountsReads};
+ghost use Rattle.cord_run.specs.inner.Outcomes.{CountsReadStop};
 
 use crate::statements::searches::{
     Direction, byte_found, compared, fetched, ranges_compared, text_found,
@@ -36,7 +36,7 @@ pub(crate) fn assign_found(
     ensures means { (t : Table) → FindsOver t statement.now store.old.entries.items number →
         IsSome (target_of statement.now) →
         MeansOver t statement.now store.old.entries.items store.new.entries.items result }
-    ensures counts { (before after : ℕ) → CountsFinding before after number → CountsReads before after result }
+    ensures counts { (before after : ℕ) → CountsFinding before after number → CountsReadStop before after result }
 {
     let number = number?;
     match statement.target() {
@@ -65,7 +65,7 @@ pub(crate) fn serve_computation(store: &mut Store, computation: Computation<'_>)
     ensures means { (t : Table) → IsOver (lengths_of t) store.old.entries.items → (line : ℕ) →
         MeansOver t (statement_of line (families.Computation computation.entry)) store.old.entries.items
         store.new.entries.items result }
-    ensures counts { (n : ℕ) → CountsReads n n result }
+    ensures counts { (n : ℕ) → CountsReadStop n n result }
 {
     match computation {
         Computation::Len { target, operand } => {
@@ -106,7 +106,7 @@ fn give_computed(
     ensures means { (t : Table) (l : Statement) →
         FindsOver t l store.old.entries.items (number_or_stop number) → target_of l ≡ Some target.now →
         MeansOver t l store.old.entries.items store.new.entries.items result }
-    ensures counts { (n : ℕ) → CountsReads n n result }
+    ensures counts { (n : ℕ) → CountsReadStop n n result }
 {
     match number {
         Ok(number) => give_number(store, target, number),
@@ -133,7 +133,7 @@ pub(crate) fn look_number<R: Source>(
     ensures found { (file_system : FileSystem) → R.consistent source.new file_system → (line : ℕ) →
         FindsOver (R.table source.old file_system) (statement_of line (families.Look look.entry))
         store.now.entries.items result }
-    ensures read { HasRead ⟦<R as Source>⟧ source.old source.new result }
+    ensures read { HasReadForNumber ⟦<R as Source>⟧ source.old source.new result }
 {
     let empty = Cord::empty();
     match look {
@@ -178,7 +178,7 @@ fn ranges_number<R: Source>(
     ensures found { (file_system : FileSystem) → R.consistent source.new file_system → (line : ℕ) (target : List ℕ) →
         FindsOver (R.table source.old file_system) (statements.Ncmp line target left.now left_start.now right.now
         right_start.now count.now) store.now.entries.items result }
-    ensures read { HasRead ⟦<R as Source>⟧ source.old source.new result }
+    ensures read { HasReadForNumber ⟦<R as Source>⟧ source.old source.new result }
 {
     let empty = Cord::empty();
     ranges_compared(
@@ -201,7 +201,7 @@ pub(crate) fn search_number<R: Source>(
     ensures found { (file_system : FileSystem) → R.consistent source.new file_system → (line : ℕ) →
         FindsOver (R.table source.old file_system) (statement_of line (families.Search search.entry))
         store.now.entries.items result }
-    ensures read { HasRead ⟦<R as Source>⟧ source.old source.new result }
+    ensures read { HasReadForNumber ⟦<R as Source>⟧ source.old source.new result }
 {
     let empty = Cord::empty();
     match search {

@@ -6,7 +6,7 @@ ghost use Rattle.cord_io.specs.declared.TheConstants.{MAX_LEN};
 ghost use Rattle.cord_meaning.specs.State as meant;
 ghost use Rattle.cord_meaning.specs.Statements as statements;
 ghost use Rattle.cord_run.specs.inner.Frames.{IsSameSource};
-ghost use Rattle.cord_run.specs.inner.Numbers.{byte_place, fetched, Finds, HasRead, nearest, ranges_order};
+ghost use Rattle.cord_run.specs.inner.Numbers.{byte_place, fetched, Finds, HasReadForNumber, nearest, ranges_order};
 ghost use Rattle.cord_run.specs.inner.Numbers.{Refuses, text_place};
 ghost use Rattle.cord_io.specs.Device.{FileSystem, count_after};
 
@@ -30,7 +30,7 @@ pub(crate) fn fetched<R: Source>(cord: &Cord, index: i64, source: &mut R) -> Res
     requires fits { CordFitsIn (R.lengths source.old) cord.now }
     ensures found { (file_system : FileSystem) → R.consistent source.new file_system →
         Finds (fetched (bytes_of (R.table source.old file_system) cord.now) index) result }
-    ensures read { HasRead ⟦<R as Source>⟧ source.old source.new result }
+    ensures read { HasReadForNumber ⟦<R as Source>⟧ source.old source.new result }
 {
     let index = checked_index(index)?;
     if cord.len() <= index {
@@ -49,7 +49,7 @@ pub(crate) fn compared<R: Source>(left: &Cord, right: &Cord, source: &mut R) -> 
     ensures found { (file_system : FileSystem) → R.consistent source.new file_system →
         Finds (Ok (order (bytes_of (R.table source.old file_system) left.now)
         (bytes_of (R.table source.old file_system) right.now))) result }
-    ensures read { HasRead ⟦<R as Source>⟧ source.old source.new result }
+    ensures read { HasReadForNumber ⟦<R as Source>⟧ source.old source.new result }
 {
     match cord_search::cmp(left, right, source) {
         Ok(sign) => Ok(i64::from(sign)),
@@ -72,7 +72,7 @@ pub(crate) fn ranges_compared<R: Source>(
     ensures found { (file_system : FileSystem) → R.consistent source.new file_system →
         Finds (ranges_order (bytes_of (R.table source.old file_system) left.now) left_start
         (bytes_of (R.table source.old file_system) right.now) right_start count) result }
-    ensures read { HasRead ⟦<R as Source>⟧ source.old source.new result }
+    ensures read { HasReadForNumber ⟦<R as Source>⟧ source.old source.new result }
 {
     let left_index = checked_index(left_start)?;
     let right_index = checked_index(right_start)?;
@@ -95,7 +95,7 @@ pub(crate) fn text_found<R: Source>(
     ensures found { (file_system : FileSystem) → R.consistent source.new file_system →
         Finds (text_place (bytes_of (R.table source.old file_system) cord.now) start
         (bytes_of (R.table source.old file_system) pattern.now)) result }
-    ensures read { HasRead ⟦<R as Source>⟧ source.old source.new result }
+    ensures read { HasReadForNumber ⟦<R as Source>⟧ source.old source.new result }
 {
     let index = checked_index(start)?;
     let len = cord.len();
@@ -116,7 +116,7 @@ pub(crate) fn byte_found<R: Source>(
     requires fits { CordFitsIn (R.lengths source.old) cord.now }
     ensures found { (file_system : FileSystem) → R.consistent source.new file_system →
         Finds (byte_place direction (bytes_of (R.table source.old file_system) cord.now) start byte) result }
-    ensures read { HasRead ⟦<R as Source>⟧ source.old source.new result }
+    ensures read { HasReadForNumber ⟦<R as Source>⟧ source.old source.new result }
 {
     let index = checked_index(start)?;
     let wanted = checked_byte(byte)?;

@@ -2,7 +2,7 @@
 ghost use Rattle.std.specs.Prelude.{◌≡◌, ◌<◌, ℕ, List, true, length, Err, IfErr, IfOk, IsErr};
 ghost use Rattle.cord_core.specs.Cord.{text_len};
 ghost use Rattle.cord_core.specs.Refusals.{IsRefusal};
-ghost use Rattle.cord_run.specs.inner.Edits.{HasSplice, IsContentSpliced, IsWhole, IsWholeAt, spliced_len};
+ghost use Rattle.cord_run.specs.inner.Edits.{HasSplice, IsContentSpliced, IsWholeContent, IsWholeAt, spliced_len};
 ghost use Rattle.cord_run.specs.inner.Entries.{are_distinct, cells_in, content_in, cord_in, extensible_in, names_in};
 ghost use Rattle.cord_run.specs.inner.Entries.{HasContent};
 ghost use Rattle.cord_run.specs.inner.Entries.{HasExtensible, HasNumber, IsEntryAt};
@@ -83,7 +83,7 @@ fn splice_within(
     count: u64,
     middle: &Cord,
 ) -> Result<(), CordError>
-    requires { IsWhole content.old }
+    requires { IsWholeContent content.old }
     ensures spliced { IfOk result (λ _. IsContentSpliced start count middle.now content.old content.new) }
     ensures too_long { result ≡ Err CordError.TooLong →
         MAX_LEN < spliced_len start count middle.now (text_len (cord_in content.old)) }

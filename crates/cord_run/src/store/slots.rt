@@ -1,6 +1,6 @@
 // The slots of names among the entries.
 ghost use Rattle.std.specs.Prelude.{◌≡◌, ◌<◌, true, length, IfOk, IfSome, IfNone};
-ghost use Rattle.cord_run.specs.inner.Entries.{are_distinct, names_in, HasNoEntry, IsEntryAt, IsFirst, SameEntries};
+ghost use Rattle.cord_run.specs.inner.Entries.{are_distinct, names_in, HasNoEntry, IsEntryAt, IsFirstEntry, SameEntries};
 
 use crate::store::{Content, Entry};
 use cord_core::Cord;
@@ -25,7 +25,7 @@ fn is_at(entries: &[Entry], place: usize, name: &Name) -> bool
 #[inline(always)]
 pub(crate) fn entry_by<'a>(entries: &'a [Entry], name: &Name) -> Option<&'a Entry>
     requires distinct { are_distinct (names_in entries.now) ≡ true }
-    ensures some { IfSome result (λ entry. IsFirst entries.now name.now entry.now) }
+    ensures some { IfSome result (λ entry. IsFirstEntry entries.now name.now entry.now) }
     ensures none { IfNone result (HasNoEntry entries.now name.now) }
 {
     let hint = name.hint();
@@ -39,7 +39,7 @@ pub(crate) fn entry_by<'a>(entries: &'a [Entry], name: &Name) -> Option<&'a Entr
 #[cold]
 #[inline(never)]
 fn entry_of<'a>(entries: &'a [Entry], name: &Name) -> Option<&'a Entry>
-    ensures some { IfSome result (λ entry. IsFirst entries.now name.now entry.now) }
+    ensures some { IfSome result (λ entry. IsFirstEntry entries.now name.now entry.now) }
     ensures none { IfNone result (HasNoEntry entries.now name.now) }
 {
     let place = find_slot(entries, name)?;

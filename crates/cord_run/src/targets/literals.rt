@@ -1,7 +1,7 @@
 // Cords of literals and of functions.
 ghost use Rattle.std.specs.Prelude.{◌≡◌, ◌<◌, ◌≤◌, Err, IfErr, IfOk, IsOkUnless, length};
 ghost use Rattle.cord_core.specs.Refusals.{IsRefusal};
-ghost use Rattle.cord_run.specs.inner.Contents.{IsStopBy, IsStartAsked, IsStartOf, IsTextOf, function_source, start_extent};
+ghost use Rattle.cord_run.specs.inner.Contents.{IsStopBy, IsStartAsked, IsStartOf, IsCordOfText, function_source, start_extent};
 
 use crate::checks::{as_index, as_length};
 use crate::stops::Stop;
@@ -17,7 +17,7 @@ const LEAF: usize = 4_096;
 
 /// The cord of a literal text. `TooLong` where it is longer than `MAX_LEN`.
 pub(crate) fn literal(alloc: Global, text: &[u8]) -> Result<Cord, CordError>
-    ensures made { IfOk result (IsTextOf text.now) }
+    ensures made { IfOk result (IsCordOfText text.now) }
     ensures too_long { result ≡ Err CordError.TooLong → MAX_LEN < length text.now }
     ensures refused { IfErr result IsRefusal }
 {
@@ -31,7 +31,7 @@ pub(crate) fn literal(alloc: Global, text: &[u8]) -> Result<Cord, CordError>
 #[cold]
 #[inline(never)]
 fn gathered(alloc: Global, text: &[u8]) -> Result<Cord, CordError>
-    ensures made { IfOk result (IsTextOf text.now) }
+    ensures made { IfOk result (IsCordOfText text.now) }
     ensures too_long { result ≡ Err CordError.TooLong → MAX_LEN < length text.now }
     ensures refused { IfErr result IsRefusal }
 {
@@ -49,9 +49,7 @@ pub(crate) fn start(alloc: Global, function: Function, count: i64) -> Result<Cor
 {
     match start_length(count) {
         Err(kind) => Err(Stop::Fault(kind)),
-        Ok(len) => {
-            Ok(start_of(alloc, function, len)?)
-        }
+        Ok(len) => Ok(start_of(alloc, function, len)?),
     }
 }
 

@@ -54,7 +54,7 @@ pub record PassesWord (old : LineView) (word : Word) (new : LineView) : Type 0 w
   pub path : new.path ≡ old.path
 
 -- one word was read, which says a term that is allowed; what the term adds was added
-pub record Gives (old : LineView) (t : Term) (new : LineView) : Type 0 where
+pub record GivesTerm (old : LineView) (t : Term) (new : LineView) : Type 0 where
   pub word : Word
   pub has : HasWord old.rest word new.rest
   pub says : IsTerm word t
@@ -66,10 +66,10 @@ pub record Gives (old : LineView) (t : Term) (new : LineView) : Type 0 where
 -- words were read that say these terms, one after another
 unfoldable pub GivesAll : LineView → List Term → LineView → Type 0
 GivesAll a [] b = a ≡ b
-GivesAll a (t ∷ ts) b = (c : LineView) × Gives a t c × GivesAll c ts b
+GivesAll a (t ∷ ts) b = (c : LineView) × GivesTerm a t c × GivesAll c ts b
 
 -- a statement of the verb at the line, of the words that were read
-pub record IsBuilt (verb : Verb) (line : ℕ) (old new : LineView) (s : Statement) : Type 0 where
+pub record IsStatementBuilt (verb : Verb) (line : ℕ) (old new : LineView) (s : Statement) : Type 0 where
   pub word : word_of s ≡ verb_word verb
   pub effect : effect_of s ≡ verb_effect verb
   pub numbered : line_of s ≡ line

@@ -18,7 +18,7 @@ abbrev pub TakesLine : ℕ → List ℕ → Scope → Scope → List Statement �
 TakesLine n line old new ss grown = (found : Option Statement) × ReadsLine n line old new found × (grown ≡ ss ++ option_to_list found)
 
 -- the words of a line say a statement, which is added to the others
-pub record Adds (n : ℕ) (line : List ℕ) (old new : Scope) (ss grown : List Statement) : Type 0 where
+pub record AddsStatement (n : ℕ) (line : List ℕ) (old new : Scope) (ss grown : List Statement) : Type 0 where
   pub words : List Word
   pub has : HasWords line words
   pub statement : Statement
@@ -32,7 +32,7 @@ HasWrong line scope kind = (¬ IsIdle line) × (HasBadBytes line kind ⊎
     ((words : List Word) × HasWords line words × HasBadWords whole scope words kind))
 
 -- the lines that were read in front of the rest, what they say, and what they leave
-pub record HasRead (b rest : List ℕ) (n : ℕ) (scope : Scope) (statements : List Statement) : Type 0 where
+pub record HasReadLines (b rest : List ℕ) (n : ℕ) (scope : Scope) (statements : List Statement) : Type 0 where
   pub prefix : List (List ℕ)
   pub split : (later : List (List ℕ)) → IsSplit rest later → IsSplit b (prefix ++ later)
   pub say : LinesSay whole 1 start prefix statements

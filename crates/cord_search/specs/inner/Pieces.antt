@@ -14,8 +14,8 @@ abbrev pub IsPieceOf : Table → Option Node → ℕ → List ℕ → Type 0
 IsPieceOf t c place xs = xs ≡ take (length xs) (drop place (bytes_of t c))
 
 -- the first n bytes of a list are those of the cord's text from the place on
-abbrev pub IsFilled : Table → Option Node → ℕ → ℕ → List ℕ → Type 0
-IsFilled t c place n xs = take n xs ≡ take n (drop place (bytes_of t c))
+abbrev pub HoldsText : Table → Option Node → ℕ → ℕ → List ℕ → Type 0
+HoldsText t c place n xs = take n xs ≡ take n (drop place (bytes_of t c))
 
 -- the answer says whether s stands in the text of x over the table at the place
 abbrev pub IsStanding : Table → Option Node → ℕ → Option Node → Bool → Type 0

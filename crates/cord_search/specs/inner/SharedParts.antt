@@ -44,7 +44,7 @@ abbrev pub AreAlike : Option Node → ℕ → Option Node → ℕ → ℕ → Ty
 AreAlike c i d j n = (t : Table) → CordFits t c → CordFits t d → take n (drop i (bytes_of t c)) ≡ take n (drop j (bytes_of t d))
 
 -- what two cords have at two places: up to `most` bytes that are the same, or spans of one length
-abbrev pub IsAhead : Option Node → ℕ → Option Node → ℕ → ℕ → Ahead → Type 0
-IsAhead c i d j most (Same n) = (0 < n) × (n ≤ most) × AreAlike c i d j n
-IsAhead c i d j most (Apart s other) = IsSpanOf c i s × IsSpanOf d j other × (span_len other ≡ span_len s) ×
+abbrev pub IsCommonAhead : Option Node → ℕ → Option Node → ℕ → ℕ → Ahead → Type 0
+IsCommonAhead c i d j most (Same n) = (0 < n) × (n ≤ most) × AreAlike c i d j n
+IsCommonAhead c i d j most (Apart s other) = IsSpanOf c i s × IsSpanOf d j other × (span_len other ≡ span_len s) ×
     (span_len s ≤ most)

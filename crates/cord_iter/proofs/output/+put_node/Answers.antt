@@ -1,5 +1,5 @@
 use Rattle.cord_iter.specs.Output.{Takes}
-use Rattle.cord_iter.specs.inner.Output.{IsTextOver, IsPrefixOver}
+use Rattle.cord_iter.specs.inner.Output.{IsTextRead, IsPrefixOver}
 use Rattle.cord_iter.proofs.Takes.{AreSides, cat_sides, cat_text, cat_left, cat_right, takes_both, takes_such, on_err}
 use Rattle.cord_iter.proofs.output.+put_node.Goals as goal
 
@@ -23,7 +23,7 @@ returns-in_err-put_node-in-Cat-2-clause-prefix g t c =
     let left = c.in-Cat.left.value in
     let right = c.in-Cat.right.value in
     let sides : AreSides left right node = cat_sides _ left _ right _ _ _ _ node c.in-Cat.is c.requires.sound in
-    let first : Takes (IsTextOver (consistent c.put_node.new.src) table left) (g.W.Sink.taken c.args.sink.now)
+    let first : Takes (IsTextRead (consistent c.put_node.new.src) table left) (g.W.Sink.taken c.args.sink.now)
     (g.W.Sink.taken c.put_node.new.sink) = rw c.as_ref.ensures at c.in_ok-put_node-in-Cat.ensures.text in
     let second : Takes (IsPrefixOver (consistent c.put_node-in-Cat.new.src) table right) (g.W.Sink.taken c.put_node.new.sink)
     (g.W.Sink.taken c.put_node-in-Cat.new.sink) =
@@ -39,9 +39,9 @@ returns-in_ok-put_node-in-Cat-2-clause-text g t c =
     let left = c.in-Cat.left.value in
     let right = c.in-Cat.right.value in
     let sides : AreSides left right node = cat_sides _ left _ right _ _ _ _ node c.in-Cat.is c.requires.sound in
-    let first : Takes (IsTextOver (consistent c.put_node.new.src) table left) (g.W.Sink.taken c.args.sink.now)
+    let first : Takes (IsTextRead (consistent c.put_node.new.src) table left) (g.W.Sink.taken c.args.sink.now)
     (g.W.Sink.taken c.put_node.new.sink) = rw c.as_ref.ensures at c.in_ok-put_node-in-Cat.ensures.text in
-    let second : Takes (IsTextOver (consistent c.put_node-in-Cat.new.src) table right) (g.W.Sink.taken c.put_node.new.sink)
+    let second : Takes (IsTextRead (consistent c.put_node-in-Cat.new.src) table right) (g.W.Sink.taken c.put_node.new.sink)
     (g.W.Sink.taken c.put_node-in-Cat.new.sink) =
     rw (c.as_ref-in-Cat.ensures, c.put_node.ensures.source.table) at c.in_ok-put_node-in-Cat-2.ensures.text in
     takes_both first second (λ x y. cat_text table left right node x y sides c.put_node-in-Cat.ensures.source.earlier)

@@ -2,7 +2,7 @@ use Rattle.std.proofs.Common.{◌≡◌, ◌+◌, ◌≤◌, length, take, drop,
 use Rattle.std.proofs.lemmas.List.{length-take-le}
 use Rattle.cord_node.specs.declared.Node.TheVariants.{Func}
 use Rattle.cord_iter.specs.Output.{Takes}
-use Rattle.cord_iter.specs.inner.Output.{IsTextOver, IsPrefixOver}
+use Rattle.cord_iter.specs.inner.Output.{IsTextRead, IsPrefixOver}
 use Rattle.cord_iter.proofs.Takes.{takes_both, func_text, func_prefix, on_err}
 use Rattle.cord_iter.proofs.output.put_range.Goals as goal
 
@@ -29,7 +29,7 @@ loop-done-preserved g c =
     let most : count ≤ g.row.N = omega (arith, c.piece_len-count.ensures.most, c.most_of.ensures.inside) in
     let room : count ≤ length c.loop-done.buffer = subst (λ n. count ≤ n) (sym c.loop-done.invariant.room) most in
     let whole : length (take count c.loop-done.buffer) ≡ count = length-take-le count c.loop-done.buffer room in
-    let piece : Takes (IsTextOver (g.S.Source.consistent c.put_piece.new.src) table (Func c.args.id count (c.args.start + done)))
+    let piece : Takes (IsTextRead (g.S.Source.consistent c.put_piece.new.src) table (Func c.args.id count (c.args.start + done)))
     (g.W.Sink.taken c.loop-done.sink) (g.W.Sink.taken c.put_piece.new.sink) =
     rw (c.loop-done.invariant.table, whole) at c.in_ok-put_piece.ensures.text in
     record {

@@ -2,7 +2,7 @@ use Rattle.std.proofs.Common.{◌-◌, ◌≡◌, ◌≤◌, length}
 use Rattle.cord_io.specs.Device.{FileSystem}
 use Rattle.cord_node.specs.declared.Node.TheVariants.{Func}
 use Rattle.cord_iter.specs.Output.{Takes}
-use Rattle.cord_iter.specs.inner.Output.{IsTextOver}
+use Rattle.cord_iter.specs.inner.Output.{IsTextRead}
 use Rattle.cord_iter.proofs.output.put_range.Given as goal
 
 -- the first `done` bytes of the range were taken, and no device has failed
@@ -10,7 +10,7 @@ abbrev pub invariant-loop-done : goal.invariant-loop-done
 invariant-loop-done g l = record {
   in_range : l.done ≤ l.len;
   room : length l.buffer ≡ g.row.N;
-  taken : Takes (IsTextOver (g.S.Source.consistent l.src) (g.S.Source.table l.initial.src) (Func l.id l.done l.start))
+  taken : Takes (IsTextRead (g.S.Source.consistent l.src) (g.S.Source.table l.initial.src) (Func l.id l.done l.start))
       (g.W.Sink.taken l.initial.sink) (g.W.Sink.taken l.sink);
   reads : g.S.Source.failures l.src ≡ g.S.Source.failures l.initial.src;
   puts : g.W.Sink.failures l.sink ≡ g.W.Sink.failures l.initial.sink;

@@ -1,6 +1,6 @@
 use Rattle.std.proofs.Common.{◌≡◌, ◌∙◌, ℕ, ◌-◌, ◌<◌, ◌≤◌, take, drop, ap, arith, subst, sym}
 use Rattle.cord_lines.specs.Counts.{AreNarrow}
-use Rattle.cord_lines.specs.inner.Cuts.{IsCut}
+use Rattle.cord_lines.specs.inner.Cuts.{AreBlocksOf}
 use Rattle.cord_lines.proofs.Cuts.{one_piece_more, range_more, short, narrow}
 use Rattle.cord_lines.proofs.cutting.cut.Goals as goal
 use Rattle.cord_lines.proofs.cutting.cut.Goals.{then-to-place, else-to-place}
@@ -45,4 +45,4 @@ loop-place-preserved c =
 pub returns-clause-cut : goal.returns-clause-cut
 returns-clause-cut c =
     let all : c.loop-place.place ≡ c.args.to = omega (arith, c.loop-place.invariant.to, c.loop-place-test.false) in
-    subst (λ (n : ℕ). IsCut c.loop-place.blocks.items (take (n - c.args.from) (drop c.args.from c.args.text.now))) all c.loop-place.invariant.cut
+    subst (λ (n : ℕ). AreBlocksOf c.loop-place.blocks.items (take (n - c.args.from) (drop c.args.from c.args.text.now))) all c.loop-place.invariant.cut

@@ -1,10 +1,10 @@
 use Rattle.std.proofs.Common.{◌≤◌, ◌-◌, take, drop}
-use Rattle.cord_lines.specs.inner.Cuts.{IsCut}
+use Rattle.cord_lines.specs.inner.Cuts.{AreBlocksOf}
 use Rattle.cord_lines.proofs.cutting.cut.Given as goal
 
 abbrev pub invariant-loop-place : goal.invariant-loop-place
 invariant-loop-place l = record {
-  cut : IsCut l.blocks.items (take (l.place - l.from) (drop l.from l.text));
+  cut : AreBlocksOf l.blocks.items (take (l.place - l.from) (drop l.from l.text));
   from : l.from ≤ l.place;
   to : l.place ≤ l.to;
 }

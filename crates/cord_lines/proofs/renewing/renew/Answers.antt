@@ -5,7 +5,7 @@ use Rattle.cord_io.specs.declared.TheConstants.{MAX_LEN}
 use Rattle.cord_lines.specs.declared.counting.Counts.{Counts}
 use Rattle.cord_lines.specs.inner.Edits.{AreRemoved}
 use Rattle.cord_lines.specs.declared.blocks.Block.{Block}
-use Rattle.cord_lines.specs.inner.Cuts.{IsCut, AreOfSomeText}
+use Rattle.cord_lines.specs.inner.Cuts.{AreBlocksOf, AreOfSomeText}
 use Rattle.cord_lines.proofs.Cuts.{few_by, modest_by}
 use Rattle.cord_lines.proofs.Edits.{few_with, renewed, replaced_some, set_follows, set_some}
 use Rattle.cord_lines.proofs.renewing.renew.Goals as goal
@@ -32,7 +32,7 @@ returns-in-Some-block_with-clause-blocks c = subst AreOfSomeText (sym c.set.ensu
     (omega (arith, c.len-len_after.ensures.value, c.len-len_after.ensures.limit)) c.in-Some-block_with.ensures.some (omega (arith, c.in-Some-block_with.ensures.len)))
 
 pub returns-in-Some-block_with-clause-cut : goal.returns-in-Some-block_with-clause-cut
-returns-in-Some-block_with-clause-cut c = λ before here known edited. subst (λ (ys : List Block). IsCut ys c.args.after.now) (sym c.set.ensures)
+returns-in-Some-block_with-clause-cut c = λ before here known edited. subst (λ (ys : List Block). AreBlocksOf ys c.args.after.now) (sym c.set.ensures)
     (set_follows c.args.blocks.now c.args.edit c.get.result c.in-Some.removed c.count_range-inserted.result c.in-Some-block_with.block c.span_of-span.result
     c.args.after.now c.span_of-span.ensures (omega arith) c.in-Some-block_with.ensures.counts c.get.ensures c.count_range-inserted.ensures before here
     (subst (λ (r : Option Counts). AreRemoved r c.args.edit before) c.in-Some.is known) edited)
@@ -64,8 +64,8 @@ replace-requires-clause-new c =
     let news = c.in_ok-fresh.fresh.items in
     let len : ℕ = span.bytes - edit.removed + edit.inserted in
     let all : (span.start + len) - span.start ≡ len = omega arith in
-    let cut : IsCut news (take len (drop span.start after)) =
-    subst (λ (n : ℕ). IsCut news (take n (drop span.start after))) all c.in_ok-fresh.ensures.cut in
+    let cut : AreBlocksOf news (take len (drop span.start after)) =
+    subst (λ (n : ℕ). AreBlocksOf news (take n (drop span.start after))) all c.in_ok-fresh.ensures.cut in
     let le : length after ≤ MAX_LEN = omega (arith, c.len-len_after.ensures.value, c.len-len_after.ensures.limit) in
     modest_by (take span.first bs ++ c.deref.result.now ++ drop (span.first + span.count) bs)
     (subst (λ (ys : List Block). AreOfSomeText (take span.first bs ++ ys ++ drop (span.first + span.count) bs)) (sym c.deref.ensures.value)
@@ -80,8 +80,8 @@ returns-clause-blocks c =
     let news = c.in_ok-fresh.fresh.items in
     let len : ℕ = span.bytes - edit.removed + edit.inserted in
     let all : (span.start + len) - span.start ≡ len = omega arith in
-    let cut : IsCut news (take len (drop span.start after)) =
-    subst (λ (n : ℕ). IsCut news (take n (drop span.start after))) all c.in_ok-fresh.ensures.cut in
+    let cut : AreBlocksOf news (take len (drop span.start after)) =
+    subst (λ (n : ℕ). AreBlocksOf news (take n (drop span.start after))) all c.in_ok-fresh.ensures.cut in
     let le : length after ≤ MAX_LEN = omega (arith, c.len-len_after.ensures.value, c.len-len_after.ensures.limit) in
     subst (λ (ys : List Block). AreOfSomeText ys)
     (sym (c.in_ok-replace.ensures.blocks ∙ ap (λ (ys : List Block). take span.first bs ++ ys ++ drop (span.first + span.count) bs) c.deref.ensures.value))
@@ -97,9 +97,9 @@ returns-clause-cut c = λ before here known edited.
     let news = c.in_ok-fresh.fresh.items in
     let len : ℕ = span.bytes - edit.removed + edit.inserted in
     let all : (span.start + len) - span.start ≡ len = omega arith in
-    let cut : IsCut news (take len (drop span.start after)) =
-    subst (λ (n : ℕ). IsCut news (take n (drop span.start after))) all c.in_ok-fresh.ensures.cut in
-    subst (λ (ys : List Block). IsCut ys after)
+    let cut : AreBlocksOf news (take len (drop span.start after)) =
+    subst (λ (n : ℕ). AreBlocksOf news (take n (drop span.start after))) all c.in_ok-fresh.ensures.cut in
+    subst (λ (ys : List Block). AreBlocksOf ys after)
     (sym (c.in_ok-replace.ensures.blocks ∙ ap (λ (ys : List Block). take span.first bs ++ ys ++ drop (span.first + span.count) bs) c.deref.ensures.value))
     (renewed bs news before here span.first span.count span.start span.bytes covers.span.start covers.span.end after edit.start edit.removed
     edit.inserted len edited covers.from covers.to refl cut)

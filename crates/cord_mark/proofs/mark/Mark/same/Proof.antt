@@ -22,7 +22,7 @@ use denote.Triple.Walked.{Stays, stay_dropped, walk_of, Goes-dropped}
 use Rattle.core.proofs.alloc.Shapes.{after}
 use Rattle.std.proofs.raw_atomic.Walks.{leaves}
 use Rattle.cord_mark.specs.Part.{Part}
-use Rattle.cord_mark.specs.inner.Ownership.{Reported, reported, fields_at}
+use Rattle.cord_mark.specs.inner.Ownership.{MarkedText, reported, fields_at}
 use Rattle.cord_mark.proofs.Reported.{reported_same}
 use Rattle.cord_mark.proofs.Marks.{Fields, named, opens_mark, shuts_mark}
 use Rattle.cord_mark.proofs.Token.{parameter, held, met_with_token}
@@ -126,11 +126,11 @@ same_spec 𝓤 𝓛 𝓜 𝓡 wired =
     named b o ! s (λ γ. move ! (2 ∷ []) $ named d e ! t (λ δ.
     -- [the other's word, and what reaches it; this one's; the tokens]
     elim (Key-Dec (γ, 0) (δ, 0)) [
-      | yes one ↦ let Both : Type 0 = ◌≡◌ {A = Reported} (s, (b, o)) (t, (d, e)) in
+      | yes one ↦ let Both : Type 0 = ◌≡◌ {A = MarkedText} (s, (b, o)) (t, (d, e)) in
           rewrite ! 0 (λ (g : GName). ‵ (reported g t d e)) (λ i. (sym one i).0) refl $ move ! (2 ∷ 0 ∷ []) $ use2 𝓛 (raw (fact 𝓤 Both))
           (reported_same 𝓛 γ s t b o d e) $
           heard ! Both (λ both. keep ! (1 ∷ 2 ∷ 3 ∷ 4 ∷ []) $
-          regoal ! (λ (k : Reported). prop (WpFn 𝓤 H C Λ fn (vptr b o ∷ vptr k.1.0 k.1.1 ∷ []) Post)) (sym both) refl $ by !
+          regoal ! (λ (k : MarkedText). prop (WpFn 𝓤 H C Λ fn (vptr b o ∷ vptr k.1.0 k.1.1 ∷ []) Post)) (sym both) refl $ by !
           (one_mark γ (λ i. (both i).0)))
       | no apart ↦ keep ! (3 ∷ 4 ∷ 5 ∷ 1 ∷ 6 ∷ []) $ by ! (two_marks γ δ apart)
     ])))

@@ -6,7 +6,7 @@ use Rattle.cord_plan.specs.Exprs.{Expr}
 use Rattle.cord_plan.specs.declared.operations.Operation.{Operation}
 use Rattle.cord_plan.specs.inner.Choices.{choice_view, simple_operands}
 use Rattle.cord_syntax.specs.Readings.{operand_names}
-use Rattle.cord_plan.specs.inner.ExpressionFacts.{IsFrom, AreFactsOf}
+use Rattle.cord_plan.specs.inner.ExpressionFacts.{IsChoiceOf, AreFactsOf}
 use Rattle.cord_plan.specs.inner.Liveness.{reports}
 use Rattle.cord_plan.specs.inner.Steps.{operation_expression}
 use Rattle.cord_plan.specs.Views.{expr_view, operation_view}
@@ -39,7 +39,7 @@ returns-in-One-clause-known c =
     let x = c.in-One.operand.now in
     let listed : operand_names line.operands ≡ x ∷ [] = ap operand_names c.in-One.is in
     let simple : simple_operands line.statement.now ≡ Some (x ∷ []) = c.requires.operands ∙ ap Some listed in
-    let from : IsFrom table x (choice_view c.choose-choice.result) = choice_from line.statements.now (reports line.recent.now.later.now)
+    let from : IsChoiceOf table x (choice_view c.choose-choice.result) = choice_from line.statements.now (reports line.recent.now.later.now)
     table
     line.place line.statement.now x (operand_names line.operands) [] (choice_view c.choose-choice.result) c.choose-choice.ensures in
     made_with c.taking-in-One.result _ (λ o. AreFactsOf t (table ++ o ∷ []) c.note_one.new.self)
@@ -55,10 +55,10 @@ returns-in-Two-clause-known c =
     let y = c.in-Two.right.now in
     let listed : operand_names line.operands ≡ x ∷ y ∷ [] = ap operand_names c.in-Two.is in
     let simple : simple_operands line.statement.now ≡ Some (x ∷ y ∷ []) = c.requires.operands ∙ ap Some listed in
-    let left : IsFrom table x (choice_view c.choose-first.result) = choice_from line.statements.now (reports line.recent.now.later.now)
+    let left : IsChoiceOf table x (choice_view c.choose-first.result) = choice_from line.statements.now (reports line.recent.now.later.now)
     table
     line.place line.statement.now x (operand_names line.operands) [] (choice_view c.choose-first.result) c.choose-first.ensures in
-    let right : IsFrom table y (choice_view c.choose-second.result) =
+    let right : IsChoiceOf table y (choice_view c.choose-second.result) =
     choice_from line.statements.now (reports line.recent.now.later.now) table line.place line.statement.now y (operand_names line.operands)
     (choice_view c.choose-first.result ∷ []) (choice_view c.choose-second.result) c.choose-second.ensures in
     made_with c.taking-in-Two.result _ (λ o. AreFactsOf t (table ++ o ∷ []) c.note_two.new.self)

@@ -1,7 +1,7 @@
 use Rattle.std.proofs.Common.{◌+◌, drop}
 use Rattle.cord_plan.specs.Views.{expr_view, members_view}
 use Rattle.cord_run.specs.inner.Extents.{members_seen}
-use Rattle.cord_run.specs.inner.Ranges.{AreFew}
+use Rattle.cord_run.specs.inner.Ranges.{AddsFew}
 use Rattle.cord_run.proofs.Members.{weight, weights}
 use Rattle.cord_run.proofs.MemberRanges.{SoFar, WantedSoFar}
 use Rattle.cord_run.proofs.expressions.ranges.+add_range.Given as goal
@@ -20,5 +20,5 @@ invariant-add_all-loop-member l = record {
   added : SoFar l.store.entries.items (members_seen l.members) l.fn.wanted l.initial.pieces.items
       (members_seen (drop l.member-index l.members)) l.left l.pieces.items;
   past : WantedSoFar l.store.entries.items (members_seen l.members) l.fn.wanted (members_seen (drop l.member-index l.members)) l.left;
-  few : AreFew l.fn.wanted l.left l.initial.pieces.items l.pieces.items;
+  few : AddsFew l.fn.wanted l.left l.initial.pieces.items l.pieces.items;
 }

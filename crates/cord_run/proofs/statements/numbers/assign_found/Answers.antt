@@ -6,7 +6,7 @@ use Rattle.cord_run.specs.declared.stops.Stop.{Stop}
 use Rattle.cord_run.specs.inner.Entries.{HasNumber}
 use Rattle.cord_run.specs.inner.Numbers.{CountsFinding, FindsOver}
 use Rattle.cord_run.proofs.NumberStatements.{assigns_none, kept_giving, none_counted, none_found, number_counted}
-use Rattle.cord_run.specs.inner.Outcomes.{CountsReads}
+use Rattle.cord_run.specs.inner.Outcomes.{CountsReadStop}
 use Rattle.cord_run.specs.inner.Statements.{MeansOver}
 use Rattle.cord_run.proofs.Refusals.{handed_on}
 use Rattle.cord_run.proofs.statements.numbers.assign_found.Goals as goal
@@ -21,7 +21,7 @@ returns-in_err-number-clause-means c = λ t found assigns.
 
 pub returns-in_err-number-clause-counts : goal.returns-in_err-number-clause-counts
 returns-in_err-number-clause-counts c = λ before after counts.
-    subst (λ (r : Result (Unit {0}) Stop). CountsReads before after r)
+    subst (λ (r : Result (Unit {0}) Stop). CountsReadStop before after r)
     (handed_on c.in_err-number.field-0.0 c.from_residual.result c.from_residual.ensures.1)
     (none_counted before after c.in_err-number.field-0.0
     (subst (λ (r : Result ℤ Stop). CountsFinding before after r) c.in_err-number.was counts))

@@ -2,7 +2,7 @@ use Rattle.std.proofs.Common.{refl, None, sym, ap, subst, ◌∙◌}
 use Rattle.cord_run.specs.declared.store.Content.TheVariants.{Whole}
 use Rattle.cord_run.specs.declared.store.Content.{Content}
 use Rattle.cord_run.specs.declared.store.Entry.{Entry}
-use Rattle.cord_run.specs.inner.Edits.{IsWhole}
+use Rattle.cord_run.specs.inner.Edits.{IsWholeContent}
 use Rattle.cord_run.specs.inner.Entries.{content_length, cord_in}
 use Rattle.cord_run.proofs.Entries.{value_there}
 use Rattle.cord_run.proofs.Splices.{whole_at}
@@ -30,4 +30,4 @@ pub returns-in-Whole-clause-whole : goal.returns-in-Whole-clause-whole
 returns-in-Whole-clause-whole c =
     let entries = c.args.self.now.entries.items in
     whole_at entries c.args.place c.index.result.now
-    (subst (λ (content : Content). IsWhole content) (sym c.in-Whole.is ∙ ap (λ (entry : Entry). entry.content) c.index.ensures) tt)
+    (subst (λ (content : Content). IsWholeContent content) (sym c.in-Whole.is ∙ ap (λ (entry : Entry). entry.content) c.index.ensures) tt)

@@ -1,6 +1,6 @@
 use Rattle.std.proofs.Common.{◌≡◌, Some, length, refl, ap, ◌∙◌}
 use Rattle.cord_plan.specs.Operands.{assigns, read_by, reads, target_of}
-use Rattle.cord_plan.specs.inner.Recent.{Puts}
+use Rattle.cord_plan.specs.inner.Recent.{PutsPlaces}
 use Rattle.cord_plan.proofs.Marked.{written_back}
 use Rattle.cord_plan.proofs.Lasts.{assigned_then, read_then, block_then}
 use Rattle.cord_plan.proofs.flow.recent.Recent.note.Goals as goal
@@ -15,9 +15,9 @@ returns-clause-recent c =
     let one : length c.put.new.places ≡ assigned.len = c.put.auto.places ∙ c.deref_mut.ensures.len in
     let two : length c.note_all.new.places ≡ read.len = c.note_all.auto.places ∙ c.deref_mut-2.ensures.len in
     λ s here old.
-    let assigns_noted : Puts t (λ x. assigns l x) (Some b) assigned.items c.put.new.places =
+    let assigns_noted : PutsPlaces t (λ x. assigns l x) (Some b) assigned.items c.put.new.places =
     rw (← c.deref_mut.ensures.value) (c.put.ensures t (target_of l) c.requires.target (ap length c.deref_mut.ensures.value ∙ old.assigned_for)) in
-    let reads_noted : Puts t (λ x. reads l x) (Some b) read.items c.note_all.new.places =
+    let reads_noted : PutsPlaces t (λ x. reads l x) (Some b) read.items c.note_all.new.places =
     rw (← c.deref_mut-2.ensures.value) (c.note_all.ensures t (read_by l) c.requires.read (ap length c.deref_mut-2.ensures.value ∙ old.read_for)) in
     record {
       numbered = old.numbered;

@@ -1,6 +1,6 @@
 use Rattle.std.proofs.Common.{◌≡◌, List, ℕ, Option, Some, None, ◌++◌, take, drop, length, ap, ◌∙◌, subst}
 use Rattle.cord_plan.specs.Operands.{assigns, read_by, reads, target_of}
-use Rattle.cord_plan.specs.inner.Recent.{AreFor, Puts}
+use Rattle.cord_plan.specs.inner.Recent.{AreFor, PutsPlaces}
 use Rattle.cord_plan.proofs.StraightLine.{line_more}
 use Rattle.cord_plan.proofs.Marked.{written_back}
 use Rattle.cord_plan.proofs.flow.straight_line.NextReads.go_back.Goals as goal
@@ -15,12 +15,12 @@ returns c = λ t l ls numbered next_reads.
     let mid = take size (now ++ drop (length now) old) in
     let one : length now ≡ size = c.put.auto.places ∙ c.deref_mut.ensures.len in
     let back : mid ≡ now = written_back size now old one in
-    let clears : Puts t (λ x. assigns l x) None old now =
-    subst (λ (ps : List (Option ℕ)). Puts t (λ x. assigns l x) None ps now) c.deref_mut.ensures.value
+    let clears : PutsPlaces t (λ x. assigns l x) None old now =
+    subst (λ (ps : List (Option ℕ)). PutsPlaces t (λ x. assigns l x) None ps now) c.deref_mut.ensures.value
     (c.put.ensures t (target_of l) numbered.target (ap length c.deref_mut.ensures.value ∙ next_reads.places_for)) in
     let mid_for : AreFor t mid = ap length back ∙ (one ∙ (ok ∙ next_reads.places_for)) in
-    let notes : Puts t (λ x. reads l x) (Some c.args.place) now new =
-    subst (λ (ps : List (Option ℕ)). Puts t (λ x. reads l x) (Some c.args.place) ps new) (c.deref_mut-2.ensures.value ∙ back)
+    let notes : PutsPlaces t (λ x. reads l x) (Some c.args.place) now new =
+    subst (λ (ps : List (Option ℕ)). PutsPlaces t (λ x. reads l x) (Some c.args.place) ps new) (c.deref_mut-2.ensures.value ∙ back)
     (c.note_all.ensures t (read_by l) numbered.read (ap length c.deref_mut-2.ensures.value ∙ mid_for)) in
     let two : length new ≡ size = c.note_all.auto.places ∙ c.deref_mut-2.ensures.len in
     rw (written_back size new mid two) (line_more t l ls c.args.place old now new (two ∙ ok) clears notes next_reads)

@@ -2,12 +2,12 @@ use Rattle.std.proofs.Common.{◌≡◌, Some, ap, subst}
 use Rattle.cord_plan.specs.Inlined as plain
 use Rattle.cord_plan.specs.Views.{expr_view}
 use Rattle.cord_plan.specs.inner.Choices.{choice_view, expression_in}
-use Rattle.cord_plan.specs.inner.ExpressionFacts.{IsFrom}
+use Rattle.cord_plan.specs.inner.ExpressionFacts.{IsChoiceOf}
 use Rattle.cord_plan.proofs.planner.expression_facts.ExpressionFacts.of_choice.Goals as goal
 
 pub returns-in_ok-at-in-Replaced : goal.returns-in_ok-at-in-Replaced
 returns-in_ok-at-in-Replaced c = λ t table x known number from.
     let e = expr_view c.in-Replaced.field-1.now in
     let is : choice_view c.args.choice.now ≡ plain.replaced c.in-Replaced.place e = ap choice_view c.in-Replaced.is in
-    let there : expression_in table c.in-Replaced.place ≡ Some e = subst (λ (d : plain.Choice). IsFrom table x d) is from in
+    let there : expression_in table c.in-Replaced.place ≡ Some e = subst (λ (d : plain.Choice). IsChoiceOf table x d) is from in
     rw is (c.in_ok-at-in-Replaced.ensures t table e known there)
