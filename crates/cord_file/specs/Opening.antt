@@ -28,19 +28,19 @@ HoldsFile file_system opened path id len = (file_at file_system path ≡ Some (t
     (len ≡ length (table_in opened file_system id))
 
 -- the path and the length reported of each number of a device
-abbrev pub Numbers : Type 0
-Numbers = ℕ → Option (List ℕ × ℕ)
+abbrev pub FileNumbers : Type 0
+FileNumbers = ℕ → Option (List ℕ × ℕ)
 
 -- the device has opened what it had opened before
-abbrev pub OpensNone : Numbers → Numbers → Type 0
+abbrev pub OpensNone : FileNumbers → FileNumbers → Type 0
 OpensNone old new = (n : ℕ) → new n ≡ old n
 
 -- the device opened one file, at this path and of this length
-abbrev pub OpensOne : Numbers → Numbers → List ℕ → ℕ → Type 0
+abbrev pub OpensOne : FileNumbers → FileNumbers → List ℕ → ℕ → Type 0
 OpensOne old new path len = (no : ℕ) × HandsOut old new no path len
 
 -- after this refusal the device has opened no file, unless that was too long or found no memory to be kept
-abbrev pub IsUnopened : Numbers → Numbers → FileError → Type 0
+abbrev pub IsUnopened : FileNumbers → FileNumbers → FileError → Type 0
 IsUnopened old new TooManyFiles = OpensNone old new
 IsUnopened old new NoFile = OpensNone old new
 IsUnopened old new ReadFailed = OpensNone old new

@@ -10,7 +10,7 @@ use Rattle.cord_node.proofs.TableLemmas.{Fits-reported}
 use Rattle.cord_core.specs.Cord.{text_len, bytes_of, IsCord, CordFitsIn}
 use Rattle.cord_pos.specs.Position.{prev_index, IsByteAt}
 use Rattle.cord_iter.specs.Walk.{walk, WalkedPrefix}
-use Rattle.cord_iter.specs.inner.Walk.{left_of}
+use Rattle.cord_iter.specs.inner.Walk.{places_up_to}
 use Rattle.cord_iter.proofs.Lengths.{length-bytes_over}
 use Rattle.cord_iter.proofs.Walks.{walk_on, walk_one, walk_stop_in}
 
@@ -41,9 +41,9 @@ next_down xs i j b inside below e =
     take_more (downward xs i) (i - j) 0 a ∙ ap (λ (x : ℕ). take (i - j) (downward xs i) ++ x ∷ []) byte
 
 -- the same at a position
-next_at : (t : Table) (c : Option Node) (i : ℕ) (index : Option ℕ) (b : ℕ) → i < length (bytes_of t c) → left_of index ≤ i + 1 →
-    IsByteAt t c index b → take (i + 1 - left_of (prev_index index)) (downward (bytes_of t c) i)
-    ≡ take (i + 1 - left_of index) (downward (bytes_of t c) i) ++ b ∷ []
+next_at : (t : Table) (c : Option Node) (i : ℕ) (index : Option ℕ) (b : ℕ) → i < length (bytes_of t c) → places_up_to index ≤ i + 1 →
+    IsByteAt t c index b → take (i + 1 - places_up_to (prev_index index)) (downward (bytes_of t c) i)
+    ≡ take (i + 1 - places_up_to index) (downward (bytes_of t c) i) ++ b ∷ []
 next_at t c i None b inside below e = absurd e
 next_at t c i (Some zero) b inside below e =
     let m : i + 1 - 0 ≡ (i - 0) + 1 = omega arith in
@@ -57,25 +57,25 @@ next_at t c i (Some (suc j)) b inside below e =
 
 -- one byte further down
 pub back_on : {S : Type 0} (step : S → ℕ → S × Bool) (s a d : S) (t : Table) (c : Option Node) (i : ℕ) (index : Option ℕ) (b : ℕ) →
-    length (bytes_of t c) ≡ text_len c → i < text_len c → left_of index ≤ i + 1 → IsByteAt t c index b → (d, false) ≡ step a b →
-    walk step s (take (i + 1 - left_of index) (downward (bytes_of t c) i)) ≡ (a, false) →
-    walk step s (take (i + 1 - left_of (prev_index index)) (downward (bytes_of t c) i)) ≡ (d, false)
+    length (bytes_of t c) ≡ text_len c → i < text_len c → places_up_to index ≤ i + 1 → IsByteAt t c index b → (d, false) ≡ step a b →
+    walk step s (take (i + 1 - places_up_to index) (downward (bytes_of t c) i)) ≡ (a, false) →
+    walk step s (take (i + 1 - places_up_to (prev_index index)) (downward (bytes_of t c) i)) ≡ (d, false)
 back_on step s a d t c i index b len inside below byte e h =
     let k : i < length (bytes_of t c) = rw len inside in
     ap (λ (l : List ℕ). walk step s l) (next_at t c i index b k below byte)
-    ∙ walk_on step s a (d, false) (take (i + 1 - left_of index) (downward (bytes_of t c) i)) (b ∷ []) h (walk_one step a d false b e)
+    ∙ walk_on step s a (d, false) (take (i + 1 - places_up_to index) (downward (bytes_of t c) i)) (b ∷ []) h (walk_one step a d false b e)
 
 -- a stop at one
 pub back_stop : {S : Type 0} (step : S → ℕ → S × Bool) (s a d : S) (t : Table) (c : Option Node) (i : ℕ) (index : Option ℕ) (b : ℕ) →
-    length (bytes_of t c) ≡ text_len c → i < text_len c → left_of index ≤ i + 1 → IsByteAt t c index b → (d, true) ≡ step a b →
-    walk step s (take (i + 1 - left_of index) (downward (bytes_of t c) i)) ≡ (a, false) →
+    length (bytes_of t c) ≡ text_len c → i < text_len c → places_up_to index ≤ i + 1 → IsByteAt t c index b → (d, true) ≡ step a b →
+    walk step s (take (i + 1 - places_up_to index) (downward (bytes_of t c) i)) ≡ (a, false) →
     walk step s (downward (bytes_of t c) i) ≡ (d, true)
 back_stop step s a d t c i index b len inside below byte e h =
     let k : i < length (bytes_of t c) = rw len inside in
     let whole = downward (bytes_of t c) i in
-    let n = i + 1 - left_of (prev_index index) in
+    let n = i + 1 - places_up_to (prev_index index) in
     walk_stop_in step s d whole n (ap (λ (l : List ℕ). walk step s l) (next_at t c i index b k below byte)
-    ∙ walk_on step s a (d, true) (take (i + 1 - left_of index) whole) (b ∷ []) h (walk_one step a d true b e))
+    ∙ walk_on step s a (d, true) (take (i + 1 - places_up_to index) whole) (b ∷ []) h (walk_one step a d true b e))
 
 -- the next one could not be read
 pub back_prefix : {S : Type 0} (step : S → ℕ → S × Bool) (s a : S) (t : Table) (c : Option Node) (i n : ℕ) →
@@ -88,7 +88,7 @@ back_prefix step s a t c i n h = record {
 }
 
 -- the place before is no further from the beginning
-pub left_prev : (index : Option ℕ) (n : ℕ) → left_of index ≤ n → left_of (prev_index index) ≤ n
+pub left_prev : (index : Option ℕ) (n : ℕ) → places_up_to index ≤ n → places_up_to (prev_index index) ≤ n
 left_prev None n h = h
 left_prev (Some zero) n h = omega arith
 left_prev (Some (suc j)) n h = omega arith

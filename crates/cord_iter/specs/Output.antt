@@ -25,16 +25,16 @@ pub record Writes {S E : Type 0} (sink : sinks.Ghosts S) (text : List ℕ) (old 
   pub finished : sink.finished new ≡ sink.finished old
 
 -- how often a source and a sink have failed
-pub record Counts : Type 0 where
+pub record FailureCounts : Type 0 where
   pub source : ℕ
   pub sink : ℕ
 
 -- how often these two have failed
-abbrev pub failures_of : {S W : Type 0} → sources.Ghosts S → sinks.Ghosts W → S → W → Counts
+abbrev pub failures_of : {S W : Type 0} → sources.Ghosts S → sinks.Ghosts W → S → W → FailureCounts
 failures_of source sink src out = record { source = source.failures src; sink = sink.failures out }
 
 -- where the call is Ok no device failed; a fault names the one that failed, once, and there is no other fault
-abbrev pub CountsFaults : {T : Type 0} → Counts → Counts → Result T CordError → Type 0
+abbrev pub CountsFaults : {T : Type 0} → FailureCounts → FailureCounts → Result T CordError → Type 0
 CountsFaults old new (Ok x) = (new.source ≡ old.source) × (new.sink ≡ old.sink)
 CountsFaults old new (Err ReadFailed) = (new.source ≡ raised old.source) × (new.sink ≡ old.sink)
 CountsFaults old new (Err WriteFailed) = (new.source ≡ old.source) × (new.sink ≡ raised old.sink)

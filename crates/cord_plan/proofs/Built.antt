@@ -7,7 +7,7 @@ use Rattle.cord_syntax.specs.declared.statements.Statement.TheVariants.{Let, Fil
 use Rattle.cord_syntax.specs.declared.statements.Statement.TheVariants.{Balance, EcToCord, Sprintf}
 use Rattle.cord_plan.specs.Exprs.{Expr}
 use Rattle.cord_plan.specs.Operands.{target_of}
-use Rattle.cord_plan.specs.Inlined.{Table}
+use Rattle.cord_plan.specs.Inlined.{ChoiceTable}
 use Rattle.cord_plan.specs.Planned.{Made, Operation, Build, Measure, Write, Keep, gives, or_nothing, operation, operations, is_dead}
 use Rattle.cord_plan.specs.Planned.{is_first}
 
@@ -65,8 +65,8 @@ lives later p (Some y) x same e = let y_is : y ≡ x = cc in pick (later x p) re
     pick true f = f
     pick false f = let bad : ⊥ = cc in absurd bad
 
-module _ (later : List ℕ → ℕ → Bool) (table : Table) where
-  pub built_later : (p : ℕ) (s : List Statement) (entries : Table) (k line : ℕ) (x : List ℕ) (made : Made) →
+module _ (later : List ℕ → ℕ → Bool) (table : ChoiceTable) where
+  pub built_later : (p : ℕ) (s : List Statement) (entries : ChoiceTable) (k line : ℕ) (x : List ℕ) (made : Made) →
       slice_get (operations later table p s entries) k ≡ Some (Build line x made) → later x (p + k) ≡ true
   built_later p [] entries k line x made e = let bad : ⊥ = cc in absurd bad
   built_later p (l ∷ rest) [] k line x made e = let bad : ⊥ = cc in absurd bad

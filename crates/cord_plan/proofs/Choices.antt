@@ -6,7 +6,7 @@ use Rattle.cord_syntax.specs.declared.statements.Statement.{Statement}
 use Rattle.cord_syntax.specs.declared.statements.Statement.TheVariants.{Chars, Nul, Cat, Catn, Catc, Substr, Put}
 use Rattle.cord_plan.specs.Exprs.{Expr, name}
 use Rattle.cord_plan.specs.Operands.{read_by}
-use Rattle.cord_plan.specs.Inlined.{Choice, named, Table, expr_of, expr_with, setter, chosen_of, choices, entry, operands_chosen, defining}
+use Rattle.cord_plan.specs.Inlined.{Choice, named, ChoiceTable, expr_of, expr_with, setter, chosen_of, choices, entry, operands_chosen, defining}
 use Rattle.cord_plan.specs.inner.Choices.{simple_operands}
 
 -- a simple line reads its operands
@@ -33,7 +33,7 @@ defining_named l xs cs simple same =
     ∙ (ap (λ (es : List Expr). expr_with l es) (all_themselves xs)
     ∙ ap (λ (ys : List (List ℕ)). expr_with l (map (λ x. name x) ys)) (sym (simple_reads l xs simple)))
 
-module _ (s : List Statement) (later : List ℕ → ℕ → Bool) (t : Table) (b : ℕ) (l : Statement) where
+module _ (s : List Statement) (later : List ℕ → ℕ → Bool) (t : ChoiceTable) (b : ℕ) (l : Statement) where
   -- a choice more, and an operand less
   pub more_chosen : (xs : List (List ℕ)) (done : List Choice) (c : Choice) (i : ℕ) (x : List ℕ) → i < length xs → x ≡ get_or xs i x →
       length done ≡ i →
@@ -54,7 +54,7 @@ module _ (s : List Statement) (later : List ℕ → ℕ → Bool) (t : Table) (b
   entry_of None = (None, [])
   entry_of (Some xs) = entry s later l (choices s later t b l [] (read_by l))
 
-pub chosen_simple : (s : List Statement) (later : List ℕ → ℕ → Bool) (t : Table) (b : ℕ) (l : Statement) →
+pub chosen_simple : (s : List Statement) (later : List ℕ → ℕ → Bool) (t : ChoiceTable) (b : ℕ) (l : Statement) →
     operands_chosen s later t b l (defining l) ≡ entry_of s later t b l (simple_operands l)
 chosen_simple s later t b (Cat line target left right) = refl
 chosen_simple s later t b (Catn line target many) = refl

@@ -6,7 +6,7 @@ use Rattle.std.proofs.lemmas.List.{map-append}
 use Rattle.cord_syntax.specs.declared.statements.Statement.{Statement}
 use Rattle.cord_plan.specs.Exprs.{Expr, name}
 use Rattle.cord_plan.specs.Operands.{assigns_at}
-use Rattle.cord_plan.specs.Inlined.{Table, Choice, named, replaced, expr_of, expr_with, first_of, defining, setter, fits, is_small}
+use Rattle.cord_plan.specs.Inlined.{ChoiceTable, Choice, named, replaced, expr_of, expr_with, first_of, defining, setter, fits, is_small}
 use Rattle.cord_plan.specs.Inlined.{chosen_from}
 use Rattle.cord_plan.specs.Inlined.{chosen_of, choices, operands_chosen, grown, exprs}
 
@@ -56,17 +56,17 @@ setter_is s x (suc p) a e = pick (assigns_at (slice_get s p) x) refl e (λ h. se
 
 module _ (s : List Statement) (later : List ℕ → ℕ → Bool) where
   -- the expression r of the line at a stands for x in the line l at b
-  pub record Taken (table : Table) (b : ℕ) (l : Statement) (x : List ℕ) (a : ℕ) (r : Expr) : Type 0 where
+  pub record Taken (table : ChoiceTable) (b : ℕ) (l : Statement) (x : List ℕ) (a : ℕ) (r : Expr) : Type 0 where
     pub set : IsSetter s x b a
     pub from : first_of (slice_get table a) ≡ Some r
     pub fit : fits s later r a b l x ≡ true
 
   -- what stands for the operand x, where these other operands stand before and after it
-  abbrev pub Stands : Table → ℕ → Statement → List Expr → List Expr → List ℕ → Choice → Type 0
+  abbrev pub Stands : ChoiceTable → ℕ → Statement → List Expr → List Expr → List ℕ → Choice → Type 0
   Stands table b l before after x (named y) = y ≡ x
   Stands table b l before after x (replaced a r) = Taken table b l x a r × (is_small (expr_with l (before ++ r ∷ after)) ≡ true)
 
-  from_stands : (table : Table) (b : ℕ) (l : Statement) (x : List ℕ) (before after : List Expr) (a : ℕ) (o : Option Expr) →
+  from_stands : (table : ChoiceTable) (b : ℕ) (l : Statement) (x : List ℕ) (before after : List Expr) (a : ℕ) (o : Option Expr) →
       setter s x b ≡ Some a → first_of (slice_get table a) ≡ o →
       Stands table b l before after x (chosen_from s later b l x before after a o)
   from_stands table b l x before after a None set from = refl
@@ -80,12 +80,12 @@ module _ (s : List Statement) (later : List ℕ → ℕ → Bool) where
           (record { set = setter_is s x b a set; from = from; fit = p.0 }, p.1)
       pick false e = refl
 
-  chosen_stands : (table : Table) (b : ℕ) (l : Statement) (x : List ℕ) (before after : List Expr) (o : Option ℕ) → setter s x b ≡ o →
+  chosen_stands : (table : ChoiceTable) (b : ℕ) (l : Statement) (x : List ℕ) (before after : List Expr) (o : Option ℕ) → setter s x b ≡ o →
       Stands table b l before after x (chosen_of s later table b l x before after o)
   chosen_stands table b l x before after None set = refl
   chosen_stands table b l x before after (Some a) set = from_stands table b l x before after a (first_of (slice_get table a)) set refl
 
-  module _ (table : Table) (b : ℕ) (l : Statement) where
+  module _ (table : ChoiceTable) (b : ℕ) (l : Statement) where
     -- the operand, or the expression of the line that set it last
     abbrev pub Chosen : List ℕ → Choice → Type 0
     Chosen x (named y) = y ≡ x
@@ -159,32 +159,32 @@ module _ (s : List Statement) (later : List ℕ → ℕ → Bool) where
         (small_then done x xs (next done x xs) (next_stands done x xs) small)
 
   -- what holds of each entry of a table
-  abbrev pub EachEntry : (ℕ → Option Expr × List Choice → Type 0) → Table → Type 0
+  abbrev pub EachEntry : (ℕ → Option Expr × List Choice → Type 0) → ChoiceTable → Type 0
   EachEntry P table = (k : ℕ) (en : Option Expr × List Choice) → slice_get table k ≡ Some en → P k en
 
   -- the entries of a table are those of the script's
-  abbrev pub IsPrefix : Table → Type 0
+  abbrev pub IsPrefix : ChoiceTable → Type 0
   IsPrefix table = EachEntry (λ k en. slice_get (exprs s later) k ≡ Some en) table
 
-  grown_keeps : (table : Table) (b : ℕ) (rest : List Statement) →
+  grown_keeps : (table : ChoiceTable) (b : ℕ) (rest : List Statement) →
       EachEntry (λ k en. slice_get (grown s later table b rest) k ≡ Some en) table
   grown_keeps table b [] k en e = e
   grown_keeps table b (l ∷ rest) k en e =
       let more : Option Expr × List Choice = operands_chosen s later table b l (defining l) in
       grown_keeps (table ++ more ∷ []) (b + 1) rest k en (keep_after table (more ∷ []) k en e)
 
-  module _ (P : ℕ → Option Expr × List Choice → Type 0) (step : (table : Table) (b : ℕ) (l : Statement) → slice_get s b ≡ Some l →
+  module _ (P : ℕ → Option Expr × List Choice → Type 0) (step : (table : ChoiceTable) (b : ℕ) (l : Statement) → slice_get s b ≡ Some l →
       IsPrefix table → EachEntry P table → P b (operands_chosen s later table b l (defining l))) where
-    entry_then : (table : Table) (en : Option Expr × List Choice) → EachEntry P table → P (length table) en → EachEntry P (table ++ en ∷ [])
+    entry_then : (table : ChoiceTable) (en : Option Expr × List Choice) → EachEntry P table → P (length table) en → EachEntry P (table ++ en ∷ [])
     entry_then table en each one k other e = pick (last_or table en k other e)
       where
         pick : (slice_get table k ≡ Some other) ⊎ ((k ≡ length table) × (other ≡ en)) → P k other
         pick (inl h) = each k other h
         pick (inr h) = subst (λ (n : ℕ). P n other) (sym h.0) (subst (λ (x : Option Expr × List Choice). P (length table) x) (sym h.1) one)
 
-    grown_each : (table : Table) (rest : List Statement) → ((k : ℕ) → slice_get s (length table + k) ≡ slice_get rest k) →
+    grown_each : (table : ChoiceTable) (rest : List Statement) → ((k : ℕ) → slice_get s (length table + k) ≡ slice_get rest k) →
         grown s later table (length table) rest ≡ exprs s later → EachEntry P table → EachEntry P (exprs s later)
-    grown_each table [] here whole each = subst (λ (t : Table). EachEntry P t) whole each
+    grown_each table [] here whole each = subst (λ (t : ChoiceTable). EachEntry P t) whole each
     grown_each table (l ∷ rest) here whole each =
         let en : Option Expr × List Choice = operands_chosen s later table (length table) l (defining l) in
         let first : length table + 0 ≡ length table = omega arith in
@@ -194,7 +194,7 @@ module _ (s : List Statement) (later : List ℕ → ℕ → Bool) where
         λ k. (let sum : length (table ++ en ∷ []) + k ≡ length table + suc k = omega (arith, long) in
         ap (λ (n : ℕ). slice_get s n) sum ∙ here (suc k)) in
         let prefix : IsPrefix table =
-        λ k other e. subst (λ (t : Table). slice_get t k ≡ Some other) whole (grown_keeps table (length table) (l ∷ rest) k other e) in
+        λ k other e. subst (λ (t : ChoiceTable). slice_get t k ≡ Some other) whole (grown_keeps table (length table) (l ∷ rest) k other e) in
         let next_whole : grown s later (table ++ en ∷ []) (length (table ++ en ∷ [])) rest ≡ exprs s later =
         ap (λ (n : ℕ). grown s later (table ++ en ∷ []) n rest) long ∙ whole in
         grown_each (table ++ en ∷ []) rest next_at next_whole (entry_then table en each (step table (length table) l at prefix each))

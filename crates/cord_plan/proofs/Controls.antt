@@ -5,7 +5,7 @@ use Rattle.cord_syntax.specs.declared.statements.Statement.TheVariants.{Let, Fil
 use Rattle.cord_syntax.specs.declared.statements.Statement.TheVariants.{Balance, EcToCord, Sprintf, Repeat, If}
 use Rattle.cord_meaning.specs.Blocks.{Straight}
 use Rattle.cord_meaning.specs.State.{State}
-use Rattle.cord_meaning.specs.Statements.{shape_of, line_of, count_of, holds_of, compares}
+use Rattle.cord_meaning.specs.Statements.{shape_of, line_of, repeat_count, holds_of, compares}
 use Rattle.cord_plan.specs.Exprs.{Expr}
 use Rattle.cord_plan.specs.Planned.{Operation, Made, gives, operation}
 use Rattle.cord_plan.specs.Meaning.{Holding, operation_shape, operation_line, operation_count, operation_holds}
@@ -15,12 +15,12 @@ use Rattle.cord_plan.proofs.Evaluation.{plain_number}
 pub record IsAlike (l : Statement) (o : Operation) : Type 0 where
   pub shape : operation_shape o ≡ shape_of l
   pub line : operation_line o ≡ line_of l
-  pub count : (h : Holding) (s : State) → h.numbers ≡ s.numbers → count_of l s ≡ operation_count o (Some h)
+  pub count : (h : Holding) (s : State) → h.numbers ≡ s.numbers → repeat_count l s ≡ operation_count o (Some h)
   pub holds : (h : Holding) (s : State) → h.numbers ≡ s.numbers → holds_of l s ≡ operation_holds o (Some h)
 
 -- so it is where the statement gives a name a text
 gives_alike : (l : Statement) (line : ℕ) (z : List ℕ) (made : Made) (v : Bool) → Straight ≡ shape_of l → line ≡ line_of l →
-    ((s : State) → count_of l s ≡ pos 0) → ((s : State) → holds_of l s ≡ false) → IsAlike l (gives v line z made)
+    ((s : State) → repeat_count l s ≡ pos 0) → ((s : State) → holds_of l s ≡ false) → IsAlike l (gives v line z made)
 gives_alike l line z made true shape line_is count holds =
     record { shape = shape; line = line_is; count = λ h s same. count s; holds = λ h s same. holds s }
 gives_alike l line z made false shape line_is count holds =

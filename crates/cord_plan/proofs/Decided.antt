@@ -19,11 +19,11 @@ use Rattle.cord_meaning.specs.declared.ends.FaultKind.TheVariants.{Overflow}
 use Rattle.cord_meaning.specs.Blocks.{Straight}
 use Rattle.cord_meaning.specs.State.{State, Outcome, number_value, and_then, as_index, as_byte, as_length, fits_i64, has_number}
 use Rattle.cord_meaning.specs.State.{sets_number, sets_extensible}
-use Rattle.cord_meaning.specs.Statements.{act, shape_of, byte_at, file_text, function_text}
+use Rattle.cord_meaning.specs.Statements.{act, shape_of, byte_of_text, file_text, function_text}
 use Rattle.cord_meaning.specs.Formats.{piece_argument, format_text, unless_refused}
 use Rattle.cord_meaning.specs.inner.Simulation.{Agree}
 use Rattle.cord_plan.specs.Exprs.{Expr, name, run, cat, sub, Exprs, nothing, member, append, preceding, members}
-use Rattle.cord_plan.specs.Operands.{has, read_by, target_of, is_name, cord_arguments, assigns, assigns_at, reads_at}
+use Rattle.cord_plan.specs.Operands.{has, read_by, target_of, is_this_name, cord_arguments, assigns, assigns_at, reads_at}
 use Rattle.cord_plan.specs.Liveness.{NotLive}
 use Rattle.cord_plan.specs.Inlined.{expr_with, defining}
 use Rattle.cord_plan.specs.Planned.{Made, Joined, Literal, OfFile, OfEager, OfLazy, OfFunction, Balanced, OfExtensible, Printed, gives}
@@ -160,7 +160,7 @@ module _ (f : State) (y : List ℕ) where
   numbers_kept : (limit : ℕ) (files : FileSystem) (l : Statement) → IsVerbatimButLen l → assigns l y ≡ false → NumberKept
       (act limit files l f)
   numbers_kept limit files (Fetch line target x index) k e = then_kept (as_index (number_value f index)) _
-      (λ i. then_kept (byte_at (f.texts x) i) _ (λ b. has_kept target (pos b) e))
+      (λ i. then_kept (byte_of_text (f.texts x) i) _ (λ b. has_kept target (pos b) e))
   numbers_kept limit files (Cmp line target left right) k e = has_kept target _ e
   numbers_kept limit files (Ncmp line target left left_start right right_start count) k e =
       then_kept (as_index (number_value f left_start)) _ (λ i. then_kept (as_index (number_value f right_start)) _
@@ -168,10 +168,10 @@ module _ (f : State) (y : List ℕ) where
   numbers_kept limit files (Str line target x start pattern) k e = then_kept (as_index (number_value f start)) _ (λ i. has_kept target _ e)
   numbers_kept limit files (Chr line target x start byte) k e =
       then_kept (as_index (number_value f start)) _ (λ i. then_kept (as_byte (number_value f byte)) _
-      (λ b. then_kept (byte_at (f.texts x) i) _ (λ _. has_kept target _ e)))
+      (λ b. then_kept (byte_of_text (f.texts x) i) _ (λ _. has_kept target _ e)))
   numbers_kept limit files (Rchr line target x start byte) k e =
       then_kept (as_index (number_value f start)) _ (λ i. then_kept (as_byte (number_value f byte)) _
-      (λ b. then_kept (byte_at (f.texts x) i) _ (λ _. has_kept target _ e)))
+      (λ b. then_kept (byte_of_text (f.texts x) i) _ (λ _. has_kept target _ e)))
   numbers_kept limit files (Assign line target n) k e = set_kept target (number_value f n) e
   numbers_kept limit files (Add line target left right) k e = set_kept target (number_value f left +ℤ number_value f right) e
   numbers_kept limit files (Sub line target left right) k e = set_kept target (number_value f left -ℤ number_value f right) e
@@ -207,7 +207,7 @@ module _ (s : List Statement) (d : Decisions) (ok : MeetsConditions s d) (limit 
       -- ---- the name of a cord gets a text, or a length alone
       module _ (line : ℕ) (z : List ℕ) (target : target_of l ≡ Some z) where
         assigned_here : assigns_at (slice_get s p) z ≡ true
-        assigned_here = ap (λ (o : Option Statement). assigns_at o z) here ∙ ap (λ (o : Option (List ℕ)). is_name o z) target ∙ same_self z
+        assigned_here = ap (λ (o : Option Statement). assigns_at o z) here ∙ ap (λ (o : Option (List ℕ)). is_this_name o z) target ∙ same_self z
 
         abbrev Excused : Type 0
         Excused = NotLive s z p ⊎ ((b : ℕ) × (d.source b z ≡ Some p))

@@ -122,7 +122,7 @@ bare_table [] = refl
 bare_table (o ∷ table) = λ i. o ∷ bare_table table i
 
 module _ (s : List Statement) (later : List ℕ → ℕ → Bool) (table : List (Option Expr)) (b : ℕ) (l : Statement) (x : List ℕ) where
-  module _ (t : plain.Table) (before after : List Expr) where
+  module _ (t : plain.ChoiceTable) (before after : List Expr) where
     by_expression : (a : ℕ) (f : Option Expr) → expression_in table a ≡ f →
         IsChoiceOf table x (plain.chosen_from s later b l x before after a f)
     by_expression a None is = refl
@@ -140,6 +140,6 @@ module _ (s : List Statement) (later : List ℕ → ℕ → Bool) (table : List 
   pub choice_from : (xs : List (List ℕ)) (done : List plain.Choice) (c : plain.Choice) → IsChoice s later b l xs x table done c →
       IsChoiceOf table x c
   choice_from xs done c chosen =
-      let t : plain.Table = map (λ o. (o, [])) table in
+      let t : plain.ChoiceTable = map (λ o. (o, [])) table in
       subst (λ (d : plain.Choice). IsChoiceOf table x d) (sym (chosen t (bare_table table)))
       (by_place t _ _ (plain.setter s x b) (bare_table table))

@@ -14,7 +14,7 @@ use Rattle.cord_syntax.specs.declared.statements.Statement.TheVariants.{Balance,
 use Rattle.cord_plan.specs.Exprs.{Expr, Exprs, name, run, cat, sub, nothing, member, append, lacks, members, names, names_of}
 use Rattle.cord_plan.specs.Extending.{Extends, IsLonger, joined_at, joined_by}
 use Rattle.cord_plan.specs.inner.Extensions.{AreExtending}
-use Rattle.cord_plan.specs.Inlined.{Choice, Table, choices, expr_of, expr_with, first_of, named, preserves, replaced}
+use Rattle.cord_plan.specs.Inlined.{Choice, ChoiceTable, choices, expr_of, expr_with, first_of, named, preserves, replaced}
 use Rattle.cord_plan.specs.inner.Choices.{expression_of}
 use Rattle.cord_plan.specs.inner.Steps.{IsBegun, IsStep, IsReportedLonger, is_last, is_longer, is_named, made_expression}
 use Rattle.cord_plan.specs.inner.Steps.{measured, measured_from, operation_expression, some_source}
@@ -232,7 +232,7 @@ line_there : (o : Option Statement) (x : List ℕ) → assigns_at o x ≡ true �
 line_there None x e = let bad : ⊥ = cc in absurd bad
 line_there (Some m) x e = (m, refl, e)
 
-operation_at : (later : List ℕ → ℕ → Bool) (T : Table) (p : ℕ) (ls : List Statement) (es : Table) (k : ℕ) (l : Statement)
+operation_at : (later : List ℕ → ℕ → Bool) (T : ChoiceTable) (p : ℕ) (ls : List Statement) (es : ChoiceTable) (k : ℕ) (l : Statement)
     (en : Option Expr × List Choice) → slice_get ls k ≡ Some l → slice_get es k ≡ Some en →
     (dead : Bool) × (paired : Bool) × (slice_get (operations later T p ls es) k ≡ Some (operation l (or_nothing en.0) dead paired))
 operation_at later T p [] es k l en at is = let bad : ⊥ = cc in absurd bad
@@ -255,7 +255,7 @@ record Source (made : List Operation) (a : ℕ) (es : Exprs) : Type 0 where
 
 module _ (s : List Statement) (later : List ℕ → ℕ → Bool) where
   -- no name of an expression that stands for an operand is assigned by its line
-  taken_stays : (t : Table) (b : ℕ) (l : Statement) (x : List ℕ) (a : ℕ) (r : Expr) → Taken s later t b l x a r →
+  taken_stays : (t : ChoiceTable) (b : ℕ) (l : Statement) (x : List ℕ) (a : ℕ) (r : Expr) → Taken s later t b l x a r →
       preserves (slice_get s a) (names r) ≡ true
   taken_stays t b l x a r h =
       let before : a < b = h.set.before in

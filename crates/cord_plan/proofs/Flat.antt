@@ -8,7 +8,7 @@ use Rattle.cord_syntax.specs.declared.statements.Statement.TheVariants.{Balance,
 use Rattle.cord_plan.specs.Exprs.{Expr, name, run, cat, sub, Exprs, nothing, member, append, preceding, members}
 use Rattle.cord_plan.specs.Operands.{read_by, target_of}
 use Rattle.cord_plan.specs.Flat.{IsFlat, AreMembers, IsFlatOperation}
-use Rattle.cord_plan.specs.Inlined.{Table, Choice, named, replaced, expr_of, expr_with, first_of, defining, setter, fits, is_small}
+use Rattle.cord_plan.specs.Inlined.{ChoiceTable, Choice, named, replaced, expr_of, expr_with, first_of, defining, setter, fits, is_small}
 use Rattle.cord_plan.specs.Inlined.{chosen_from}
 use Rattle.cord_plan.specs.Inlined.{chosen_of, choices, operands_chosen, grown, exprs}
 use Rattle.cord_plan.specs.Planned.{Operation, Joined, gives, or_nothing, operation, operations, is_dead, is_first}
@@ -67,15 +67,15 @@ choice_exprs : (cs : List Choice) → EachChoice cs → Each (map (λ c. expr_of
 choice_exprs [] a = tt
 choice_exprs (c ∷ cs) a = (a.0, choice_exprs cs a.1)
 
-abbrev EachEntry : Table → Type 0
+abbrev EachEntry : ChoiceTable → Type 0
 EachEntry [] = Unit {0}
 EachEntry (en ∷ table) = OptionFlat en.0 × EachEntry table
 
-table_then : (table : Table) (en : Option Expr × List Choice) → EachEntry table → OptionFlat en.0 → EachEntry (table ++ en ∷ [])
+table_then : (table : ChoiceTable) (en : Option Expr × List Choice) → EachEntry table → OptionFlat en.0 → EachEntry (table ++ en ∷ [])
 table_then [] en a b = (b, tt)
 table_then (f ∷ table) en a b = (a.0, table_then table en a.1 b)
 
-entry_flat : (table : Table) (k : ℕ) → EachEntry table → OptionFlat (first_of (slice_get table k))
+entry_flat : (table : ChoiceTable) (k : ℕ) → EachEntry table → OptionFlat (first_of (slice_get table k))
 entry_flat [] k a = tt
 entry_flat (en ∷ table) zero a = a.0
 entry_flat (en ∷ table) (suc k) a = entry_flat table k a.1
@@ -90,12 +90,12 @@ module _ (s : List Statement) (later : List ℕ → ℕ → Bool) where
   from_flat b l x before after k None a = tt
   from_flat b l x before after k (Some e) a = picked (fits s later e k b l x && is_small (expr_with l (before ++ e ∷ after))) k e x a
 
-  chosen_flat : (table : Table) (b : ℕ) (l : Statement) (x : List ℕ) (before after : List Expr) (o : Option ℕ) → EachEntry table →
+  chosen_flat : (table : ChoiceTable) (b : ℕ) (l : Statement) (x : List ℕ) (before after : List Expr) (o : Option ℕ) → EachEntry table →
       IsFlat (expr_of (chosen_of s later table b l x before after o))
   chosen_flat table b l x before after None a = tt
   chosen_flat table b l x before after (Some k) a = from_flat b l x before after k (first_of (slice_get table k)) (entry_flat table k a)
 
-  choices_flat : (table : Table) (b : ℕ) (l : Statement) (done : List Choice) (xs : List (List ℕ)) → EachEntry table → EachChoice done →
+  choices_flat : (table : ChoiceTable) (b : ℕ) (l : Statement) (done : List Choice) (xs : List (List ℕ)) → EachEntry table → EachChoice done →
       EachChoice (choices s later table b l done xs)
   choices_flat table b l done [] a d = d
   choices_flat table b l done (x ∷ xs) a d =
@@ -103,13 +103,13 @@ module _ (s : List Statement) (later : List ℕ → ℕ → Bool) where
       choices_flat table b l (done ++ c ∷ []) xs a
       (choices_then done c d (chosen_flat table b l x (map (λ c. expr_of c) done) (map (λ y. name y) xs) (setter s x b) a))
 
-  operands_flat : (table : Table) (b : ℕ) (l : Statement) (o : Option Expr) → EachEntry table →
+  operands_flat : (table : ChoiceTable) (b : ℕ) (l : Statement) (o : Option Expr) → EachEntry table →
       OptionFlat (operands_chosen s later table b l o).0
   operands_flat table b l None a = tt
   operands_flat table b l (Some e) a = with_flat l (map (λ c. expr_of c) (choices s later table b l [] (read_by l)))
       (choice_exprs (choices s later table b l [] (read_by l)) (choices_flat table b l [] (read_by l) a tt))
 
-  grown_flat : (table : Table) (b : ℕ) (rest : List Statement) → EachEntry table → EachEntry (grown s later table b rest)
+  grown_flat : (table : ChoiceTable) (b : ℕ) (rest : List Statement) → EachEntry table → EachEntry (grown s later table b rest)
   grown_flat table b [] a = a
   grown_flat table b (l ∷ rest) a =
       let en : Option Expr × List Choice = operands_chosen s later table b l (defining l) in
@@ -152,8 +152,8 @@ operation_flat (Sprintf line target text format arguments) e true paired a = tt
 operation_flat (Sprintf line target text format arguments) e false paired a = tt
 operation_flat l e dead paired a = tt
 
-module _ (later : List ℕ → ℕ → Bool) (table : Table) where
-  pub operations_flat : (p : ℕ) (s : List Statement) (entries : Table) → EachEntry entries → (k : ℕ) (o : Operation) →
+module _ (later : List ℕ → ℕ → Bool) (table : ChoiceTable) where
+  pub operations_flat : (p : ℕ) (s : List Statement) (entries : ChoiceTable) → EachEntry entries → (k : ℕ) (o : Operation) →
       slice_get (operations later table p s entries) k ≡ Some o → IsFlatOperation o
   operations_flat p [] entries a k o e = let bad : ⊥ = cc in absurd bad
   operations_flat p (l ∷ rest) [] a k o e = let bad : ⊥ = cc in absurd bad

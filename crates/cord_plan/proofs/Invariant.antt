@@ -16,7 +16,7 @@ use Rattle.cord_meaning.specs.Statements.{shape_of}
 use Rattle.cord_meaning.specs.inner.Simulation.{IsControl}
 use Rattle.cord_core.proofs.Places.{at_here, some_here}
 use Rattle.cord_plan.specs.Exprs.{Expr, name, names}
-use Rattle.cord_plan.specs.Operands.{target_of, is_name, assigns, assigns_at, reads_at}
+use Rattle.cord_plan.specs.Operands.{target_of, is_this_name, assigns, assigns_at, reads_at}
 use Rattle.cord_plan.specs.Liveness.{ReadBy, NotLive}
 use Rattle.cord_plan.specs.Inlined.{is_block, is_block_at, preserves}
 use Rattle.cord_plan.specs.Values.{text_in}
@@ -234,7 +234,7 @@ module _ (s : List Statement) (d : Decisions) (ok : MeetsConditions s d) (limit 
       h_set = gets h z k
 
       sets_at : (x : List ℕ) → assigns_at (slice_get s p) x ≡ bytes_eq x z
-      sets_at x = ap (λ (o : Option Statement). assigns_at o x) here ∙ ap (λ (o : Option (List ℕ)). is_name o x) target
+      sets_at x = ap (λ (o : Option Statement). assigns_at o x) here ∙ ap (λ (o : Option (List ℕ)). is_this_name o x) target
 
       unset_other : (y : List ℕ) → assigns_at (slice_get s p) y ≡ false → bytes_eq y z ≡ false
       unset_other y e = sym (sets_at y) ∙ e

@@ -13,7 +13,7 @@ use Rattle.cord_meaning.specs.declared.ends.FaultKind.{FaultKind}
 use Rattle.cord_meaning.specs.declared.ends.FaultKind.TheVariants.{Overflow}
 use Rattle.cord_meaning.specs.State.{State, Outcome, number_value, and_then, as_index, as_byte, as_length, fits_i64, sets_extensible}
 use Rattle.cord_meaning.specs.State.{has_number, sets_number}
-use Rattle.cord_meaning.specs.Statements.{act, byte_at, place_number}
+use Rattle.cord_meaning.specs.Statements.{act, byte_of_text, place_number}
 use Rattle.cord_core.specs.Texts.{first, last, order}
 use Rattle.cord_plan.specs.Operands.{read_by}
 
@@ -87,7 +87,7 @@ module _ (t : List ℕ → List ℕ) where
       pub kept_same : (l : Statement) → IsVerbatimButLen l → Agrees t s.texts (read_by l) →
           act limit files l (over s) ≡ with_texts (act limit files l s)
       kept_same (Fetch line target operand index) k a = then_with _ _ _ _ (same_index index)
-          (λ i. then_with _ _ _ _ (ap (λ (x : List ℕ). byte_at x i) a.0) (λ b. refl))
+          (λ i. then_with _ _ _ _ (ap (λ (x : List ℕ). byte_of_text x i) a.0) (λ b. refl))
       kept_same (Cmp line target left right) k a = has_same target _ _ (λ i. order (a.0 i) (a.1.0 i))
       kept_same (Ncmp line target left left_start right right_start count) k a =
           then_with _ _ _ _ (same_index left_start) (λ i. then_with _ _ _ _ (same_index right_start)
@@ -97,11 +97,11 @@ module _ (t : List ℕ → List ℕ) where
           (λ i. has_same target _ _ (λ r. place_number (first (a.0 r) i (a.1.0 r))))
       kept_same (Chr line target operand start byte) k a =
           then_with _ _ _ _ (same_index start) (λ i. then_with _ _ _ _ (same_byte byte)
-          (λ b. then_with _ _ _ _ (ap (λ (x : List ℕ). byte_at x i) a.0)
+          (λ b. then_with _ _ _ _ (ap (λ (x : List ℕ). byte_of_text x i) a.0)
           (λ _. has_same target _ _ (λ r. place_number (first (a.0 r) i (b ∷ []))))))
       kept_same (Rchr line target operand start byte) k a =
           then_with _ _ _ _ (same_index start) (λ i. then_with _ _ _ _ (same_byte byte)
-          (λ b. then_with _ _ _ _ (ap (λ (x : List ℕ). byte_at x i) a.0)
+          (λ b. then_with _ _ _ _ (ap (λ (x : List ℕ). byte_of_text x i) a.0)
           (λ _. has_same target _ _ (λ r. place_number (last (a.0 r) i b)))))
       kept_same (Assign line target value) k a = number_set target _ _ (same_number value)
       kept_same (Add line target left right) k a = number_set target _ _ (λ r. same_number left r +ℤ same_number right r)

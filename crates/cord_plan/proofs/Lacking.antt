@@ -4,17 +4,17 @@ use Rattle.std.proofs.Common.{refl, ap, ◌∙◌}
 use Rattle.std.specs.Prelude.{not}
 use Rattle.std.specs.Str.{bytes_eq}
 use Rattle.cord_syntax.specs.declared.statements.Statement.{Statement}
-use Rattle.cord_plan.specs.Operands.{is_name, target_of}
+use Rattle.cord_plan.specs.Operands.{is_this_name, target_of}
 use Rattle.cord_plan.specs.Inlined.{preserves}
 use Rattle.cord_plan.specs.Exprs.{lacks}
 
 module _ (l : Statement) where
   pub preserves_all : target_of l ≡ None → (xs : List (List ℕ)) → preserves (Some l) xs ≡ true
   preserves_all none [] = refl
-  preserves_all none (x ∷ xs) = ap (λ (o : Option (List ℕ)). not (is_name o x) && preserves (Some l) xs) none ∙ preserves_all none xs
+  preserves_all none (x ∷ xs) = ap (λ (o : Option (List ℕ)). not (is_this_name o x) && preserves (Some l) xs) none ∙ preserves_all none xs
 
   pub preserves_lacking : (t : List ℕ) → target_of l ≡ Some t → (xs : List (List ℕ)) → preserves (Some l) xs ≡ lacks xs t
   preserves_lacking t some [] = refl
   preserves_lacking t some (x ∷ xs) =
-      ap (λ (o : Option (List ℕ)). not (is_name o x) && preserves (Some l) xs) some
+      ap (λ (o : Option (List ℕ)). not (is_this_name o x) && preserves (Some l) xs) some
       ∙ ap (λ (v : Bool). not (bytes_eq x t) && v) (preserves_lacking t some xs)

@@ -13,7 +13,7 @@ use Rattle.cord_syntax.specs.declared.statements.Statement.TheVariants.{Let, Fil
 use Rattle.cord_syntax.specs.declared.statements.Statement.TheVariants.{Balance, EcToCord, Sprintf, Put}
 use Rattle.cord_plan.specs.Exprs.{Expr}
 use Rattle.cord_plan.specs.Operands.{read_by, target_of}
-use Rattle.cord_plan.specs.Inlined.{Table, Choice, named, replaced, defining, choices, operands_chosen, grown, exprs}
+use Rattle.cord_plan.specs.Inlined.{ChoiceTable, Choice, named, replaced, defining, choices, operands_chosen, grown, exprs}
 use Rattle.cord_plan.specs.inner.Choices.{simple_operands}
 use Rattle.cord_plan.specs.inner.Steps.{made_expression, operation_expression, measured, source_of, is_source, some_source, measured_from}
 use Rattle.cord_plan.specs.inner.Steps.{IsStep, IsBegun}
@@ -178,12 +178,12 @@ sources_are p [] = refl
 sources_are p (named x ∷ cs) = sources_are p cs
 sources_are p (replaced a e ∷ cs) = ap (λ (v : Bool). (a == p) || v) (sources_are p cs)
 
-first_then : (p : ℕ) (t : Table) (en : Option Expr × List Choice) → is_first p (t ++ en ∷ []) ≡ (is_first p t || some_from p en.1)
+first_then : (p : ℕ) (t : ChoiceTable) (en : Option Expr × List Choice) → is_first p (t ++ en ∷ []) ≡ (is_first p t || some_from p en.1)
 first_then p = or_push (λ t. is_first p t) (λ en. some_from p en.1) refl (λ en t. refl)
 
 -- ---- the next line
 -- the expression of the operation that a line's choices make
-by_line : (s : List Statement) (later : List ℕ → ℕ → Bool) (t : Table) (b : ℕ) (l : Statement) (dead v : Bool) →
+by_line : (s : List Statement) (later : List ℕ → ℕ → Bool) (t : ChoiceTable) (b : ℕ) (l : Statement) (dead v : Bool) →
     operation_expression (operation l (or_nothing (operands_chosen s later t b l (defining l)).0) dead v)
     ≡ (operands_chosen s later t b l (defining l)).0
 by_line s later t b (Cat line target left right) dead v = gives_expression (dead || v) line target _
@@ -215,17 +215,17 @@ module _ (s : List Statement) (later : List ℕ → ℕ → Bool) (b : ℕ) (l :
     marked = sym (nothing_measured 0 os);
   }
     where
-      entry_is : (t : Table) → operands_chosen s later t b l (defining l) ≡ (None, [])
+      entry_is : (t : ChoiceTable) → operands_chosen s later t b l (defining l) ≡ (None, [])
       entry_is t = chosen_simple s later t b l ∙ ap (λ (o : Option (List (List ℕ))). entry_of s later t b l o) none
 
   -- the expression of the line's operation
-  entry_expression : (t : Table) (dead v : Bool) →
+  entry_expression : (t : ChoiceTable) (dead v : Bool) →
       operation_expression (operation l (or_nothing (operands_chosen s later t b l (defining l)).0) dead v)
       ≡ (operands_chosen s later t b l (defining l)).0
   entry_expression t dead v = by_line s later t b l dead v
 
   -- a line takes expressions of lines before it alone
-  takes_before : (t : Table) (p : ℕ) → b ≤ p → (xs : List (List ℕ)) (cs : List Choice) → AreChosen s later t b l xs cs →
+  takes_before : (t : ChoiceTable) (p : ℕ) → b ≤ p → (xs : List (List ℕ)) (cs : List Choice) → AreChosen s later t b l xs cs →
       some_from p cs ≡ false
   takes_before t p le [] [] h = refl
   takes_before t p le [] (c ∷ cs) h = absurd h
@@ -235,7 +235,7 @@ module _ (s : List Statement) (later : List ℕ → ℕ → Bool) (b : ℕ) (l :
       let below : a < b = h.0.set.before in
       ap (λ (v : Bool). v || some_from p cs) (ne_eqb a p (λ e. omega (arith, e, below, le))) ∙ takes_before t p le xs cs h.1
 
-  entry_before : (t : Table) (p : ℕ) → b ≤ p → some_from p (operands_chosen s later t b l (defining l)).1 ≡ false
+  entry_before : (t : ChoiceTable) (p : ℕ) → b ≤ p → some_from p (operands_chosen s later t b l (defining l)).1 ≡ false
   entry_before t p le = pick (defining l)
     where
       pick : (o : Option Expr) → some_from p (operands_chosen s later t b l o).1 ≡ false
@@ -245,12 +245,12 @@ module _ (s : List Statement) (later : List ℕ → ℕ → Bool) (b : ℕ) (l :
 
 -- ---- the operations of a script
 module _ (s : List Statement) (later : List ℕ → ℕ → Bool) where
-  no_entries : (T : Table) (p : ℕ) (ls : List Statement) → operations later T p ls [] ≡ []
+  no_entries : (T : ChoiceTable) (p : ℕ) (ls : List Statement) → operations later T p ls [] ≡ []
   no_entries T p [] = refl
   no_entries T p (l ∷ ls) = refl
 
   -- with the lines that one line more takes
-  all_measured : (t : Table) (en : Option Expr × List Choice) (p : ℕ) (ls : List Statement) (es : Table) →
+  all_measured : (t : ChoiceTable) (en : Option Expr × List Choice) (p : ℕ) (ls : List Statement) (es : ChoiceTable) →
       measured_from p (map source_of en.1) (operations later t p ls es) ≡ operations later (t ++ en ∷ []) p ls es
   all_measured t en p [] es = refl
   all_measured t en p (l ∷ ls) [] = refl
@@ -261,7 +261,7 @@ module _ (s : List Statement) (later : List ℕ → ℕ → Bool) where
       ∷ all_measured t en (p + 1) ls es i
 
   -- with the operation of one line more
-  operation_then : (T : Table) (n p : ℕ) (ls : List Statement) (es : Table) (en : Option Expr × List Choice) (l : Statement) →
+  operation_then : (T : ChoiceTable) (n p : ℕ) (ls : List Statement) (es : ChoiceTable) (en : Option Expr × List Choice) (l : Statement) →
       p + length es ≡ n → slice_get ls (length es) ≡ Some l →
       operations later T p ls (es ++ en ∷ [])
       ≡ operations later T p ls es ++ operation l (or_nothing en.0) (is_dead later n (target_of l)) (is_first n T) ∷ []
@@ -339,7 +339,7 @@ module _ (s : List Statement) (later : List ℕ → ℕ → Bool) where
         ∙ sym (operation_then (t ++ en ∷ []) b 0 s t en l (omega (arith, so_far.long)) there));
   }
     where
-      t : Table
+      t : ChoiceTable
       t = so_far.table
 
       en : Option Expr × List Choice
@@ -363,7 +363,7 @@ module _ (s : List Statement) (later : List ℕ → ℕ → Bool) where
 
   -- after the last line
   pub all_begun : (b : ℕ) (made : List Operation) → length s ≤ b → IsBegun s later b made → made ≡ planned s later
-  all_begun b made past so_far = so_far.is ∙ ap (λ (t : Table). operations later t 0 s t) all
+  all_begun b made past so_far = so_far.is ∙ ap (λ (t : ChoiceTable). operations later t 0 s t) all
     where
       all : so_far.table ≡ exprs s later
       all = sym (at_drop_all (λ (ls : List Statement). grown s later so_far.table b ls) s b past) ∙ so_far.grows

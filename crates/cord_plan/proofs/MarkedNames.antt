@@ -9,7 +9,7 @@ use Rattle.std.proofs.Math.Nat.{div-add-mod, mod-lt}
 use Rattle.std.proofs.lemmas.Bool.{cases_eq}
 use Rattle.std.proofs.lemmas.List.{take_more}
 use Rattle.cord_plan.specs.declared.flow.numbering.Numbering.{Numbering}
-use Rattle.cord_plan.specs.Operands.{has, is_name}
+use Rattle.cord_plan.specs.Operands.{has, is_this_name}
 use Rattle.cord_plan.specs.inner.Numbering.{names_of, number_in, number_of}
 use Rattle.cord_plan.specs.inner.NameSets.{bit, IsBit, Marks}
 use Rattle.cord_plan.proofs.Named.{same_bytes, own_bytes}
@@ -93,10 +93,10 @@ module _ (t : Numbering) (g : ℕ) where
 
   -- the name of a number, where there is one
   pub marks_named : (o : Option (List ℕ)) (n w : ℕ) → Some n ≡ number_in t o →
-      ((y : List ℕ) → number_of t y ≡ Some n → Marks t g (λ x. bytes_eq x y) w) → Marks t g (λ x. is_name o x) w
+      ((y : List ℕ) → number_of t y ≡ Some n → Marks t g (λ x. bytes_eq x y) w) → Marks t g (λ x. is_this_name o x) w
   marks_named None n w e marks = let bad : ⊥ = cc in absurd bad
   marks_named (Some y) n w e marks = marks y (sym e)
 
-  pub marks_unnamed : (o : Option (List ℕ)) → None ≡ number_in t o → Marks t g (λ x. is_name o x) 0
+  pub marks_unnamed : (o : Option (List ℕ)) → None ≡ number_in t o → Marks t g (λ x. is_this_name o x) 0
   marks_unnamed None e x i b = bit_zero_is i
   marks_unnamed (Some y) e x i b = marks_none t g y (λ k mine. (let number = mine.number in let bad : ⊥ = cc in bad)) x i b

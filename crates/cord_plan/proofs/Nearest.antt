@@ -9,7 +9,7 @@ use Rattle.std.specs.Str.{bytes_eq}
 use Rattle.cord_syntax.specs.declared.statements.Statement.{Statement}
 use Rattle.cord_plan.specs.Exprs.{Expr, names}
 use Rattle.cord_plan.specs.Operands.{assigns, assigns_at, count, reads_at, read_by}
-use Rattle.cord_plan.specs.Inlined.{Choice, named, replaced, Table, first_of, is_block_at, preserves, each_from, setter, is_small}
+use Rattle.cord_plan.specs.Inlined.{Choice, named, replaced, ChoiceTable, first_of, is_block_at, preserves, each_from, setter, is_small}
 use Rattle.cord_plan.specs.Inlined.{expr_with, chosen_from, chosen_of}
 use Rattle.cord_plan.specs.inner.Choices.{nearest, is_spare, stands, expression_of, expression_in, Has}
 use Rattle.cord_plan.proofs.Chosen.{setter_is}
@@ -90,7 +90,7 @@ module _ (s : List Statement) (x : List ℕ) where
           (ap (λ (v : Bool). if v then Some p else setter s x p) f, ap (λ (n : ℕ). each_from clear n (p + 1)) none)
       pick false f reported = here (stopped p) refl f reported
 
-module _ (s : List Statement) (later : List ℕ → ℕ → Bool) (t : Table) (b : ℕ) (l : Statement) (x : List ℕ) (before after : List Expr) where
+module _ (s : List Statement) (later : List ℕ → ℕ → Bool) (t : ChoiceTable) (b : ℕ) (l : Statement) (x : List ℕ) (before after : List Expr) where
   -- where there is no nearest line, the operand stands by its name
   pub kept_far : nearest s x b ≡ None → named x ≡ chosen_of s later t b l x before after (setter s x b)
   kept_far e = pick (setter s x b) refl
@@ -178,7 +178,7 @@ count_here names i y x lt is =
     ∙ ap (λ (z : List ℕ). if bytes_eq x z then suc (count x (drop (i + 1) names)) else count x (drop (i + 1) names)) (sym is)
 
 -- the expression of a line, as a table of the program has it
-pub first_in : (table : List (Option Expr)) (t : Table) (a : ℕ) → Has table t → expression_in table a ≡ first_of (slice_get t a)
+pub first_in : (table : List (Option Expr)) (t : ChoiceTable) (a : ℕ) → Has table t → expression_in table a ≡ first_of (slice_get t a)
 first_in table t a has = ap (λ (xs : List (Option Expr)). expression_in xs a) (sym has)
     ∙ (ap (λ (o : Option (Option Expr)). expression_of o) (slice_get-map (λ (entry : Option Expr × List Choice). entry.0) t a)
     ∙ pick (slice_get t a))

@@ -8,7 +8,7 @@ use Rattle.cord_syntax.specs.declared.statements.Statement.TheVariants.{Balance,
 use Rattle.cord_syntax.specs.declared.statements.Statement.TheVariants.{Assign, Add, Sub, EcInit, EcPut, EcCat, EcStr, Put, Repeat, If}
 use Rattle.cord_syntax.specs.declared.statements.Statement.TheVariants.{Else, End}
 use Rattle.cord_plan.specs.Exprs.{Expr}
-use Rattle.cord_plan.specs.Inlined.{Table, defining, exprs}
+use Rattle.cord_plan.specs.Inlined.{ChoiceTable, defining, exprs}
 use Rattle.cord_plan.specs.Verbatim.{KeepsNoOther}
 use Rattle.cord_plan.specs.Operands.{target_of}
 use Rattle.cord_plan.specs.Planned.{Made, Joined, Literal, OfFile, OfEager, OfLazy, OfFunction, Balanced, OfExtensible, Printed, gives}
@@ -58,7 +58,7 @@ kept_trivial [] = All-nil KeepsNoOther
 kept_trivial (l ∷ rest) = All-cons KeepsNoOther (operation l (or_nothing (defining l)) false false) (trivial rest)
     (kept_line l (or_nothing (defining l)) false false) (kept_trivial rest)
 
-kept_lines : (later : List ℕ → ℕ → Bool) (table : Table) (p : ℕ) (s : List Statement) (entries : Table) →
+kept_lines : (later : List ℕ → ℕ → Bool) (table : ChoiceTable) (p : ℕ) (s : List Statement) (entries : ChoiceTable) →
     All KeepsNoOther (operations later table p s entries)
 kept_lines later table p [] entries = All-nil KeepsNoOther
 kept_lines later table p (l ∷ rest) [] = All-nil KeepsNoOther

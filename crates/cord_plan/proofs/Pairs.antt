@@ -10,7 +10,7 @@ use Rattle.cord_syntax.specs.declared.statements.Statement.{Statement}
 use Rattle.cord_plan.specs.declared.TheConstants.{MAX_EXPR_PARTS}
 use Rattle.cord_plan.specs.Exprs.{Expr, parts, names}
 use Rattle.cord_plan.specs.Operands.{count, has, read_by, reads_at, assigns, assigns_at}
-use Rattle.cord_plan.specs.Inlined.{Table, Choice, named, replaced, expr_of, expr_with, is_small, is_block_at, each_from, preserves}
+use Rattle.cord_plan.specs.Inlined.{ChoiceTable, Choice, named, replaced, expr_of, expr_with, is_small, is_block_at, each_from, preserves}
 use Rattle.cord_plan.specs.Inlined.{first_of}
 use Rattle.cord_plan.specs.Inlined.{defining, choices, operands_chosen}
 use Rattle.cord_plan.specs.Pairs.{IsPair, numbers_named, numbers_named_at, IsNoNumber}
@@ -26,7 +26,7 @@ module _ (s : List Statement) (later : List ℕ → ℕ → Bool) where
     pub once : (count x (read_by l) == 1) ≡ true
     pub preserved : each_from (λ m. preserves (slice_get s m) (names r)) (b - a) a ≡ true
 
-  pub taken_fits : (table : Table) (b : ℕ) (l : Statement) (x : List ℕ) (a : ℕ) (r : Expr) → Taken s later table b l x a r → Fits r a b l x
+  pub taken_fits : (table : ChoiceTable) (b : ℕ) (l : Statement) (x : List ℕ) (a : ℕ) (r : Expr) → Taken s later table b l x a r → Fits r a b l x
   taken_fits table b l x a r h =
       let quiet = each_from (λ m. not (is_block_at (slice_get s m)) && not (reads_at (slice_get s m) x)) (b - (a + 1)) (a + 1) in
       let once = count x (read_by l) == 1 in
@@ -42,7 +42,7 @@ module _ (s : List Statement) (later : List ℕ → ℕ → Bool) where
     once : count x (read_by l) ≡ 1
     stays : (m : ℕ) (y : List ℕ) → a ≤ m → m < b → has (names r) y ≡ true → assigns_at (slice_get s m) y ≡ false
 
-  taken_facts : (table : Table) (b : ℕ) (l : Statement) (x : List ℕ) (a : ℕ) (r : Expr) → Taken s later table b l x a r → Facts r a b l x
+  taken_facts : (table : ChoiceTable) (b : ℕ) (l : Statement) (x : List ℕ) (a : ℕ) (r : Expr) → Taken s later table b l x a r → Facts r a b l x
   taken_facts table b l x a r h =
       let before : a < b = h.set.before in
       let f : Fits r a b l x = taken_fits table b l x a r h in
@@ -72,7 +72,7 @@ module _ (s : List Statement) (later : List ℕ → ℕ → Bool) where
   EntryNamed k en = (e : Expr) (y : List ℕ) → en.0 ≡ Some e → has (names e) y ≡ true → NamedBy k y
 
   -- what stands at a place among the expressions of choices
-  record ChosenAt (table : Table) (b : ℕ) (l : Statement) (xs : List (List ℕ)) (cs : List Choice) (k : ℕ) (f : Expr) : Type 0 where
+  record ChosenAt (table : ChoiceTable) (b : ℕ) (l : Statement) (xs : List (List ℕ)) (cs : List Choice) (k : ℕ) (f : Expr) : Type 0 where
     operand : List ℕ
     choice : Choice
     is_operand : slice_get xs k ≡ Some operand
@@ -80,7 +80,7 @@ module _ (s : List Statement) (later : List ℕ → ℕ → Bool) where
     is : expr_of choice ≡ f
     chosen : Chosen s later table b l operand choice
 
-  chosen_at : (table : Table) (b : ℕ) (l : Statement) (xs : List (List ℕ)) (cs : List Choice) (k : ℕ) (f : Expr) →
+  chosen_at : (table : ChoiceTable) (b : ℕ) (l : Statement) (xs : List (List ℕ)) (cs : List Choice) (k : ℕ) (f : Expr) →
       AreChosen s later table b l xs cs → slice_get (map (λ c. expr_of c) cs) k ≡ Some f → ChosenAt table b l xs cs k f
   chosen_at table b l [] [] k f h e = let bad : ⊥ = cc in absurd bad
   chosen_at table b l [] (c ∷ cs) k f h e = absurd h
@@ -92,7 +92,7 @@ module _ (s : List Statement) (later : List ℕ → ℕ → Bool) where
       record { operand = r.operand; choice = r.choice; is_operand = r.is_operand; is_choice = r.is_choice; is = r.is; chosen = r.chosen }
 
   -- the replacement at an operand's place
-  pub taken_at : (table : Table) (b : ℕ) (l : Statement) (xs : List (List ℕ)) (cs : List Choice) (i : ℕ) (t : List ℕ) (a : ℕ) (r : Expr) →
+  pub taken_at : (table : ChoiceTable) (b : ℕ) (l : Statement) (xs : List (List ℕ)) (cs : List Choice) (i : ℕ) (t : List ℕ) (a : ℕ) (r : Expr) →
       AreChosen s later table b l xs cs → slice_get xs i ≡ Some t → slice_get cs i ≡ Some (replaced a r) → Taken s later table b l t a r
   taken_at table b l [] cs i t a r h e f = let bad : ⊥ = cc in absurd bad
   taken_at table b l (x ∷ xs) [] i t a r h e f = absurd h
@@ -103,19 +103,19 @@ module _ (s : List Statement) (later : List ℕ → ℕ → Bool) where
   taken_at table b l (x ∷ xs) (c ∷ cs) (suc i) t a r h e f = taken_at table b l xs cs i t a r h.1 e f
 
   -- the entry of an expression
-  pub record EntryOf (table : Table) (a : ℕ) (r : Expr) : Type 0 where
+  pub record EntryOf (table : ChoiceTable) (a : ℕ) (r : Expr) : Type 0 where
     pub en : Option Expr × List Choice
     pub at : slice_get table a ≡ Some en
     pub is : en.0 ≡ Some r
 
-  pub entry_of : (table : Table) (a : ℕ) (r : Expr) → first_of (slice_get table a) ≡ Some r → EntryOf table a r
+  pub entry_of : (table : ChoiceTable) (a : ℕ) (r : Expr) → first_of (slice_get table a) ≡ Some r → EntryOf table a r
   entry_of table a r e = pick (slice_get table a) refl e
     where
       pick : (o : Option (Option Expr × List Choice)) → slice_get table a ≡ o → first_of o ≡ Some r → EntryOf table a r
       pick None at h = let bad : ⊥ = cc in absurd bad
       pick (Some en) at h = record { en = en; at = at; is = h }
 
-  module _ (table : Table) (b : ℕ) (l : Statement) (at : slice_get s b ≡ Some l) (each : EachEntry s later EntryNamed table) where
+  module _ (table : ChoiceTable) (b : ℕ) (l : Statement) (at : slice_get s b ≡ Some l) (each : EachEntry s later EntryNamed table) where
     abbrev made : List Choice
     made = choices s later table b l [] (read_by l)
 
@@ -250,7 +250,7 @@ module _ (s : List Statement) (later : List ℕ → ℕ → Bool) where
   abbrev EntryFine : ℕ → Option Expr × List Choice → Type 0
   EntryFine k en = EntryNamed k en × EntryOut k en
 
-  entry_fine : (table : Table) (b : ℕ) (l : Statement) → slice_get s b ≡ Some l → IsPrefix s later table →
+  entry_fine : (table : ChoiceTable) (b : ℕ) (l : Statement) → slice_get s b ≡ Some l → IsPrefix s later table →
       EachEntry s later EntryFine table → EntryFine b (operands_chosen s later table b l (defining l))
   entry_fine table b l at prefix each = (
     entry_named table b l at is_named (defining l),
@@ -271,7 +271,7 @@ module _ (s : List Statement) (later : List ℕ → ℕ → Bool) where
   abbrev EntrySmall : ℕ → Option Expr × List Choice → Type 0
   EntrySmall k en = (e : Expr) (i a : ℕ) (r : Expr) → en.0 ≡ Some e → slice_get en.1 i ≡ Some (replaced a r) → parts e ≤ MAX_EXPR_PARTS
 
-  small_of : (table : Table) (b : ℕ) (l : Statement) (o : Option Expr) → EntrySmall b (operands_chosen s later table b l o)
+  small_of : (table : ChoiceTable) (b : ℕ) (l : Statement) (o : Option Expr) → EntrySmall b (operands_chosen s later table b l o)
   small_of table b l None e i a r is is_replaced = let bad : ⊥ = cc in absurd bad
   small_of table b l (Some first) e i a r is is_replaced =
       let cs : List Choice = choices s later table b l [] (read_by l) in
@@ -287,12 +287,12 @@ module _ (s : List Statement) (later : List ℕ → ℕ → Bool) where
   abbrev pub EntryDefining : ℕ → Option Expr × List Choice → Type 0
   EntryDefining k en = (l : Statement) (e : Expr) → slice_get s k ≡ Some l → en.0 ≡ Some e → (o : Expr) × (defining l ≡ Some o)
 
-  defining_of : (table : Table) (b : ℕ) (l : Statement) (o : Option Expr) → defining l ≡ o → (e : Expr) →
+  defining_of : (table : ChoiceTable) (b : ℕ) (l : Statement) (o : Option Expr) → defining l ≡ o → (e : Expr) →
       (operands_chosen s later table b l o).0 ≡ Some e → (o : Expr) × (defining l ≡ Some o)
   defining_of table b l None defining_is e is = let bad : ⊥ = cc in absurd bad
   defining_of table b l (Some first) defining_is e is = (first, defining_is)
 
-  pub entry_defining : (table : Table) (b : ℕ) (l : Statement) → slice_get s b ≡ Some l → IsPrefix s later table →
+  pub entry_defining : (table : ChoiceTable) (b : ℕ) (l : Statement) → slice_get s b ≡ Some l → IsPrefix s later table →
       EachEntry s later EntryDefining table → EntryDefining b (operands_chosen s later table b l (defining l))
   entry_defining table b l at prefix each line e line_at is =
       let same : l ≡ line = (let both : Some l ≡ Some line = sym at ∙ line_at in cc) in

@@ -9,7 +9,7 @@ use Rattle.cord_syntax.specs.declared.statements.Statement.{Statement}
 use Rattle.cord_syntax.specs.declared.statements.Statement.TheVariants.{Chars, Nul, Cat, Catn, Catc, Substr, Put}
 use Rattle.cord_plan.specs.Exprs.{Expr}
 use Rattle.cord_plan.specs.Operands.{read_by, target_of, assigns, assigns_at}
-use Rattle.cord_plan.specs.Inlined.{Table, Choice, replaced, defining, choices, operands_chosen, exprs}
+use Rattle.cord_plan.specs.Inlined.{ChoiceTable, Choice, replaced, defining, choices, operands_chosen, exprs}
 use Rattle.cord_plan.specs.Planned.{Operation, Measure, Joined, gives, or_nothing, operation, is_from, some_from, is_first, is_dead}
 use Rattle.cord_plan.specs.Planned.{operations, planned}
 use Rattle.cord_plan.specs.Pairs.{IsPair, expression_of}
@@ -19,7 +19,7 @@ use Rattle.cord_plan.proofs.ReadNames.{HasDefining}
 use Rattle.cord_plan.proofs.Pairs.{taken_at, EntryOf, entry_of, EntryDefining, entry_defining}
 
 -- the operation at a line's place
-operation_at : (later : List ℕ → ℕ → Bool) (table : Table) (p : ℕ) (s : List Statement) (entries : Table) (k : ℕ) (l : Statement)
+operation_at : (later : List ℕ → ℕ → Bool) (table : ChoiceTable) (p : ℕ) (s : List Statement) (entries : ChoiceTable) (k : ℕ) (l : Statement)
     (en : Option Expr × List Choice) → slice_get s k ≡ Some l → slice_get entries k ≡ Some en →
     slice_get (operations later table p s entries) k ≡ Some (operation l (or_nothing en.0) (is_dead later (p + k) (target_of l))
     (is_first (p + k) table))
@@ -45,7 +45,7 @@ some_found a zero r (c ∷ cs) e =
     or_left (is_from a c) (some_from a cs) (ap (λ (d : Choice). is_from a d) same ∙ eq-eqb a a refl)
 some_found a (suc i) r (c ∷ cs) e = or_right (is_from a c) (some_from a cs) (some_found a i r cs e)
 
-first_found : (a b : ℕ) (table : Table) (en : Option Expr × List Choice) → slice_get table b ≡ Some en → some_from a en.1 ≡ true →
+first_found : (a b : ℕ) (table : ChoiceTable) (en : Option Expr × List Choice) → slice_get table b ≡ Some en → some_from a en.1 ≡ true →
     is_first a table ≡ true
 first_found a b [] en e f = let bad : ⊥ = cc in absurd bad
 first_found a zero (first ∷ table) en e f =
@@ -111,7 +111,7 @@ module _ (s : List Statement) (later : List ℕ → ℕ → Bool) where
   EntryEarlier k en = (l : Statement) (t : List ℕ) (a i : ℕ) (r e : Expr) → slice_get s k ≡ Some l → en.0 ≡ Some e →
       slice_get (read_by l) i ≡ Some t → slice_get en.1 i ≡ Some (replaced a r) → Earlier a t r
 
-  earlier_of : (table : Table) (b : ℕ) (l : Statement) → IsPrefix s later table → (o : Option Expr) (t : List ℕ) (a i : ℕ) (r e : Expr) →
+  earlier_of : (table : ChoiceTable) (b : ℕ) (l : Statement) → IsPrefix s later table → (o : Option Expr) (t : List ℕ) (a i : ℕ) (r e : Expr) →
       (operands_chosen s later table b l o).0 ≡ Some e → slice_get (read_by l) i ≡ Some t →
       slice_get (operands_chosen s later table b l o).1 i ≡ Some (replaced a r) → Earlier a t r
   earlier_of table b l prefix None t a i r e is operand is_replaced = let bad : ⊥ = cc in absurd bad
@@ -122,7 +122,7 @@ module _ (s : List Statement) (later : List ℕ → ℕ → Bool) where
       let en : EntryOf s later table a r = entry_of s later table a r taken.from in
       record { assigned = taken.set.assigns; entry = record { en = en.en; at = prefix a en.en en.at; is = en.is } }
 
-  entry_earlier : (table : Table) (b : ℕ) (l : Statement) → slice_get s b ≡ Some l → IsPrefix s later table →
+  entry_earlier : (table : ChoiceTable) (b : ℕ) (l : Statement) → slice_get s b ≡ Some l → IsPrefix s later table →
       EachEntry s later EntryEarlier table → EntryEarlier b (operands_chosen s later table b l (defining l))
   entry_earlier table b l at prefix each line t a i r e line_at is operand is_replaced =
       let same : line ≡ l = (let both : Some line ≡ Some l = sym line_at ∙ at in cc) in

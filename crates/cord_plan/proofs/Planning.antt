@@ -12,9 +12,9 @@ use Rattle.cord_syntax.specs.declared.statements.Statement.{Statement}
 use Rattle.cord_syntax.specs.declared.statements.Statement.TheVariants.{Chars, Nul, Cat, Catn, Catc, Substr, Put}
 use Rattle.cord_core.proofs.Places.{at_here, some_here}
 use Rattle.cord_plan.specs.Exprs.{Expr, name, names}
-use Rattle.cord_plan.specs.Operands.{count, read_by, target_of, is_name, assigns, assigns_at, reads_at}
+use Rattle.cord_plan.specs.Operands.{count, read_by, target_of, is_this_name, assigns, assigns_at, reads_at}
 use Rattle.cord_plan.specs.Liveness.{NotLive, IsLater}
-use Rattle.cord_plan.specs.Inlined.{Table, Choice, named, replaced, expr_of, expr_with, first_of, defining, setter, fits, is_small}
+use Rattle.cord_plan.specs.Inlined.{ChoiceTable, Choice, named, replaced, expr_of, expr_with, first_of, defining, setter, fits, is_small}
 use Rattle.cord_plan.specs.Inlined.{is_block_at}
 use Rattle.cord_plan.specs.Inlined.{each_from, preserves, chosen_from, chosen_of, choices, operands_chosen, entry, grown, exprs}
 use Rattle.cord_plan.specs.Planned.{or_nothing, operation, operations, is_dead, is_first, some_from, planned}
@@ -64,10 +64,10 @@ one_target None x y e f = let bad : ⊥ = cc in absurd bad
 one_target (Some l) x y e f = pick (target_of l) refl
   where
     pick : (t : Option (List ℕ)) → target_of l ≡ t → x ≡ y
-    pick None h = let bad : false ≡ true = ap (λ (w : Option (List ℕ)). is_name w x) (sym h) ∙ e in let no_one : ⊥ = cc in absurd no_one
+    pick None h = let bad : false ≡ true = ap (λ (w : Option (List ℕ)). is_this_name w x) (sym h) ∙ e in let no_one : ⊥ = cc in absurd no_one
     pick (Some z) h =
-        let one : bytes_eq x z ≡ true = ap (λ (w : Option (List ℕ)). is_name w x) (sym h) ∙ e in
-        let two : bytes_eq y z ≡ true = ap (λ (w : Option (List ℕ)). is_name w y) (sym h) ∙ f in
+        let one : bytes_eq x z ≡ true = ap (λ (w : Option (List ℕ)). is_this_name w x) (sym h) ∙ e in
+        let two : bytes_eq y z ≡ true = ap (λ (w : Option (List ℕ)). is_this_name w y) (sym h) ∙ f in
         (bytes_eq-Decides x z).0 one ∙ sym ((bytes_eq-Decides y z).0 two)
 
 -- ---- the last line that assigns a name
@@ -171,7 +171,7 @@ some_reported p (replaced a r ∷ cs) e = pick (λ h. some_reported p cs h) (or_
     pick rest (inl h) = (0, r, ap (λ (n : ℕ). Some (replaced n r)) (eqb-true a p h))
     pick rest (inr h) = let w = rest h in (suc w.0, w.1, w.2)
 
-first_reported : (p : ℕ) (table : Table) → is_first p table ≡ true → (b : ℕ) × (en : Option Expr × List Choice) ×
+first_reported : (p : ℕ) (table : ChoiceTable) → is_first p table ≡ true → (b : ℕ) × (en : Option Expr × List Choice) ×
     (slice_get table b ≡ Some en) × (some_from p en.1 ≡ true)
 first_reported p [] e = let bad : ⊥ = cc in absurd bad
 first_reported p (en ∷ table) e = pick (λ h. first_reported p table h) (or_true (some_from p en.1) (is_first p table) e)
@@ -184,7 +184,7 @@ first_reported p (en ∷ table) e = pick (λ h. first_reported p table h) (or_tr
 
 module _ (s : List Statement) (later : List ℕ → ℕ → Bool) where
   -- ---- what is chosen for the operands of a line
-  module _ (table : Table) (b : ℕ) (l : Statement) where
+  module _ (table : ChoiceTable) (b : ℕ) (l : Statement) where
     -- the operand stays, or the expression of the line that assigned it last fits
     abbrev Picked : List ℕ → Choice → Type 0
     Picked x (named y) = y ≡ x
@@ -276,16 +276,16 @@ module _ (s : List Statement) (later : List ℕ → ℕ → Bool) where
       }
 
   -- ---- the table of a script
-  abbrev whole_table : Table
+  abbrev whole_table : ChoiceTable
   whole_table = exprs s later
 
-  grown_keeps : (table : Table) (b : ℕ) (rest : List Statement) (k : ℕ) (en : Option Expr × List Choice) → slice_get table k ≡ Some en →
+  grown_keeps : (table : ChoiceTable) (b : ℕ) (rest : List Statement) (k : ℕ) (en : Option Expr × List Choice) → slice_get table k ≡ Some en →
       slice_get (grown s later table b rest) k ≡ Some en
   grown_keeps table b [] k en e = e
   grown_keeps table b (l ∷ rest) k en e = grown_keeps (table ++ operands_chosen s later table b l (defining l) ∷ []) (b + 1) rest k en
       (get_append table (operands_chosen s later table b l (defining l) ∷ []) k en e)
 
-  pub grown_length : (table : Table) (b : ℕ) (rest : List Statement) → length (grown s later table b rest) ≡ length table + length rest
+  pub grown_length : (table : ChoiceTable) (b : ℕ) (rest : List Statement) → length (grown s later table b rest) ≡ length table + length rest
   grown_length table b [] = omega arith
   grown_length table b (l ∷ rest) =
       let ih : length (grown s later (table ++ operands_chosen s later table b l (defining l) ∷ []) (b + 1) rest)
@@ -296,12 +296,12 @@ module _ (s : List Statement) (later : List ℕ → ℕ → Bool) where
       omega (arith, ih, long)
 
   -- the entry of a line, chosen over a prefix of the table
-  record EntryAt (final : Table) (b : ℕ) (l : Statement) : Type 0 where
-    prefix : Table
+  record EntryAt (final : ChoiceTable) (b : ℕ) (l : Statement) : Type 0 where
+    prefix : ChoiceTable
     keeps_on : (k : ℕ) (en : Option Expr × List Choice) → slice_get prefix k ≡ Some en → slice_get final k ≡ Some en
     entry_is : slice_get final b ≡ Some (operands_chosen s later prefix b l (defining l))
 
-  grown_at : (table : Table) (rest : List Statement) (k : ℕ) (l : Statement) → slice_get rest k ≡ Some l →
+  grown_at : (table : ChoiceTable) (rest : List Statement) (k : ℕ) (l : Statement) → slice_get rest k ≡ Some l →
       EntryAt (grown s later table (length table) rest) (length table + k) l
   grown_at table [] k l e = let bad : ⊥ = cc in absurd bad
   grown_at table (m ∷ rest) zero l e =
@@ -352,7 +352,7 @@ module _ (s : List Statement) (later : List ℕ → ℕ → Bool) where
   }
 
   -- the operations are those of the decisions
-  operations_decided : (p : ℕ) (rest : List Statement) (entries : Table) → length entries ≡ length rest →
+  operations_decided : (p : ℕ) (rest : List Statement) (entries : ChoiceTable) → length entries ≡ length rest →
       ((k : ℕ) → slice_get s (p + k) ≡ slice_get rest k) → ((k : ℕ) → slice_get whole_table (p + k) ≡ slice_get entries k) →
       operations later whole_table p rest entries ≡ decided_from decisions p rest
   operations_decided p [] entries long line here = refl
@@ -518,7 +518,7 @@ module _ (s : List Statement) (later : List ℕ → ℕ → Bool) where
     dead_at : (p : ℕ) (x : List ℕ) → decisions.dead p ≡ true → assigns_at (slice_get s p) x ≡ true → NotLive s x p
     dead_at p x e f = pick (slice_get s p) e f
       where
-        by_target : (t : Option (List ℕ)) → is_dead later p t ≡ true → is_name t x ≡ true → NotLive s x p
+        by_target : (t : Option (List ℕ)) → is_dead later p t ≡ true → is_this_name t x ≡ true → NotLive s x p
         by_target None e f = let bad : ⊥ = cc in absurd bad
         by_target (Some z) e f = subst (λ (y : List ℕ). NotLive s y p) (sym ((bytes_eq-Decides x z).0 f))
             (reported.not_live z p (not_true (later z p) e))

@@ -4,7 +4,7 @@ use Rattle.std.proofs.Common.{Option, Some, None, refl, sym, ap, ◌∙◌, arit
 use Rattle.std.specs.Prelude.{slice_get, unwrap_or, if◌then◌else◌, replicate}
 use Rattle.std.specs.Str.{bytes_eq}
 use Rattle.std.proofs.lemmas.Option.{slice_get_within}
-use Rattle.cord_plan.specs.Operands.{has, is_name}
+use Rattle.cord_plan.specs.Operands.{has, is_this_name}
 use Rattle.cord_plan.specs.inner.Numbering.{names_of, number_of}
 use Rattle.cord_plan.specs.inner.Places.{IsNumber}
 use Rattle.cord_plan.specs.inner.Recent.{AreFor, PutsPlaces, entry_at, entry_of}
@@ -51,12 +51,12 @@ module _ (t : Numbering) (w : Option ℕ) (places : List (Option ℕ)) where
       by_name false e = by_number (number_of t x) refl e
 
   -- an entry for a name, where there is one
-  pub puts_none : (o : Option (List ℕ)) → IsNumber (names_of t) o None → PutsPlaces t (λ x. is_name o x) w places places
+  pub puts_none : (o : Option (List ℕ)) → IsNumber (names_of t) o None → PutsPlaces t (λ x. is_this_name o x) w places places
   puts_none None e = puts_nothing
   puts_none (Some y) e = let bad : ⊥ = cc in absurd bad
 
   pub puts_one : (o : Option (List ℕ)) (n : ℕ) → IsNumber (names_of t) o (Some n) → n < length places →
-      PutsPlaces t (λ x. is_name o x) w places (set places n w)
+      PutsPlaces t (λ x. is_this_name o x) w places (set places n w)
   puts_one None n e lt = let bad : ⊥ = cc in absurd bad
   puts_one (Some y) n e lt = let there : slice_get (names_of t) n ≡ Some y = cc in puts_there y n there lt
 

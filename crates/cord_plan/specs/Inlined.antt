@@ -66,8 +66,8 @@ setter s x zero = None
 setter s x (suc p) = if assigns_at (slice_get s p) x then Some p else setter s x p
 
 -- the choices of a line, and the lines before it that have been chosen for
-abbrev pub Table : Type 0
-Table = List (Option Expr × List Choice)
+abbrev pub ChoiceTable : Type 0
+ChoiceTable = List (Option Expr × List Choice)
 
 abbrev pub first_of : Option (Option Expr × List Choice) → Option Expr
 first_of None = None
@@ -91,12 +91,12 @@ module _ (s : List Statement) (later : List ℕ → ℕ → Bool) where
       if fits e a b l x && is_small (expr_with l (before ++ e ∷ after)) then replaced a e else named x
 
   -- what stands for the operand x, which the line at this place was the last to assign
-  abbrev pub chosen_of : Table → ℕ → Statement → List ℕ → List Expr → List Expr → Option ℕ → Choice
+  abbrev pub chosen_of : ChoiceTable → ℕ → Statement → List ℕ → List Expr → List Expr → Option ℕ → Choice
   chosen_of table b l x before after None = named x
   chosen_of table b l x before after (Some a) = chosen_from b l x before after a (first_of (slice_get table a))
 
   -- the operands of the line l at b from left to right: what was chosen so far, and those that are left
-  abbrev pub choices : Table → ℕ → Statement → List Choice → List (List ℕ) → List Choice
+  abbrev pub choices : ChoiceTable → ℕ → Statement → List Choice → List (List ℕ) → List Choice
   choices table b l done [] = done
   choices table b l done (x ∷ xs) =
       choices table b l (done ++ chosen_of table b l x (map (λ c. expr_of c) done) (map (λ y. name y) xs) (setter s x b) ∷ []) xs
@@ -106,14 +106,14 @@ module _ (s : List Statement) (later : List ℕ → ℕ → Bool) where
   entry l cs = (expr_with l (map (λ c. expr_of c) cs), cs)
 
   -- the line's operands are chosen for where it is simple
-  abbrev pub operands_chosen : Table → ℕ → Statement → Option Expr → Option Expr × List Choice
+  abbrev pub operands_chosen : ChoiceTable → ℕ → Statement → Option Expr → Option Expr × List Choice
   operands_chosen table b l None = (None, [])
   operands_chosen table b l (Some e) = entry l (choices table b l [] (read_by l))
 
   -- going down the script, the expression E(l) and the choices of each line
-  abbrev pub grown : Table → ℕ → List Statement → Table
+  abbrev pub grown : ChoiceTable → ℕ → List Statement → ChoiceTable
   grown table b [] = table
   grown table b (l ∷ rest) = grown (table ++ operands_chosen table b l (defining l) ∷ []) (b + 1) rest
 
-  abbrev pub exprs : Table
+  abbrev pub exprs : ChoiceTable
   exprs = grown [] 0 s

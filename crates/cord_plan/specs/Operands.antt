@@ -15,16 +15,16 @@ abbrev pub has : List (List ℕ) → List ℕ → Bool
 has [] x = false
 has (y ∷ ys) x = bytes_eq x y || has ys x
 
-abbrev pub is_name : Option (List ℕ) → List ℕ → Bool
-is_name None x = false
-is_name (Some y) x = bytes_eq x y
+abbrev pub is_this_name : Option (List ℕ) → List ℕ → Bool
+is_this_name None x = false
+is_this_name (Some y) x = bytes_eq x y
 
 -- whether a line reads the bytes of a name, and whether it assigns it
 abbrev pub reads : Statement → List ℕ → Bool
 reads l x = has (read_by l) x
 
 abbrev pub assigns : Statement → List ℕ → Bool
-assigns l x = is_name (target_of l) x
+assigns l x = is_this_name (target_of l) x
 
 -- the same of the line at a place; where there is no line, nothing is read or assigned
 abbrev pub reads_at : Option Statement → List ℕ → Bool

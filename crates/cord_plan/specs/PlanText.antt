@@ -70,9 +70,9 @@ abbrev pub argument : Argument → List ℕ
 argument (arguments.Number n) = number n
 argument (arguments.Cord x) = x
 
-abbrev pub argument_words : List Argument → List ℕ
-argument_words [] = []
-argument_words (a ∷ rest) = 32 ∷ argument a ++ argument_words rest
+abbrev pub printed_arguments : List Argument → List ℕ
+printed_arguments [] = []
+printed_arguments (a ∷ rest) = 32 ∷ argument a ++ printed_arguments rest
 
 abbrev pub made : Made → List ℕ
 made (Joined e) = expr e
@@ -83,7 +83,7 @@ made (OfLazy path) = called (codes "lazy") (quoted path)
 made (OfFunction f n) = called (codes "fn") (spaced (function_word f ∷ number n ∷ []))
 made (Balanced x) = called (codes "balance") x
 made (OfExtensible e) = called (codes "ectocord") e
-made (Printed text format args) = called (codes "sprintf") (decimal (length text) ++ argument_words args)
+made (Printed text format args) = called (codes "sprintf") (decimal (length text) ++ printed_arguments args)
 
 -- `number N word(operands)`
 abbrev pub counted : List ℕ → List ℕ → List (List ℕ) → List ℕ

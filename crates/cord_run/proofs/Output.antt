@@ -10,7 +10,7 @@ use Rattle.cord_io.specs.declared.faults.CordError.TheVariants.{NoMemory, TooLon
 use Rattle.cord_io.specs.declared.writing.Sink as sinks
 use Rattle.cord_node.specs.declared.Node.{Node}
 use Rattle.cord_core.specs.Cord.{bytes_of, all_bytes, CordFitsIn, AllFitIn}
-use Rattle.cord_iter.specs.Output.{Counts, CountsFaults, IsPrefixOf, Takes}
+use Rattle.cord_iter.specs.Output.{FailureCounts, CountsFaults, IsPrefixOf, Takes}
 use Rattle.cord_iter.proofs.Takes.{appends_both, prefix_join, prefix_more}
 use Rattle.cord_meaning.specs.declared.ends.FaultKind.{FaultKind}
 use Rattle.cord_plan.specs.Exprs.{Expr}
@@ -96,7 +96,7 @@ module _ (entries : List Entry) (e : Expr) (ls : Lengths) (over : IsOver ls entr
   wrote_part ps WriteFailed whole h = (all_bytes t ps, whole.bytes t (over_reported ls t reported entries over) there, h)
 
 -- a failure of a device was counted as such
-pub stop_counts : (error : CordError) (n m : Counts) → CountsFaults {T = Unit {0}} n m (Err error) →
+pub stop_counts : (error : CordError) (n m : FailureCounts) → CountsFaults {T = Unit {0}} n m (Err error) →
     CountsStops n m (Err (stop_of_failure error))
 stop_counts NoMemory n m h = absurd h
 stop_counts TooLong n m h = absurd h
@@ -104,7 +104,7 @@ stop_counts ReadFailed n m h = h
 stop_counts WriteFailed n m h = h
 
 -- what was refused counted nothing
-pub unbuilt_counts : (entries : List Entry) (e : Expr) (stop : Stop) (n m : Counts) → IsUnbuilt entries e stop → m.source ≡ n.source →
+pub unbuilt_counts : (entries : List Entry) (e : Expr) (stop : Stop) (n m : FailureCounts) → IsUnbuilt entries e stop → m.source ≡ n.source →
     m.sink ≡ n.sink → CountsStops n m (Err stop)
 unbuilt_counts entries e (stops.Fault kind) n m h source sink = (source, sink)
 unbuilt_counts entries e stops.NoMemory n m h source sink = (source, sink)

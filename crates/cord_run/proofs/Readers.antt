@@ -8,7 +8,7 @@ use Rattle.cord_syntax.specs.declared.statements.Statement.TheVariants.{Else, En
 use Rattle.cord_meaning.specs.Ends.{IsPut, IsReading}
 use Rattle.cord_meaning.specs.Statements.{line_of}
 use Rattle.cord_plan.specs.Exprs.{Expr}
-use Rattle.cord_plan.specs.Inlined.{Table, exprs, defining}
+use Rattle.cord_plan.specs.Inlined.{ChoiceTable, exprs, defining}
 use Rattle.cord_plan.specs.Meaning.{operation_line}
 use Rattle.cord_plan.specs.Operands.{target_of}
 use Rattle.cord_plan.specs.Planned.{Made, Joined, Literal, OfFile, OfEager, OfLazy, OfFunction, Balanced, OfExtensible, Printed, Operation}
@@ -103,7 +103,7 @@ trivial_alike [] = no_operations []
 trivial_alike (l ∷ rest) = with_first l (operation l (or_nothing (defining l)) false false) rest (trivial rest)
     (alike l (or_nothing (defining l)) false false) (trivial_alike rest)
 
-from_place : (later : List ℕ → ℕ → Bool) (table : Table) (p : ℕ) (s : List Statement) (entries : Table) →
+from_place : (later : List ℕ → ℕ → Bool) (table : ChoiceTable) (p : ℕ) (s : List Statement) (entries : ChoiceTable) →
     FailsNowhereElse s (operations later table p s entries)
 from_place later table p [] entries = no_operations []
 from_place later table p (l ∷ rest) [] = no_operations (l ∷ rest)

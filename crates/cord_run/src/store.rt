@@ -9,7 +9,7 @@ ghost use Rattle.std.specs.Prelude.{Err, None, Some, IfErr, IsErr};
 ghost use Rattle.cord_core.specs.Cord.{text_len};
 ghost use Rattle.cord_core.specs.Refusals.{IsRefusal};
 ghost use Rattle.cord_run.specs.inner.Edits.{HasSplice, IsWholeContent, IsWholeAt, spliced_len};
-ghost use Rattle.cord_run.specs.inner.Extensibles.{cells_of, Grew};
+ghost use Rattle.cord_run.specs.inner.Extensibles.{cells_or_none, Grew};
 ghost use Rattle.cord_run.specs.inner.Entries.{are_distinct, cells_in, content_in, content_length, cord_in};
 ghost use Rattle.cord_run.specs.inner.Entries.{extensible_in, length_in, names_in, number_in, operand_in, HasContent, HasExtensible};
 ghost use Rattle.cord_run.specs.inner.Entries.{HasNoEntry, HasNumber, IsEntryAt, IsFirstEntry};
@@ -239,10 +239,10 @@ impl Store {
         bytes: &[u8],
     ) -> Result<(), CordError>
         ensures grown { IfOk result (λ _. Grew name.now bytes.now self.old.entries.items self.new.entries.items) }
-        ensures fits { OnOk result (length (cells_of (extensible_in self.old.entries.items name.now))
+        ensures fits { OnOk result (length (cells_or_none (extensible_in self.old.entries.items name.now))
             + length bytes.now ≤ MAX_LEN) }
         ensures too_long { result ≡ Err CordError.TooLong →
-            MAX_LEN < length (cells_of (extensible_in self.old.entries.items name.now)) + length bytes.now }
+            MAX_LEN < length (cells_or_none (extensible_in self.old.entries.items name.now)) + length bytes.now }
     {
         let place = slot_for(&mut self.entries, name)?;
         append_at(alloc, &mut self.entries, name, place, bytes)

@@ -5,7 +5,7 @@ use Rattle.cord_script.specs.declared.verbs.Verb.{Verb}
 use Rattle.cord_script.specs.declared.words.Word.TheVariants.{Plain}
 use Rattle.cord_syntax.specs.declared.statements.Statement.{Statement}
 use Rattle.cord_syntax.specs.Lines.{line_of}
-use Rattle.cord_script.specs.Words.{IsPlain, IsIdle, HasWord}
+use Rattle.cord_script.specs.Words.{IsPlainByte, IsIdle, HasWord}
 use Rattle.cord_script.specs.FirstErrors.{block_error}
 use Rattle.cord_script.specs.Forms.{Form, form_of, effect_of, terms_of}
 use Rattle.cord_script.specs.Script.{Scope, FitsBlocks, after, paths_after, blocks_after}
@@ -29,7 +29,7 @@ word_shows (c ∷ cs) form line rest is h =
     let begins : Begins line c (cs ++ rest) = record {
       prefix = h.0;
       blank = h.1;
-      shows = (All-head IsPlain c cs h.4).0;
+      shows = (All-head IsPlainByte c cs h.4).0;
       whole = h.2 ∙ append_assoc h.0 (c ∷ cs) rest;
     } in
     not_idle line (cs ++ rest) c begins (λ e. let none : Some form ≡ None = sym is ∙ ap (λ k. form_of (k ∷ cs)) e ∙ comment_form cs in cc)

@@ -17,7 +17,7 @@ use Rattle.cord_script.specs.declared.refusals.RefusalKind.TheVariants.{UnknownN
 use Rattle.cord_script.specs.declared.refusals.RefusalKind.TheVariants.{MissingIfEnd}
 use Rattle.cord_script.specs.Words.{IsSplit, IsIdle, Stands, IsBadText}
 use Rattle.cord_script.specs.Tests.{each}
-use Rattle.cord_script.specs.Formats.{Converts}
+use Rattle.cord_script.specs.Formats.{AreWantedBy}
 use Rattle.cord_script.specs.Forms.{form_of}
 use Rattle.cord_script.specs.inner.Reading.{unit_of}
 use Rattle.cord_script.specs.Script.{Scope, Block, Says, LinesSay, ReadsBy, start, after, after_all, whole}
@@ -214,7 +214,7 @@ let_bad_escape = let_bad (92 ∷ codes "q" ++ 34 ∷ []) BadEscape (lit≤ tt) r
 abbrev decimal : Conversion
 decimal = record { marks = []; digits = []; point = []; modifier = []; letter = 100 }
 
-decimal_converts : Converts (codes "%d") (Some (wants.Number ∷ []))
+decimal_converts : AreWantedBy (codes "%d") (Some (wants.Number ∷ []))
 decimal_converts =
     let width : HasWidth decimal (flags_of []) 0 = record {
       marks = λ k d lt. absurd (omega arith);

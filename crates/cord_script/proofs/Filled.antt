@@ -43,7 +43,7 @@ use Rattle.cord_syntax.specs.declared.statements.Statement.TheVariants.{Assign, 
 use Rattle.cord_syntax.specs.declared.statements.Statement.TheVariants.{Else, End}
 use Rattle.cord_syntax.specs.Lines.{line_of}
 use Rattle.cord_script.specs.Tests.{is_name, begins_numeral, numeral_of, is_path}
-use Rattle.cord_script.specs.Formats.{Converts, want_of_kind, wants_of_pieces}
+use Rattle.cord_script.specs.Formats.{AreWantedBy, want_of_kind, wants_of_pieces}
 use Rattle.cord_script.specs.Forms.{Grammar, Shape, Effect, Form, Term, form_of, form_in, word_of, terms_of, effect_of, argument_term, argument_want}
 use Rattle.cord_script.specs.Forms.Shape.{Words, Joined, Printed}
 use Rattle.cord_script.specs.Forms.Effect.{Stays}
@@ -327,7 +327,7 @@ filled verbs.Catn n ws = λ formats has count fit. joined_filled n ws formats co
 filled verbs.Sprintf n ws = λ formats has count fit. printed_filled n ws formats has count fit
 
 -- what the conversions of the format want
-converts_of : FormatOrBad → (text : List ℕ) → (formats : Option (List Want)) × Converts text formats
+converts_of : FormatOrBad → (text : List ℕ) → (formats : Option (List Want)) × AreWantedBy text formats
 converts_of law text = elim (law text) [
   | inl h ↦ (Some (wants_of_pieces h.0), (h.0, h.1, refl))
   | inr h ↦ (None, h)

@@ -9,7 +9,7 @@ use Rattle.cord_script.specs.declared.refusals.RefusalKind.{RefusalKind}
 use Rattle.cord_script.specs.declared.refusals.RefusalKind.TheVariants.{Unterminated, BadEscape, LiteralTooLong}
 use Rattle.cord_script.specs.declared.words.Word.{Word}
 use Rattle.cord_script.specs.declared.words.Word.TheVariants.{Plain, Quoted}
-use Rattle.cord_script.specs.Words.{IsBlank, IsIdle, IsPlain, EndsPlain, Stands, Spells, HasWord, HasWords, IsBadText, BeginsBadText}
+use Rattle.cord_script.specs.Words.{IsBlank, IsIdle, IsPlainByte, EndsPlain, Stands, SpellsText, HasWord, HasWords, IsBadText, BeginsBadText}
 use Rattle.cord_script.specs.Words.{HasBadBytes}
 use Rattle.cord_script.specs.inner.Reading.{unit_of}
 use Rattle.cord_script.proofs.Lines.{note_shows}
@@ -33,7 +33,7 @@ blank_or_not c = elim (cases_eq c 32) [
   ]
 ]
 
-plain_or_not : (c : ℕ) → IsPlain c ⊎ (¬ IsPlain c)
+plain_or_not : (c : ℕ) → IsPlainByte c ⊎ (¬ IsPlainByte c)
 plain_or_not c = elim (blank_or_not c) [
   | inl blank ↦ inr (λ p. p.0 blank)
   | inr shows ↦ elim (cases_eq c 34) [
@@ -126,7 +126,7 @@ backslash c rest n none = elim (cases_eq c 92) [
 
 -- what stands after the first quote of a quoted word: its text and a quote, or an error
 abbrev Inside : List ℕ → Type 0
-Inside inner = ((w rest text : List ℕ) × (inner ≡ w ++ 34 ∷ rest) × Spells w text × (length text ≤ MAX_TEXT)) ⊎
+Inside inner = ((w rest text : List ℕ) × (inner ≡ w ++ 34 ∷ rest) × SpellsText w text × (length text ≤ MAX_TEXT)) ⊎
     ((kind : RefusalKind) × IsBadText inner kind)
 
 -- what is read of it so far
@@ -134,7 +134,7 @@ record SoFar (inner rest : List ℕ) : Type 0 where
   pub read : List ℕ
   pub text : List ℕ
   pub whole : inner ≡ read ++ rest
-  pub spells : Spells read text
+  pub spells : SpellsText read text
   pub few : length text ≤ MAX_TEXT
 
 one_more : (inner rest : List ℕ) (h : SoFar inner rest) (u : HasUnit rest) → length h.text < MAX_TEXT → SoFar inner u.suffix
@@ -187,22 +187,22 @@ record PlainPrefix (b : List ℕ) : Type 0 where
   pub prefix : List ℕ
   pub rest : List ℕ
   pub whole : b ≡ prefix ++ rest
-  pub all : All IsPlain prefix
+  pub all : All IsPlainByte prefix
   pub ends : EndsPlain rest
 
 plain_prefix : (b : List ℕ) → PlainPrefix b
-plain_prefix [] = record { prefix = []; rest = []; whole = refl; all = All-nil IsPlain; ends = tt }
+plain_prefix [] = record { prefix = []; rest = []; whole = refl; all = All-nil IsPlainByte; ends = tt }
 plain_prefix (c ∷ cs) = longer (plain_prefix cs) (plain_or_not c)
   where
-    longer : PlainPrefix cs → IsPlain c ⊎ (¬ IsPlain c) → PlainPrefix (c ∷ cs)
+    longer : PlainPrefix cs → IsPlainByte c ⊎ (¬ IsPlainByte c) → PlainPrefix (c ∷ cs)
     longer l (inl h) = record {
       prefix = c ∷ l.prefix;
       rest = l.rest;
       whole = ap (λ x. c ∷ x) l.whole;
-      all = All-cons IsPlain c l.prefix h l.all;
+      all = All-cons IsPlainByte c l.prefix h l.all;
       ends = l.ends;
     }
-    longer l (inr n) = record { prefix = []; rest = c ∷ cs; whole = refl; all = All-nil IsPlain; ends = n }
+    longer l (inr n) = record { prefix = []; rest = c ∷ cs; whole = refl; all = All-nil IsPlainByte; ends = n }
 
 -- the next word
 record HasFirst (line : List ℕ) : Type 0 where
@@ -219,7 +219,7 @@ plain_first line rest c b n =
     record {
       word = Plain (c ∷ l.prefix);
       rest = l.rest;
-      is = (b.prefix, b.blank, whole, (λ e. cc), All-cons IsPlain c l.prefix (b.shows, n) l.all, l.ends);
+      is = (b.prefix, b.blank, whole, (λ e. cc), All-cons IsPlainByte c l.prefix (b.shows, n) l.all, l.ends);
       shorter = omega (arith, ap length whole, length-append (b.prefix ++ (c ∷ l.prefix)) l.rest, length-append b.prefix (c ∷ l.prefix));
     }
 

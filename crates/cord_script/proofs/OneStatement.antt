@@ -28,7 +28,7 @@ use Rattle.cord_script.specs.Forms.{argument_want}
 use Rattle.cord_script.specs.Forms.Shape.{Words, Joined, Printed}
 use Rattle.cord_script.specs.Forms.Effect.{Stays, OpensRepeat, OpensIf, Turns, Closes}
 use Rattle.cord_script.specs.Forms.Term.{Target, Operand, Value, Literal, FilePath, Applies, Compares, Formats}
-use Rattle.cord_script.specs.Formats.{Converts, want_of_kind}
+use Rattle.cord_script.specs.Formats.{AreWantedBy, want_of_kind}
 use Rattle.cord_script.specs.Script.{Scope, Block, Says, Suits, AreTerms, FitsBlocks}
 use Rattle.cord_script.specs.FirstErrors.{first_of, unless, misfit, first_pair, operand_error, word_target_error, word_path_error, is_count}
 use Rattle.cord_script.specs.FirstErrors.{cords}
@@ -228,7 +228,7 @@ fine_form g n scope words s says r =
     (ap (λ e. block_error e scope.blocks) r.effect ∙ block_none (effect_of s) scope.blocks says.blocks)
 
 -- a text is a format in one way
-one_conversion : OneFormat → BadIsNoFormat → (text : List ℕ) (f f' : Option (List Want)) → Converts text f → Converts text f' → f ≡ f'
+one_conversion : OneFormat → BadIsNoFormat → (text : List ℕ) (f f' : Option (List Want)) → AreWantedBy text f → AreWantedBy text f' → f ≡ f'
 one_conversion one bad text (Some xs) (Some ys) h h' = ap Some (h.2 ∙ ap (λ k. map want_of_kind (Rattle.cord_printf.specs.Pieces.wanted k))
     (one text h.0 h'.0 h.1 h'.1) ∙ sym h'.2)
 one_conversion one bad text (Some xs) None h h' = absurd (bad text h'.0 h'.1 h.0 h.1)

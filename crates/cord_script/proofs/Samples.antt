@@ -7,7 +7,7 @@ use Rattle.cord_script.specs.declared.TheConstants.{MAX_TEXT}
 use Rattle.cord_script.specs.declared.refusals.RefusalKind.{RefusalKind}
 use Rattle.cord_script.specs.declared.words.Word.{Word}
 use Rattle.cord_script.specs.declared.words.Word.TheVariants.{Plain, Quoted}
-use Rattle.cord_script.specs.Words.{IsSplit, IsBlank, IsIdle, IsPlain, EndsPlain, Stands, Spells, HasWords, StartsWith, IsBadText}
+use Rattle.cord_script.specs.Words.{IsSplit, IsBlank, IsIdle, IsPlainByte, EndsPlain, Stands, SpellsText, HasWords, StartsWith, IsBadText}
 use Rattle.cord_script.specs.Words.{BeginsBadText}
 use Rattle.cord_script.specs.Tests.{each}
 use Rattle.cord_script.proofs.Spelled.{both}
@@ -87,7 +87,7 @@ is_blank c h = elim h [
   | inr k ↦ elim k [ inl e ↦ ap blank e | inr e ↦ ap blank e ]
 ]
 
-bare_is : (c : ℕ) → bare c ≡ true → IsPlain c
+bare_is : (c : ℕ) → bare c ≡ true → IsPlainByte c
 bare_is c h =
     let p = both (not (blank c)) (not (c == 34)) h in
     let n = true_not (blank c) p.0 in
@@ -97,7 +97,7 @@ both_not : (x y : Bool) → x ≡ false → y ≡ false → (not x && not y) ≡
 both_not false false p q = refl
 both_not _ _ p q = cc
 
-is_bare : (c : ℕ) → IsPlain c → bare c ≡ true
+is_bare : (c : ℕ) → IsPlainByte c → bare c ≡ true
 is_bare c h = both_not (blank c) (c == 34) (not_true (blank c) (λ t. h.0 (blank_is c t))) (ne_eqb c 34 h.1)
 
 own_stands : (c : ℕ) → own c ≡ true → Stands (c ∷ []) c
@@ -105,7 +105,7 @@ own_stands c h =
     let p = both (not (c == 34)) (not (c == 92)) h in
     inl (refl, eqb-false c 34 (true_not (c == 34) p.0), eqb-false c 92 (true_not (c == 92) p.1))
 
-pub own_spells : (t : List ℕ) → each own t ≡ true → Spells t t
+pub own_spells : (t : List ℕ) → each own t ≡ true → SpellsText t t
 own_spells [] h = refl
 own_spells (c ∷ t) h =
     let p = both (own c) (each own t) h in
@@ -133,7 +133,7 @@ starts_well (Bare prefix p ∷ cs) rest h =
         all_by blank IsBlank blank_is prefix a.0,
         refl,
         some_is p b.0,
-        all_by bare IsPlain bare_is p c.0,
+        all_by bare IsPlainByte bare_is p c.0,
         ends_is (spelled_before cs rest) d.0,
       ),
       starts_well cs rest d.1,

@@ -8,7 +8,7 @@ use Rattle.cord_script.specs.Words.{IsSplit, IsIdle, HasWords}
 use Rattle.cord_script.specs.Forms.{Grammar}
 use Rattle.cord_script.specs.Script.{Scope, Block, Says, LinesSay, ReadsBy, start, after, after_all, whole, without_branches}
 use Rattle.cord_script.specs.Script.Block.{InRepeat, InIf, InElse}
-use Rattle.cord_script.specs.FirstErrors.{HasBadWords, HasBadLine, StopsAt, IsLeftOpen, FirstErrorBy}
+use Rattle.cord_script.specs.FirstErrors.{HasBadWords, HasBadLine, IsFirstWrongAt, IsLeftOpen, FirstErrorBy}
 use Rattle.cord_script.proofs.Unique.{one_words, good_bytes, one_bad_bytes, one_split}
 use Rattle.cord_script.proofs.OneStatement.{good_words, one_bad_words, one_statement}
 
@@ -64,7 +64,7 @@ line_within prefix line later lines n e m few =
 
 -- a script that is read stops at no line
 read_goes_on : OneFormat → BadIsNoFormat → (g : Grammar) (b : List ℕ) (lines : List (List ℕ)) (ss : List Statement) (n : ℕ)
-    (kind : RefusalKind) → IsSplit b lines → length lines ≤ MAX_LINES → LinesSay g 1 start lines ss → StopsAt g b n kind → ⊥
+    (kind : RefusalKind) → IsSplit b lines → length lines ≤ MAX_LINES → LinesSay g 1 start lines ss → IsFirstWrongAt g b n kind → ⊥
 read_goes_on one bad g b lines ss n kind split few say h =
     let same = one_split b (h.prefix ++ h.line ∷ h.later) lines h.split split in
     no_stop one bad g 1 n start h.prefix h.line h.later ss h.statements kind (omega (arith, h.number))

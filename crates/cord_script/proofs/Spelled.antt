@@ -4,7 +4,7 @@ use Rattle.std.proofs.Common.{append_assoc, append-nil, arith, eqb-true}
 use Rattle.std.specs.Prelude.{Option, ◌==◌, ◌&&◌, nat_le, if◌then◌else◌}
 use Rattle.std.proofs.lemmas.Option.{same_Some}
 use Rattle.std.proofs.lemmas.Bool.{leb-true, eqb-false}
-use Rattle.cord_script.specs.Words.{Stands, Spells, HexDigit}
+use Rattle.cord_script.specs.Words.{Stands, SpellsText, HexDigit}
 use Rattle.cord_script.specs.inner.Reading.{digit_of, byte_of, hex_of, escape_of, unit_of}
 
 -- which of two values was chosen
@@ -19,7 +19,7 @@ both true false h = cc
 both false y h = cc
 
 -- one more byte
-pub spells_push : (w u t : List ℕ) (b : ℕ) → Spells w t → Stands u b → Spells (w ++ u) (t ++ b ∷ [])
+pub spells_push : (w u t : List ℕ) (b : ℕ) → SpellsText w t → Stands u b → SpellsText (w ++ u) (t ++ b ∷ [])
 spells_push w u [] b h s = (u, [], ap (λ x. x ++ u) h ∙ sym (append-nil u), s, refl)
 spells_push w u (c ∷ t) b h s = (h.0, h.1 ++ u, ap (λ x. x ++ u) h.2 ∙ append_assoc h.0 h.1 u, h.3, spells_push h.1 u t b h.4 s)
 

@@ -7,7 +7,7 @@ use Rattle.cord_script.specs.declared.TheConstants.{MAX_TEXT}
 use Rattle.cord_script.specs.declared.refusals.RefusalKind.{RefusalKind}
 use Rattle.cord_script.specs.declared.words.Word.{Word}
 use Rattle.cord_script.specs.declared.words.Word.TheVariants.{Plain, Quoted}
-use Rattle.cord_script.specs.Words.{IsSplit, IsBlank, IsPlain, EndsPlain, Stands, Spells, HexDigit, HasWord, HasWords, StartsWith, IsBadEnd}
+use Rattle.cord_script.specs.Words.{IsSplit, IsBlank, IsPlainByte, EndsPlain, Stands, SpellsText, HexDigit, HasWord, HasWords, StartsWith, IsBadEnd}
 use Rattle.cord_script.specs.Words.{IsBadText, BeginsBadText, HasBadBytes}
 use Rattle.cord_script.specs.inner.Reading.{digit_of, byte_of, escape_of, unit_of}
 use Rattle.cord_script.proofs.Lines.{split_nil, head_of, tail_of, not_all_blank, one_prefix}
@@ -89,7 +89,7 @@ whole_unit : (w u v rest : List ℕ) (b : ℕ) → w ≡ u ++ v → Stands u b �
 whole_unit w u v rest b e s = ap (λ x. unit_of (x ++ rest)) e ∙ ap unit_of (append_assoc u v rest) ∙ stands_unit u (v ++ rest) b s
 
 -- a text ends at one place
-pub one_text : (w w' rest rest' t t' : List ℕ) → Spells w t → Spells w' t' → w ++ rest ≡ w' ++ rest' → unit_of rest ≡ None →
+pub one_text : (w w' rest rest' t t' : List ℕ) → SpellsText w t → SpellsText w' t' → w ++ rest ≡ w' ++ rest' → unit_of rest ≡ None →
     unit_of rest' ≡ None → (t ≡ t') × (rest ≡ rest')
 one_text w w' rest rest' [] [] s s' e n n' = (refl, sym (ap (λ x. x ++ rest) s) ∙ e ∙ ap (λ x. x ++ rest') s')
 one_text w w' rest rest' [] (b ∷ t') s s' e n n' =
@@ -108,7 +108,7 @@ one_text w w' rest rest' (b ∷ t) (b' ∷ t') s s' e n n' =
     (ap (λ k. k ∷ t) p.0 ∙ ap (λ k. b' ∷ k) r.0, r.1)
 
 -- a text that goes on is shorter than the one that ends
-longer : (w w' rest rest' t t' : List ℕ) (p : ℕ × List ℕ) → Spells w t → Spells w' t' → w ++ rest ≡ w' ++ rest' → unit_of rest ≡ Some p →
+longer : (w w' rest rest' t t' : List ℕ) (p : ℕ × List ℕ) → SpellsText w t → SpellsText w' t' → w ++ rest ≡ w' ++ rest' → unit_of rest ≡ Some p →
     unit_of rest' ≡ None → length t < length t'
 longer w w' rest rest' [] [] p s s' e n n' =
     let same = ap unit_of (sym (ap (λ x. x ++ rest) s) ∙ e ∙ ap (λ x. x ++ rest') s') in
@@ -134,8 +134,8 @@ stuck : (rest : List ℕ) → ((u v : List ℕ) (b : ℕ) → rest ≡ u ++ v �
 stuck rest h = none_of (unit_of rest) (λ p e. let s = unit_stands rest p.1 p.0 e in h s.0 p.1 p.0 s.1 s.2)
 
 -- a text that can't go on doesn't end too late
-not_long : (inner w w' rest rest' t t' : List ℕ) → inner ≡ w ++ rest → Spells w t → length t ≡ MAX_TEXT →
-    ((u v : List ℕ) × (b : ℕ) × (rest ≡ u ++ v) × Stands u b) → inner ≡ w' ++ rest' → Spells w' t' → length t' ≤ MAX_TEXT →
+not_long : (inner w w' rest rest' t t' : List ℕ) → inner ≡ w ++ rest → SpellsText w t → length t ≡ MAX_TEXT →
+    ((u v : List ℕ) × (b : ℕ) × (rest ≡ u ++ v) × Stands u b) → inner ≡ w' ++ rest' → SpellsText w' t' → length t' ≤ MAX_TEXT →
     unit_of rest' ≡ None → ⊥
 not_long inner w w' rest rest' t t' e s full more e' s' few n =
     let read = ap unit_of more.3 ∙ stands_unit more.0 more.1 more.2 more.4 in
@@ -154,8 +154,8 @@ no_quote_after r rest suffix e h =
 quote_stuck : (r : List ℕ) → unit_of (34 ∷ r) ≡ None
 quote_stuck r = refl
 
-closed_by : (inner w r t w' rest t' : List ℕ) (kind : RefusalKind) → inner ≡ w ++ 34 ∷ r → Spells w t → length t ≤ MAX_TEXT →
-    inner ≡ w' ++ rest → Spells w' t' → IsBadEnd t' rest kind → ⊥
+closed_by : (inner w r t w' rest t' : List ℕ) (kind : RefusalKind) → inner ≡ w ++ 34 ∷ r → SpellsText w t → length t ≤ MAX_TEXT →
+    inner ≡ w' ++ rest → SpellsText w' t' → IsBadEnd t' rest kind → ⊥
 closed_by inner w r t w' rest t' kind e s few e' s' (inl h) =
     let q = one_text w w' (34 ∷ r) rest t t' s s' (sym e ∙ e') (quote_stuck r) (stuck rest h.2) in
     no_quote_after r rest h.1.0 q.1 h.1.1
@@ -167,7 +167,7 @@ closed_by inner w r t w' rest t' kind e s few e' s' (inr (inr h)) =
     cc
 
 -- a closed text has no error
-closed_good : (inner w r t : List ℕ) (kind : RefusalKind) → inner ≡ w ++ 34 ∷ r → Spells w t → length t ≤ MAX_TEXT → IsBadText inner kind →
+closed_good : (inner w r t : List ℕ) (kind : RefusalKind) → inner ≡ w ++ 34 ∷ r → SpellsText w t → length t ≤ MAX_TEXT → IsBadText inner kind →
     ⊥
 closed_good inner w r t kind e s few h = closed_by inner w r t h.0 h.1 h.2 kind e s few h.3 h.4 h.6
 
@@ -220,7 +220,7 @@ pub record BeginsPlain (line p rest : List ℕ) : Type 0 where
 plain_begins : (line p rest : List ℕ) → HasWord line (Plain p) rest → BeginsPlain line p rest
 plain_begins line [] rest h = absurd (h.3 refl)
 plain_begins line (c ∷ cs) rest h =
-    let plain = head_of IsPlain c cs h.4 in
+    let plain = head_of IsPlainByte c cs h.4 in
     record {
       first = c;
       others = cs;
@@ -241,14 +241,14 @@ bad_begins : (line : List ℕ) (kind : RefusalKind) (h : BeginsBadText line kind
 bad_begins line kind h = record { prefix = h.0; blank = h.2; shows = quote_shows; whole = h.3 }
 
 -- a plain word ends at one place
-one_run : (p p' rest rest' : List ℕ) → All IsPlain p → EndsPlain rest → All IsPlain p' → EndsPlain rest' → p ++ rest ≡ p' ++ rest' →
+one_run : (p p' rest rest' : List ℕ) → All IsPlainByte p → EndsPlain rest → All IsPlainByte p' → EndsPlain rest' → p ++ rest ≡ p' ++ rest' →
     (p ≡ p') × (rest ≡ rest')
 one_run [] [] rest rest' a n a' n' e = (refl, e)
-one_run [] (y ∷ ys) rest rest' a n a' n' e = absurd (subst EndsPlain e n (head_of IsPlain y ys a'))
-one_run (x ∷ xs) [] rest rest' a n a' n' e = absurd (subst EndsPlain (sym e) n' (head_of IsPlain x xs a))
+one_run [] (y ∷ ys) rest rest' a n a' n' e = absurd (subst EndsPlain e n (head_of IsPlainByte y ys a'))
+one_run (x ∷ xs) [] rest rest' a n a' n' e = absurd (subst EndsPlain (sym e) n' (head_of IsPlainByte x xs a))
 one_run (x ∷ xs) (y ∷ ys) rest rest' a n a' n' e =
     let suffix : xs ++ rest ≡ ys ++ rest' = cc in
-    let r = one_run xs ys rest rest' (tail_of IsPlain x xs a) n (tail_of IsPlain y ys a') n' suffix in
+    let r = one_run xs ys rest rest' (tail_of IsPlainByte x xs a) n (tail_of IsPlainByte y ys a') n' suffix in
     let same : x ≡ y = cc in
     (ap (λ k. k ∷ xs) same ∙ ap (λ k. y ∷ k) r.0, r.1)
 

@@ -6,7 +6,7 @@ use Rattle.cord_script.specs.declared.TheConstants.{MAX_TEXT}
 use Rattle.cord_script.specs.declared.refusals.RefusalKind.{RefusalKind}
 use Rattle.cord_script.specs.declared.words.Word.{Word}
 use Rattle.cord_script.specs.declared.words.Word.TheVariants.{Plain, Quoted}
-use Rattle.cord_script.specs.Words.{IsBlank, IsPlain, EndsPlain, Spells, HasWord, StartsWith, IsBadText, BeginsBadText}
+use Rattle.cord_script.specs.Words.{IsBlank, IsPlainByte, EndsPlain, SpellsText, HasWord, StartsWith, IsBadText, BeginsBadText}
 use Rattle.cord_script.specs.inner.Words.{StartsNoBlank}
 use Rattle.cord_script.proofs.Lines.{parts}
 
@@ -22,7 +22,7 @@ shorter line prefix (c ∷ cs) rest e n = omega (arith, ap length e, length-appe
 
 -- a quoted word after blanks
 pub quoted_next : (line rest inner w after text : List ℕ) (b first : ℕ) → rest ≡ drop b line → rest ≡ first ∷ inner → first ≡ 34 →
-    inner ≡ w ++ 34 ∷ after → All IsBlank (take b line) → Spells w text → length text ≤ MAX_TEXT → HasWord line (Quoted text) after ×
+    inner ≡ w ++ 34 ∷ after → All IsBlank (take b line) → SpellsText w text → length text ≤ MAX_TEXT → HasWord line (Quoted text) after ×
     (length after < length line)
 quoted_next line rest inner w after text b first r q f i blank s few =
     let whole : line ≡ take b line ++ 34 ∷ w ++ 34 ∷ after =
@@ -43,7 +43,7 @@ some_plain c cs (suc len) nb nq h e = cc
 
 -- a plain word after blanks
 pub plain_next : (line rest inner p after : List ℕ) (c b len : ℕ) → p ≡ take len rest → after ≡ drop len rest → rest ≡ drop b line →
-    rest ≡ c ∷ inner → All IsBlank (take b line) → StartsNoBlank (drop b line) → c ≢ 34 → All IsPlain (take len rest) →
+    rest ≡ c ∷ inner → All IsBlank (take b line) → StartsNoBlank (drop b line) → c ≢ 34 → All IsPlainByte (take len rest) →
     EndsPlain (drop len rest) → HasWord line (Plain p) after × (length after < length line)
 plain_next line rest inner p after c b len ep ea r q blank stops nq plain ends =
     let nb : ¬ IsBlank c = subst StartsNoBlank (sym r ∙ q) stops in
@@ -54,7 +54,7 @@ plain_next line rest inner p after c b len ep ea r q blank stops nq plain ends =
     ∙ sym (append_assoc (take b line) (take len rest) (drop len rest)) ∙ ap (λ x. take b line ++ x ++ drop len rest) (sym ep)
     ∙ ap (λ x. take b line ++ p ++ x) (sym ea) in
     let one : p ≢ [] = λ e. some (sym ep ∙ e) in (
-      (take b line, blank, whole, one, subst (All IsPlain) (sym ep) plain, subst EndsPlain (sym ea) ends),
+      (take b line, blank, whole, one, subst (All IsPlainByte) (sym ep) plain, subst EndsPlain (sym ea) ends),
       shorter line (take b line) p after whole one,
     )
 

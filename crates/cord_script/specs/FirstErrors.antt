@@ -16,7 +16,7 @@ use Rattle.cord_script.specs.declared.refusals.RefusalKind.TheVariants.{TooBig, 
 use Rattle.cord_script.specs.declared.refusals.RefusalKind.TheVariants.{UnknownName, WrongKind, BadFormat, TooDeep, EndAlone, MissingEnd}
 use Rattle.cord_script.specs.declared.refusals.RefusalKind.TheVariants.{TooMany, ElseAlone, MissingIfEnd}
 use Rattle.cord_script.specs.Words.{IsSplit, IsIdle, HasWords, HasBadBytes}
-use Rattle.cord_script.specs.Formats.{Converts}
+use Rattle.cord_script.specs.Formats.{AreWantedBy}
 use Rattle.cord_script.specs.Tests.{is_name, begins_numeral, numeral_of, is_path}
 use Rattle.cord_script.specs.Forms.{Grammar, Shape, Form, Effect, form_in}
 use Rattle.cord_script.specs.Forms.Shape.{Words, Joined, Printed}
@@ -219,7 +219,7 @@ form_error form scope formats ws =
 
 -- what the conversions of the format of a `sprintf` want; no other statement has a format
 abbrev pub HasFormat : Shape → List Word → Option (List Want) → Type 0
-HasFormat Printed (target ∷ Quoted text ∷ ws) formats = Converts text formats
+HasFormat Printed (target ∷ Quoted text ∷ ws) formats = AreWantedBy text formats
 HasFormat _ ws formats = formats ≡ None
 
 -- Kind 4 where a plain word is no statement's word; else what is wrong with the words after it.
@@ -248,7 +248,7 @@ pub record IsTooBig (b : List ℕ) (n : ℕ) (kind : RefusalKind) : Type 0 where
   pub is : kind ≡ TooBig
 
 -- Then line by line: the lines in front say statements, and line n is wrong after them.
-pub record StopsAt (g : Grammar) (b : List ℕ) (n : ℕ) (kind : RefusalKind) : Type 0 where
+pub record IsFirstWrongAt (g : Grammar) (b : List ℕ) (n : ℕ) (kind : RefusalKind) : Type 0 where
   pub size : length b ≤ MAX_SCRIPT
   pub prefix : List (List ℕ)
   pub line : List ℕ
@@ -280,7 +280,7 @@ pub record LeavesOpen (g : Grammar) (b : List ℕ) (n : ℕ) (kind : RefusalKind
 
 -- The first thing wrong in a script's bytes, by a grammar, is of this kind at line n.
 abbrev pub FirstErrorBy : Grammar → List ℕ → ℕ → RefusalKind → Type 0
-FirstErrorBy g b n kind = IsTooBig b n kind ⊎ StopsAt g b n kind ⊎ LeavesOpen g b n kind
+FirstErrorBy g b n kind = IsTooBig b n kind ⊎ IsFirstWrongAt g b n kind ⊎ LeavesOpen g b n kind
 
 -- The first thing wrong in a script's bytes is of this kind at line n.
 abbrev pub FirstError : List ℕ → ℕ → RefusalKind → Type 0

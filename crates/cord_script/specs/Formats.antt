@@ -19,6 +19,6 @@ abbrev pub wants_of_pieces : List Piece → List Want
 wants_of_pieces pieces = map want_of_kind (wanted pieces)
 
 -- What the conversions of a text want that is a format; none where it isn't one.
-abbrev pub Converts : List ℕ → Option (List Want) → Type 0
-Converts text (Some xs) = (pieces : List Piece) × IsFormat text pieces × (xs ≡ wants_of_pieces pieces)
-Converts text None = (offset : ℕ) × IsBadAt text offset
+abbrev pub AreWantedBy : List ℕ → Option (List Want) → Type 0
+AreWantedBy text (Some xs) = (pieces : List Piece) × IsFormat text pieces × (xs ≡ wants_of_pieces pieces)
+AreWantedBy text None = (offset : ℕ) × IsBadAt text offset

@@ -36,24 +36,24 @@ Stands u b =
     ⊎ ((h l x y : ℕ) × (u ≡ 92 ∷ 120 ∷ h ∷ l ∷ []) × HexDigit h x × HexDigit l y × (b ≡ 16 * x + y))
 
 -- The inside of a quoted word stands for a text.
-abbrev pub Spells : List ℕ → List ℕ → Type 0
-Spells w [] = w ≡ []
-Spells w (b ∷ text) = (u v : List ℕ) × (w ≡ u ++ v) × Stands u b × Spells v text
+abbrev pub SpellsText : List ℕ → List ℕ → Type 0
+SpellsText w [] = w ≡ []
+SpellsText w (b ∷ text) = (u v : List ℕ) × (w ≡ u ++ v) × Stands u b × SpellsText v text
 
 -- A byte of a plain word is neither a blank nor `"`.
-abbrev pub IsPlain : ℕ → Type 0
-IsPlain c = ¬ IsBlank c × (c ≢ 34)
+abbrev pub IsPlainByte : ℕ → Type 0
+IsPlainByte c = ¬ IsBlank c × (c ≢ 34)
 
 -- A plain word is as long as it can be: what follows it is no byte of it.
 abbrev pub EndsPlain : List ℕ → Type 0
 EndsPlain [] = Unit {0}
-EndsPlain (c ∷ rest) = ¬ IsPlain c
+EndsPlain (c ∷ rest) = ¬ IsPlainByte c
 
 -- One word stands after blanks, before the rest: a plain word as its bytes, a quoted one as the text that it spells.
 abbrev pub HasWord : List ℕ → Word → List ℕ → Type 0
-HasWord line (Plain p) rest = (prefix : List ℕ) × All IsBlank prefix × (line ≡ prefix ++ p ++ rest) × (p ≢ []) × All IsPlain p × EndsPlain
+HasWord line (Plain p) rest = (prefix : List ℕ) × All IsBlank prefix × (line ≡ prefix ++ p ++ rest) × (p ≢ []) × All IsPlainByte p × EndsPlain
     rest
-HasWord line (Quoted text) rest = (prefix w : List ℕ) × All IsBlank prefix × (line ≡ prefix ++ 34 ∷ w ++ 34 ∷ rest) × Spells w text ×
+HasWord line (Quoted text) rest = (prefix w : List ℕ) × All IsBlank prefix × (line ≡ prefix ++ 34 ∷ w ++ 34 ∷ rest) × SpellsText w text ×
     (length text ≤ MAX_TEXT)
 
 -- These words stand at the prefix of a line, before the rest.
@@ -75,7 +75,7 @@ IsBadEnd text rest kind =
 
 -- What is wrong after the first quote of a quoted word, the bytes being read from left to right.
 abbrev pub IsBadText : List ℕ → RefusalKind → Type 0
-IsBadText inner kind = (w rest text : List ℕ) × (inner ≡ w ++ rest) × Spells w text × (length text ≤ MAX_TEXT) × IsBadEnd text rest kind
+IsBadText inner kind = (w rest text : List ℕ) × (inner ≡ w ++ rest) × SpellsText w text × (length text ≤ MAX_TEXT) × IsBadEnd text rest kind
 
 -- The next word is a quoted word that is none.
 abbrev pub BeginsBadText : List ℕ → RefusalKind → Type 0

@@ -1,7 +1,7 @@
 // The words of a line.
 ghost use Rattle.std.specs.Prelude.{◌≡◌, ◌≢◌, ◌<◌, ◌≤◌, ℕ, List, [], ◌∷◌, ◌++◌, length, take, drop, All, IfOk, IfErr};
 ghost use Rattle.std.specs.Prelude.{OnOk, IfSome, MatchOption, option_map, IsTrue, false};
-ghost use Rattle.cord_script.specs.Words.{IsBlank, IsPlain, EndsPlain, Spells, IsBadText, HasWord};
+ghost use Rattle.cord_script.specs.Words.{IsBlank, IsPlainByte, EndsPlain, SpellsText, IsBadText, HasWord};
 ghost use Rattle.cord_script.specs.inner.Words.{StartsNoBlank};
 ghost use Rattle.cord_script.specs.inner.Words.{HasNext};
 ghost use Rattle.cord_script.specs.Words.{BeginsBadText, HasWords, HasBadBytes};
@@ -72,7 +72,7 @@ pub fn blanks(line: &[u8]) -> usize
 // How many bytes of a plain word stand at the front.
 fn plain_len(line: &[u8]) -> usize
     ensures within { result ≤ length line.now }
-    ensures plain { All IsPlain (take result line.now) }
+    ensures plain { All IsPlainByte (take result line.now) }
     ensures ends { EndsPlain (drop result line.now) }
 {
     for (i, c) in line.iter().enumerate() {
@@ -177,7 +177,7 @@ fn unit(bytes: &[u8]) -> Option<(u8, &[u8])>
 
 // The text of a quoted word whose first quote is read, and what follows the word.
 fn quoted(alloc: Global, inner: &[u8]) -> Result<(Text, &[u8]), RefusalKind>
-    ensures text { IfOk result (λ r. (w : List ℕ) × (inner.now ≡ w ++ 34 ∷ r.1.now) × Spells w r.0 ×
+    ensures text { IfOk result (λ r. (w : List ℕ) × (inner.now ≡ w ++ 34 ∷ r.1.now) × SpellsText w r.0 ×
         (length r.0 ≤ MAX_TEXT)) }
     ensures first_error { IfErr result (λ kind. kind ≢ RefusalKind.NoMemory → IsBadText inner.now kind) }
 {

@@ -22,7 +22,7 @@ use Rattle.cord_syntax.specs.declared.statements.Statement.{Statement}
 use Rattle.cord_script.specs.Refusals.{text_of}
 use Rattle.cord_shell.specs.CommandLine.{AsksFor, command}
 use Rattle.cord_shell.specs.Drives.{ComesTo, IsPlan, IsPlanText, IsWrong, Serves}
-use Rattle.cord_shell.specs.Headline.{Answer, AnswersEnd, counts_of, err_counts_of, IsOut, MissesOver, RefusesOver, RunsOver}
+use Rattle.cord_shell.specs.Headline.{Answer, AnswersEnd, counts_answered, err_counts_of, IsOut, MissesOver, RefusesOver, RunsOver}
 use Rattle.cord_shell.specs.Headline.{ShowsOver}
 use Rattle.cord_shell.specs.Outcomes.{line_text, message_of, status_of_outcome, status_of_refusal}
 use Rattle.cord_io.specs.SinkCounts.{SinkCounts}
@@ -69,16 +69,16 @@ asked_once words p q u v s t one two = (same_some (sym one.1 ∙ two.1), one.2 �
 module _ (consistent : FileSystem → Type 0) (words : List (List ℕ)) (path : List ℕ) (u s : Bool) (asks : AsksFor words path u s)
     (a : Answer) where
   served_as : (outcome : Outcome) → (q : List ℕ) (v t : Bool) → AsksFor words q v t →
-      Serves consistent q v t [] a.out.taken (counts_of a) outcome → Serves consistent path u s [] a.out.taken (counts_of a) outcome
+      Serves consistent q v t [] a.out.taken (counts_answered a) outcome → Serves consistent path u s [] a.out.taken (counts_answered a) outcome
   served_as outcome q v t other h =
       let same = asked_once words q path v u t s other asks in
-      subst (λ (x : Bool). Serves consistent path u x [] a.out.taken (counts_of a) outcome) same.2
-      (subst (λ (x : Bool). Serves consistent path x t [] a.out.taken (counts_of a) outcome) same.1
-      (subst (λ (x : List ℕ). Serves consistent x v t [] a.out.taken (counts_of a) outcome) same.0 h))
+      subst (λ (x : Bool). Serves consistent path u x [] a.out.taken (counts_answered a) outcome) same.2
+      (subst (λ (x : Bool). Serves consistent path x t [] a.out.taken (counts_answered a) outcome) same.1
+      (subst (λ (x : List ℕ). Serves consistent x v t [] a.out.taken (counts_answered a) outcome) same.0 h))
 
   -- words that ask for a script come to what that comes to
-  pub served : (outcome : Outcome) → ComesTo consistent words [] a.out.taken (counts_of a) outcome →
-      Serves consistent path u s [] a.out.taken (counts_of a) outcome
+  pub served : (outcome : Outcome) → ComesTo consistent words [] a.out.taken (counts_answered a) outcome →
+      Serves consistent path u s [] a.out.taken (counts_answered a) outcome
   served (outcomes.Ended end_) h = served_as (outcomes.Ended end_) h.0 h.1 h.2 h.3 h.4
   served (outcomes.Refused refusal) h = served_as (outcomes.Refused refusal) h.0 h.1 h.2 h.3 h.4
   served outcomes.NoScript h = served_as outcomes.NoScript h.0 h.1 h.2 h.3 h.4
@@ -119,7 +119,7 @@ module _ (consistent : FileSystem → Type 0) (file_system : FileSystem) (agrees
     refused_at refusal c other wrong =
         (subst (λ (x : List ℕ). IsWrong x refusal) (same_bytes c other) wrong).1 (memory_refused refusal c other wrong)
 
-    pub runs : (outcome : Outcome) → Serves consistent path u false [] a.out.taken (counts_of a) outcome → a.status ≡ status_of_outcome
+    pub runs : (outcome : Outcome) → Serves consistent path u false [] a.out.taken (counts_answered a) outcome → a.status ≡ status_of_outcome
         outcome
         → Reports [] a.err.taken (err_counts_of a) (message_of outcome) → RunsOver b ss file_system a
     runs (outcomes.Ended end_) h status reports =
@@ -130,7 +130,7 @@ module _ (consistent : FileSystem → Type 0) (file_system : FileSystem) (agrees
           reported = end_;
           answers = (status, reports);
           faithful =
-              inl (subst (λ (x : List Statement). EndsFaithfully x file_system [] a.out.taken (counts_of a) end_) is
+              inl (subst (λ (x : List Statement). EndsFaithfully x file_system [] a.out.taken (counts_answered a) end_) is
               (run.2 file_system agrees));
         }
     runs (outcomes.Refused refusal) h status reports =
@@ -169,7 +169,7 @@ module _ (consistent : FileSystem → Type 0) (file_system : FileSystem) (agrees
         let is : plan.0 ≡ ss = one whole b plan.0 ss (subst (λ (x : List ℕ). Reads x plan.0) (same_bytes c other) plan.1) reads in
         (plan.2, subst (λ (x : List Statement). IsPlan u x plan.2) is plan.3, subst (λ (x : List ℕ). IsOut x a reported) plan.4 out)
 
-    pub shows_plan : (outcome : Outcome) → Serves consistent path u true [] a.out.taken (counts_of a) outcome →
+    pub shows_plan : (outcome : Outcome) → Serves consistent path u true [] a.out.taken (counts_answered a) outcome →
         a.status ≡ status_of_outcome outcome
         → Reports [] a.err.taken (err_counts_of a) (message_of outcome) → ShowsOver u b ss a
     shows_plan (outcomes.Ended end_) h status reports = absurd h.2.0
@@ -217,7 +217,7 @@ module _ (consistent : FileSystem → Type 0) (file_system : FileSystem) (agrees
     not_read : {P : Type 0} (c : List ℕ) → file_at file_system path ≡ Some c → (ss : List Statement) → Reads c ss → P
     not_read c other ss reads = absurd (none ss (subst (λ (x : List ℕ). Reads x ss) (same_some (sym other ∙ at)) reads))
 
-    pub refuses : (s : Bool) (outcome : Outcome) → Serves consistent path u s [] a.out.taken (counts_of a) outcome →
+    pub refuses : (s : Bool) (outcome : Outcome) → Serves consistent path u s [] a.out.taken (counts_answered a) outcome →
         a.status ≡ status_of_outcome outcome
         → Reports [] a.err.taken (err_counts_of a) (message_of outcome) → RefusesOver b a
     refuses true (outcomes.Ended end_) h status reports = absurd h.2.0
@@ -241,7 +241,7 @@ module _ (consistent : FileSystem → Type 0) (file_system : FileSystem) (agrees
 
   -- there is no file
   module _ (gone : file_at file_system path ≡ None) where
-    pub misses : (s : Bool) (outcome : Outcome) → Serves consistent path u s [] a.out.taken (counts_of a) outcome →
+    pub misses : (s : Bool) (outcome : Outcome) → Serves consistent path u s [] a.out.taken (counts_answered a) outcome →
         a.status ≡ status_of_outcome outcome
         → Reports [] a.err.taken (err_counts_of a) (message_of outcome) → MissesOver a
     misses s (outcomes.Ended end_) h status reports = there (file_at file_system path) gone (h.1 file_system agrees)

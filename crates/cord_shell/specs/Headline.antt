@@ -47,8 +47,8 @@ answer_of f o e status opened out err =
     record { status = status; files_failed = f.failures opened; out = stream o out; err = stream e err }
 
 -- the counts, of devices that began with none
-abbrev pub counts_of : Answer → Counts
-counts_of a = record {
+abbrev pub counts_answered : Answer → Counts
+counts_answered a = record {
   files_before = 0;
   files_after = a.files_failed;
   sink_before = 0;
@@ -69,9 +69,9 @@ AnswersEnd a reported = (a.status ≡ status_of_end reported) × Reports [] a.er
 -- nothing was run and nothing is out: memory was refused at a line that may be reported, or the script can't be opened or read, whose
 -- count rose
 abbrev pub StopsBefore : (ℕ → Type 0) → Answer → End → Type 0
-StopsBefore MayReport a (NoMemory line) = MayReport line × IsQuiet [] a.out.taken (counts_of a)
+StopsBefore MayReport a (NoMemory line) = MayReport line × IsQuiet [] a.out.taken (counts_answered a)
 StopsBefore MayReport a (ReadFailed line) =
-    (line ≡ 0) × IsUntouched [] a.out.taken (sink_of (counts_of a)) × ((counts_of a).files_after ≡ raised (counts_of a).files_before)
+    (line ≡ 0) × IsUntouched [] a.out.taken (sink_of (counts_answered a)) × ((counts_answered a).files_after ≡ raised (counts_answered a).files_before)
 StopsBefore MayReport a _ = ⊥
 
 -- no line
@@ -90,12 +90,12 @@ IsStopped a = (reported : End) × AnswersEnd a reported × StopsBefore IsNoLine 
 pub record RunsOver (b : List ℕ) (statements : List Statement) (file_system : FileSystem) (a : Answer) : Type 0 where
   pub reported : End
   pub answers : AnswersEnd a reported
-  pub faithful : EndsFaithfully statements file_system [] a.out.taken (counts_of a) reported ⊎ StopsBefore (IsReadingAt b) a reported
+  pub faithful : EndsFaithfully statements file_system [] a.out.taken (counts_answered a) reported ⊎ StopsBefore (IsReadingAt b) a reported
 
 -- the text of a plan is out, or a prefix of it where standard output failed
 abbrev pub IsOut : List ℕ → Answer → End → Type 0
-IsOut text a Done = IsWritten text [] a.out.taken (sink_of (counts_of a))
-IsOut text a (WriteFailed line) = (line ≡ 0) × IsCut text [] a.out.taken (sink_of (counts_of a))
+IsOut text a Done = IsWritten text [] a.out.taken (sink_of (counts_answered a))
+IsOut text a (WriteFailed line) = (line ≡ 0) × IsCut text [] a.out.taken (sink_of (counts_answered a))
 IsOut text a _ = ⊥
 
 -- the plan of the script of these bytes was shown and nothing was run; or it was stopped before
@@ -110,11 +110,11 @@ pub record ShowsOver (unplanned : Bool) (b : List ℕ) (statements : List Statem
 abbrev pub RefusesOver : List ℕ → Answer → Type 0
 RefusesOver b a =
     ((refusal : Refusal) × IsWrong b refusal × (a.status ≡ status_of_refusal refusal.kind)
-    × Reports [] a.err.taken (err_counts_of a) (line_text refusal.line (text_of refusal.kind)) × IsQuiet [] a.out.taken (counts_of a))
+    × Reports [] a.err.taken (err_counts_of a) (line_text refusal.line (text_of refusal.kind)) × IsQuiet [] a.out.taken (counts_answered a))
     ⊎ IsStopped a
 
 -- nothing is out, and status and line report that there is no such file; or it was stopped before
 abbrev pub MissesOver : Answer → Type 0
 MissesOver a =
-    ((a.status ≡ 2) × Reports [] a.err.taken (err_counts_of a) (line_text 0 (fault_text NoFile)) × IsQuiet [] a.out.taken (counts_of a))
+    ((a.status ≡ 2) × Reports [] a.err.taken (err_counts_of a) (line_text 0 (fault_text NoFile)) × IsQuiet [] a.out.taken (counts_answered a))
     ⊎ IsStopped a

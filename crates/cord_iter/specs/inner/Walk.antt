@@ -2,6 +2,6 @@
 use Rattle.std.specs.Prelude.{ℕ, ◌+◌, Option, Some, None}
 
 -- how many places there are from the beginning up to an index, with it
-abbrev pub left_of : Option ℕ → ℕ
-left_of None = 0
-left_of (Some i) = i + 1
+abbrev pub places_up_to : Option ℕ → ℕ
+places_up_to None = 0
+places_up_to (Some i) = i + 1

@@ -56,7 +56,7 @@ abbrev pub expression_in : List (Option Expr) → ℕ → Option Expr
 expression_in table a = expression_of (slice_get table a)
 
 -- the lines before b have these expressions
-abbrev pub Has : List (Option Expr) → plain.Table → Type 0
+abbrev pub Has : List (Option Expr) → plain.ChoiceTable → Type 0
 Has table t = map (λ entry. entry.0) t ≡ table
 
 module _ (s : List Statement) (later : List ℕ → ℕ → Bool) where
@@ -73,9 +73,9 @@ module _ (s : List Statement) (later : List ℕ → ℕ → Bool) where
   -- what stands for the next operand x after those that were chosen for
   abbrev pub IsChoice : ℕ → Statement → List (List ℕ) → List ℕ → List (Option Expr) → List plain.Choice → plain.Choice → Type 0
   IsChoice b l xs x table done c =
-      (t : plain.Table) → Has table t → c ≡ plain.chosen_of s later t b l x (map (λ d. plain.expr_of d) done)
+      (t : plain.ChoiceTable) → Has table t → c ≡ plain.chosen_of s later t b l x (map (λ d. plain.expr_of d) done)
       (map (λ y. name y) (drop (length done + 1) xs)) (plain.setter s x b)
 
   -- what stands for each operand of a line
   abbrev pub AreChoices : ℕ → Statement → List (Option Expr) → List plain.Choice → Type 0
-  AreChoices b l table cs = (t : plain.Table) → Has table t → cs ≡ plain.choices s later t b l [] (read_by l)
+  AreChoices b l table cs = (t : plain.ChoiceTable) → Has table t → cs ≡ plain.choices s later t b l [] (read_by l)

@@ -1,6 +1,6 @@
 -- The text of fragments of a plan's lines.
 use Rattle.std.specs.Prelude.{ℕ, List, [], ◌∷◌, ◌++◌}
-use Rattle.cord_plan.specs.PlanText.{decimal, number, quoted, argument_words}
+use Rattle.cord_plan.specs.PlanText.{decimal, number, quoted, printed_arguments}
 use Rattle.cord_plan.specs.declared.plan_text.fragments.Fragment.{Fragment}
 use Rattle.cord_plan.specs.declared.plan_text.fragments.Fragment.TheVariants.{Plain, Name, Count, Number, Path, Arguments}
 
@@ -11,7 +11,7 @@ fragment_text (Name name) = name.now
 fragment_text (Count n) = decimal n
 fragment_text (Number operand) = number operand.now
 fragment_text (Path path) = quoted path.now
-fragment_text (Arguments arguments) = argument_words arguments.now
+fragment_text (Arguments arguments) = printed_arguments arguments.now
 
 abbrev pub fragments_text : List Fragment → List ℕ
 fragments_text [] = []

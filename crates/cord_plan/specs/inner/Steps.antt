@@ -81,9 +81,9 @@ measured_from p sources (o ∷ os) = measured (some_source p sources) o ∷ meas
 module _ (s : List Statement) (later : List ℕ → ℕ → Bool) where
   -- e is the expression of the line l at b where the lines before it have these operations, and these are the lines that it takes
   pub record IsNext (b : ℕ) (l : Statement) (old : List Operation) (sources : List (Option ℕ)) (e : Option Expr) : Type 0 where
-    pub expression : (t : plain.Table) → Has (map operation_expression old) t →
+    pub expression : (t : plain.ChoiceTable) → Has (map operation_expression old) t →
         e ≡ (plain.operands_chosen s later t b l (plain.defining l)).0
-    pub taken : (t : plain.Table) → Has (map operation_expression old) t →
+    pub taken : (t : plain.ChoiceTable) → Has (map operation_expression old) t →
         sources ≡ map source_of (plain.operands_chosen s later t b l (plain.defining l)).1
 
   -- and the operations of those lines only measure from then on
@@ -94,12 +94,12 @@ module _ (s : List Statement) (later : List ℕ → ℕ → Bool) where
 
   -- where it is said of the line l at b that it extends the line before it, its choices say so
   abbrev pub IsReportedLonger : ℕ → Statement → List Operation → Bool → Type 0
-  IsReportedLonger b l old reported = (t : plain.Table) → Has (map operation_expression old) t → reported ≡ true →
+  IsReportedLonger b l old reported = (t : plain.ChoiceTable) → Has (map operation_expression old) t → reported ≡ true →
       is_longer b l (plain.operands_chosen s later t b l (plain.defining l)).1 ≡ true
 
   -- the operations of the lines before b, as far as lines before b take their expressions
   pub record IsBegun (b : ℕ) (made : List Operation) : Type 0 where
-    pub table : plain.Table
+    pub table : plain.ChoiceTable
     pub has : Has (map operation_expression made) table
     pub grows : plain.grown s later table b (drop b s) ≡ plain.exprs s later
     pub long : length table ≡ b

@@ -2,7 +2,7 @@
 ghost use Rattle.std.specs.Prelude.{◌≡◌, ◌<◌, ℕ, List, Option, Some};
 ghost use Rattle.cord_plan.specs.inner.NameSets.{bit, Marks};
 ghost use Rattle.cord_plan.specs.inner.Places.{AreNumbers};
-ghost use Rattle.cord_plan.specs.Operands.{has, is_name};
+ghost use Rattle.cord_plan.specs.Operands.{has, is_this_name};
 ghost use Rattle.std.specs.Str.{bytes_eq};
 ghost use Rattle.cord_plan.specs.declared.flow.numbering.Numbering.{Numbering};
 ghost use Rattle.cord_plan.specs.inner.Numbering.{names_of, number_in, number_of};
@@ -44,7 +44,7 @@ pub(crate) fn mark_all(group: usize, numbers: &[usize]) -> u128
 /// The word of the name of a number, where there is one.
 pub(crate) fn mark_target(group: usize, number: Option<usize>) -> u128
     ensures { (t : Numbering) (o : Option (List ℕ)) → number ≡ number_in t o →
-        Marks t group (λ x. is_name o x) result }
+        Marks t group (λ x. is_this_name o x) result }
 {
     match number {
         Some(number) => mark_number(group, number),

@@ -3,7 +3,7 @@ ghost use Rattle.std.specs.Prelude.{◌≡◌, ◌+◌, ℕ, List, Option, Some,
 ghost use Rattle.cord_syntax.specs.declared.statements.Statement.{Statement};
 ghost use Rattle.cord_meaning.specs.Statements.{shape_of};
 ghost use Rattle.cord_plan.specs.Inlined.{is_block};
-ghost use Rattle.cord_plan.specs.Operands.{has, is_name};
+ghost use Rattle.cord_plan.specs.Operands.{has, is_this_name};
 ghost use Rattle.cord_plan.specs.declared.flow.numbering.Numbering.{Numbering};
 ghost use Rattle.cord_plan.specs.inner.Numbering.{IsNumbered, IsNumberIn, IsNumbering, names_of};
 ghost use Rattle.cord_plan.specs.inner.Places.{AreNumbers};
@@ -70,7 +70,7 @@ pub(crate) fn is_before(place: Option<usize>, other: usize) -> bool
 /// Puts an entry for the name of a number, where there is one.
 pub(crate) fn put(places: &mut [Option<usize>], number: Option<usize>, entry: Option<usize>)
     ensures { (t : Numbering) (o : Option (List ℕ)) → IsNumberIn t o number → AreFor t places.old →
-        PutsPlaces t (λ x. is_name o x) entry places.old places.new }
+        PutsPlaces t (λ x. is_this_name o x) entry places.old places.new }
 {
     match number {
         None => {}

@@ -1,7 +1,7 @@
 // Fragments of a plan's text, and how a sink gets them.
 ghost use Rattle.std.specs.Prelude.{◌≡◌, ◌<◌, flat_map, map};
 ghost use Rattle.cord_iter.specs.Output.{Writes};
-ghost use Rattle.cord_plan.specs.PlanText.{argument, argument_words, decimal, hex, number, path_byte, quoted};
+ghost use Rattle.cord_plan.specs.PlanText.{argument, printed_arguments, decimal, hex, number, path_byte, quoted};
 ghost use Rattle.cord_plan.specs.PlanText.{signed_decimal, spaced};
 ghost use Rattle.cord_plan.specs.inner.Fragments.{fragment_text, fragments_text};
 
@@ -142,7 +142,7 @@ fn hex_digit(digit: u8) -> u8
 
 // The arguments of a format, each after a blank.
 fn put_arguments<W: Sink>(arguments: &[Argument], sink: &mut W) -> Result<(), WriteFault>
-    ensures { Writes ⟦<W as Sink>⟧ (argument_words arguments.now) sink.old sink.new result }
+    ensures { Writes ⟦<W as Sink>⟧ (printed_arguments arguments.now) sink.old sink.new result }
 {
     for argument in arguments {
         put_text(b" ", sink)?;

@@ -4,7 +4,7 @@ use Rattle.cord_io.specs.Device.{FileSystem}
 use Rattle.cord_io.specs.declared.reading.Files as files
 use Rattle.cord_io.specs.declared.sources.Source as sources
 use Rattle.cord_io.specs.declared.writing.Sink as sinks
-use Rattle.cord_iter.specs.Output.{Counts}
+use Rattle.cord_iter.specs.Output.{FailureCounts}
 
 -- files are consistent after a call with no file system that they weren't consistent with before it
 abbrev pub NoMoreConsistent : {F : Type 0} → files.Ghosts F → F → F → Type 0
@@ -16,5 +16,5 @@ IsSameSource r old new = (r.lengths new ≡ r.lengths old) × (r.table new ≡ r
     ((file_system : FileSystem) → r.consistent new file_system → r.consistent old file_system)
 
 -- how often files and a sink have failed
-abbrev pub failures_in : {F S : Type 0} → files.Ghosts F → sinks.Ghosts S → F → S → Counts
+abbrev pub failures_in : {F S : Type 0} → files.Ghosts F → sinks.Ghosts S → F → S → FailureCounts
 failures_in f s device sink = record { source = f.failures device; sink = s.failures sink }

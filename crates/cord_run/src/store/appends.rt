@@ -1,7 +1,7 @@
 // The growth of the extensible cord of an entry.
 ghost use Rattle.std.specs.Prelude.{◌≡◌, ◌+◌, ◌<◌, ◌≤◌, [], true, length, IfOk, IsErr, OnOk, Err};
 ghost use Rattle.cord_ec.specs.Grown.{IsGrownBy};
-ghost use Rattle.cord_run.specs.inner.Extensibles.{cells_of, Grew, GrewTo};
+ghost use Rattle.cord_run.specs.inner.Extensibles.{cells_or_none, Grew, GrewTo};
 ghost use Rattle.cord_run.specs.inner.Entries.{are_distinct, cells_in, extensible_in, names_in, IsEntryAt};
 
 use crate::store::Entry;
@@ -22,9 +22,9 @@ pub(crate) fn append_at(
     requires within { place < length entries.old }
     requires place { IsEntryAt entries.old name.now place }
     ensures grown { IfOk result (λ _. Grew name.now bytes.now entries.old entries.new) }
-    ensures fits { OnOk result (length (cells_of (extensible_in entries.old name.now)) + length bytes.now ≤ MAX_LEN) }
+    ensures fits { OnOk result (length (cells_or_none (extensible_in entries.old name.now)) + length bytes.now ≤ MAX_LEN) }
     ensures too_long { result ≡ Err CordError.TooLong →
-        MAX_LEN < length (cells_of (extensible_in entries.old name.now)) + length bytes.now }
+        MAX_LEN < length (cells_or_none (extensible_in entries.old name.now)) + length bytes.now }
     ensures distinct { are_distinct (names_in entries.old) ≡ true → are_distinct (names_in entries.new) ≡ true }
 {
     let _ = name;
@@ -36,8 +36,8 @@ pub(crate) fn append_at(
 #[inline(always)]
 fn append_to(alloc: Global, extensible: &mut Option<ExtCord>, bytes: &[u8]) -> Result<(), CordError>
     ensures grown { IfOk result (λ _. GrewTo bytes.now extensible.old extensible.new) }
-    ensures fits { OnOk result (length (cells_of (cells_in extensible.old)) + length bytes.now ≤ MAX_LEN) }
-    ensures too_long { result ≡ Err CordError.TooLong → MAX_LEN < length (cells_of (cells_in extensible.old))
+    ensures fits { OnOk result (length (cells_or_none (cells_in extensible.old)) + length bytes.now ≤ MAX_LEN) }
+    ensures too_long { result ≡ Err CordError.TooLong → MAX_LEN < length (cells_or_none (cells_in extensible.old))
         + length bytes.now }
 {
     match extensible {

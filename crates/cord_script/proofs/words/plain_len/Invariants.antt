@@ -1,7 +1,7 @@
 use Rattle.std.proofs.Common.{take}
 use Rattle.std.specs.Prelude.{All}
-use Rattle.cord_script.specs.Words.{IsPlain}
+use Rattle.cord_script.specs.Words.{IsPlainByte}
 use Rattle.cord_script.proofs.words.plain_len.Given as goal
 
 abbrev pub invariant-loop-i : goal.invariant-loop-i
-invariant-loop-i l = All IsPlain (take l.i l.line)
+invariant-loop-i l = All IsPlainByte (take l.i l.line)

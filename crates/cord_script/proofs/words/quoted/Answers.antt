@@ -1,6 +1,6 @@
 use Rattle.std.proofs.Common.{◌++◌, ◌∷◌, [], sym, ◌∙◌, ap, subst, append_assoc, inl, inr, refl, length, arith, length-append, ◌≤◌, ◌≡◌}
 use Rattle.cord_script.specs.declared.TheConstants.{MAX_TEXT}
-use Rattle.cord_script.specs.Words.{Spells}
+use Rattle.cord_script.specs.Words.{SpellsText}
 use Rattle.cord_script.proofs.Spelled.{spells_push, unit_stands}
 use Rattle.cord_script.proofs.words.quoted.Goals as goal
 
@@ -28,7 +28,7 @@ units-preserved c =
     record {
       read = inv.read ++ s.0;
       whole = inv.whole ∙ ap (λ x. inv.read ++ x) s.1 ∙ sym (append_assoc inv.read s.0 c.in-Some-unit.suffix.now);
-      spelled = subst (Spells (inv.read ++ s.0)) (sym grown) (spells_push inv.read s.0 c.units.text.items c.in-Some-unit.byte inv.spelled
+      spelled = subst (SpellsText (inv.read ++ s.0)) (sym grown) (spells_push inv.read s.0 c.units.text.items c.in-Some-unit.byte inv.spelled
           s.2);
       few = few;
     }

@@ -1,13 +1,13 @@
 use Rattle.std.proofs.Common.{◌≡◌, ◌≤◌, ◌++◌, List, ℕ, length}
 use Rattle.cord_script.specs.declared.TheConstants.{MAX_TEXT}
-use Rattle.cord_script.specs.Words.{Spells}
+use Rattle.cord_script.specs.Words.{SpellsText}
 use Rattle.cord_script.proofs.words.quoted.Given as goal
 
 abbrev pub invariant-units : goal.invariant-units
 invariant-units l = record {
   read : List ℕ;
   whole : l.inner ≡ read ++ l.rest;
-  spelled : Spells read l.text.items;
+  spelled : SpellsText read l.text.items;
   few : length l.text.items ≤ MAX_TEXT;
 }
 

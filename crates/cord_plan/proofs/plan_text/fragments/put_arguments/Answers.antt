@@ -1,6 +1,6 @@
 use Rattle.std.proofs.Common.{List, ℕ, ◌∷◌, refl, ap}
 use Rattle.cord_operands.specs.declared.operands.Argument.{Argument}
-use Rattle.cord_plan.specs.PlanText.{argument, argument_words}
+use Rattle.cord_plan.specs.PlanText.{argument, printed_arguments}
 use Rattle.cord_plan.proofs.Writing.{AreJoined, writes_failed, writes_next, writes_broken, writes_then, writes_stopped, writes_same}
 use Rattle.cord_plan.proofs.plan_text.fragments.put_arguments.Goals as goal
 
@@ -8,13 +8,13 @@ use Rattle.cord_plan.proofs.plan_text.fragments.put_arguments.Goals as goal
 abbrev word : Argument → List ℕ
 word a = 32 ∷ argument a
 
-joined : AreJoined argument_words word
+joined : AreJoined printed_arguments word
 joined = record { nil = refl; cons = λ a rest. refl }
 
 pub returns-in_err-put_text : goal.returns-in_err-put_text
 returns-in_err-put_text g c =
     let item = c.argument-item.result in
-    writes_failed c.from_residual.ensures.0 (writes_broken argument_words word joined c.args.arguments.now c.loop-argument.argument-index
+    writes_failed c.from_residual.ensures.0 (writes_broken printed_arguments word joined c.args.arguments.now c.loop-argument.argument-index
     item c.loop-argument-test.true c.loop-argument.invariant
     (writes_same (ap word c.argument-item.is) (writes_stopped (argument item) c.in_err-put_text.ensures)))
 
@@ -22,13 +22,13 @@ pub returns-in_err-put_argument : goal.returns-in_err-put_argument
 returns-in_err-put_argument g c =
     let item = c.argument-item.result in
     writes_failed c.from_residual-in_err-put_argument.ensures.0
-    (writes_broken argument_words word joined c.args.arguments.now c.loop-argument.argument-index item c.loop-argument-test.true
+    (writes_broken printed_arguments word joined c.args.arguments.now c.loop-argument.argument-index item c.loop-argument-test.true
     c.loop-argument.invariant
     (writes_same (ap word c.argument-item.is) (writes_then c.in_ok-put_text.ensures c.in_err-put_argument.ensures)))
 
 pub loop-argument-preserved : goal.loop-argument-preserved
 loop-argument-preserved g c =
     let item = c.argument-item.result in
-    writes_next argument_words word joined c.args.arguments.now c.loop-argument.argument-index item c.loop-argument-test.true
+    writes_next printed_arguments word joined c.args.arguments.now c.loop-argument.argument-index item c.loop-argument-test.true
     c.loop-argument.invariant
     (writes_same (ap word c.argument-item.is) (writes_then c.in_ok-put_text.ensures c.in_ok-put_argument.ensures))

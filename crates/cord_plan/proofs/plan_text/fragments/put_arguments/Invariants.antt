@@ -1,9 +1,9 @@
 use Rattle.std.proofs.Common.{take, Ok}
 use Rattle.cord_io.specs.declared.faults.WriteFault.{WriteFault}
 use Rattle.cord_iter.specs.Output.{Writes}
-use Rattle.cord_plan.specs.PlanText.{argument_words}
+use Rattle.cord_plan.specs.PlanText.{printed_arguments}
 use Rattle.cord_plan.proofs.plan_text.fragments.put_arguments.Given as goal
 
 abbrev pub invariant-loop-argument : goal.invariant-loop-argument
 invariant-loop-argument g l =
-    Writes {E = WriteFault} g.W.Sink (argument_words (take l.argument-index l.arguments)) l.initial.sink l.sink (Ok tt)
+    Writes {E = WriteFault} g.W.Sink (printed_arguments (take l.argument-index l.arguments)) l.initial.sink l.sink (Ok tt)

@@ -1,6 +1,6 @@
 use Rattle.std.proofs.Common.{◌≡◌, [], map, drop, length}
 use Rattle.cord_plan.specs.inner.Choices.{choice_view, Has}
-use Rattle.cord_plan.specs.Inlined.{Table, choices}
+use Rattle.cord_plan.specs.Inlined.{ChoiceTable, choices}
 use Rattle.cord_plan.specs.inner.Liveness.{reports}
 use Rattle.cord_plan.specs.inner.Steps.{operation_expression}
 use Rattle.cord_plan.specs.Views.{operation_view}
@@ -10,7 +10,7 @@ use Rattle.cord_plan.proofs.planner.operand_choices.choose_all.Given as goal
 abbrev pub invariant-loop-operand : goal.invariant-loop-operand
 invariant-loop-operand l = record {
   size : length l.chosen.items ≡ l.operand-index;
-  so_far : (t : Table) → Has (map operation_expression (map operation_view l.operations)) t →
+  so_far : (t : ChoiceTable) → Has (map operation_expression (map operation_view l.operations)) t →
       choices l.line.statements.now (reports l.line.recent.now.later.now) t l.line.place l.line.statement.now
       (map choice_view l.chosen.items) (drop l.operand-index l.operands)
       ≡ choices l.line.statements.now (reports l.line.recent.now.later.now) t l.line.place l.line.statement.now [] l.operands;

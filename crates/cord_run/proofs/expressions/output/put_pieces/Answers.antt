@@ -5,7 +5,7 @@ use Rattle.cord_io.specs.Table.{Table, Lengths}
 use Rattle.cord_io.specs.declared.faults.CordError.{CordError}
 use Rattle.cord_node.specs.declared.Node.{Node}
 use Rattle.cord_core.specs.Cord.{all_bytes, bytes_of, CordFitsIn}
-use Rattle.cord_iter.specs.Output.{Counts, CountsFaults, IsPrefixOf, Takes}
+use Rattle.cord_iter.specs.Output.{FailureCounts, CountsFaults, IsPrefixOf, Takes}
 use Rattle.cord_run.proofs.Output.{fits_at, puts_none, puts_next, puts_cut, puts_all}
 use Rattle.cord_run.proofs.Refusals.{handed_on}
 use Rattle.cord_run.specs.inner.Output.{Puts}
@@ -51,7 +51,7 @@ returns-in_err-put-clause-puts g c = λ file_system agrees.
 
 pub returns-in_err-put-clause-faults : goal.returns-in_err-put-clause-faults
 returns-in_err-put-clause-faults g c =
-    let m : Counts = record { source = g.R.Source.failures c.put.new.src; sink = g.S.Sink.failures c.put.new.sink } in
+    let m : FailureCounts = record { source = g.R.Source.failures c.put.new.src; sink = g.S.Sink.failures c.put.new.sink } in
     let source = g.R.Source.failures c.loop-piece.source in
     subst (λ (n : ℕ). CountsFaults (record { source = n; sink = g.S.Sink.failures c.args.sink.now }) m c.from_residual.result)
     c.loop-piece.invariant.source

@@ -3,7 +3,7 @@ use Rattle.std.specs.Prelude.{Option}
 use Rattle.cord_io.specs.declared.TheConstants.{MAX_LEN}
 use Rattle.cord_node.specs.declared.Node.{Node}
 use Rattle.cord_core.specs.Cord.{all_bytes}
-use Rattle.cord_iter.specs.Output.{Counts, CountsFaults, IsPrefixOf, Takes}
+use Rattle.cord_iter.specs.Output.{FailureCounts, CountsFaults, IsPrefixOf, Takes}
 use Rattle.cord_plan.specs.Values.{text_in}
 use Rattle.cord_plan.specs.Views.{expr_view}
 use Rattle.cord_run.specs.declared.stops.Stop.{Stop}
@@ -45,8 +45,8 @@ returns-in_err-pieces-in-None-clause-wrote g c = λ file_system agrees there.
 pub returns-in_err-pieces-in-None-clause-counts : goal.returns-in_err-pieces-in-None-clause-counts
 returns-in_err-pieces-in-None-clause-counts g c =
     let source = g.R.Source.failures c.args.source.now in
-    let n : Counts = record { source = source; sink = g.S.Sink.failures c.args.sink.now } in
-    let m : Counts = record { source = source; sink = g.S.Sink.failures c.put_short.new.sink } in
+    let n : FailureCounts = record { source = source; sink = g.S.Sink.failures c.args.sink.now } in
+    let m : FailureCounts = record { source = source; sink = g.S.Sink.failures c.put_short.new.sink } in
     subst (λ (r : Result (Unit {0}) Stop). CountsStops n m r)
     (handed_on c.in_err-pieces-in-None.field-0.0 c.from_residual.result c.from_residual.ensures.1)
     (unbuilt_counts c.args.store.now.entries.items (expr_view c.args.expression.now) c.in_err-pieces-in-None.field-0.0 n m
@@ -94,8 +94,8 @@ returns-clause-wrote g c = λ file_system agrees there.
 
 pub returns-clause-counts : goal.returns-clause-counts
 returns-clause-counts g c =
-    let n : Counts = record { source = g.R.Source.failures c.args.source.now; sink = g.S.Sink.failures c.args.sink.now } in
-    let m : Counts = record { source = g.R.Source.failures c.put_pieces.new.source; sink = g.S.Sink.failures c.put_pieces.new.sink } in
+    let n : FailureCounts = record { source = g.R.Source.failures c.args.source.now; sink = g.S.Sink.failures c.args.sink.now } in
+    let m : FailureCounts = record { source = g.R.Source.failures c.put_pieces.new.source; sink = g.S.Sink.failures c.put_pieces.new.sink } in
     subst (λ (stop : Stop). CountsStops n m (Err stop)) (sym c.stop_of_failure.ensures)
     (stop_counts c.in-Err.error n m (subst (λ (k : ℕ). CountsFaults {T = Unit {0}} (record { source = n.source; sink = k }) m
     (Err c.in-Err.error)) (ap g.S.Sink.failures c.in-None.ensures.left) c.in-Err.ensures.faults))

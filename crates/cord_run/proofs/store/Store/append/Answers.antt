@@ -3,7 +3,7 @@ use Rattle.std.specs.Prelude.{Option, IfOk, OnOk}
 use Rattle.cord_io.specs.declared.TheConstants.{MAX_LEN}
 use Rattle.cord_node.specs.Tree.{Cell}
 use Rattle.cord_run.specs.declared.store.Entry.{Entry}
-use Rattle.cord_run.specs.inner.Extensibles.{cells_of, Grew}
+use Rattle.cord_run.specs.inner.Extensibles.{cells_or_none, Grew}
 use Rattle.cord_run.specs.inner.Entries.{SameEntries, extensible_in}
 use Rattle.cord_run.proofs.Entries.{come_back, grew_after, if_grew}
 use Rattle.cord_run.proofs.store.Store.append.Goals as goal
@@ -23,12 +23,12 @@ returns-clause-grown c =
 
 pub returns-clause-fits : goal.returns-clause-fits
 returns-clause-fits c =
-    subst (λ (o : Option (List Cell)). OnOk c.append_at.result (length (cells_of o) + length c.args.bytes.now ≤ MAX_LEN))
+    subst (λ (o : Option (List Cell)). OnOk c.append_at.result (length (cells_or_none o) + length c.args.bytes.now ≤ MAX_LEN))
     (ap (λ (es : List Entry). extensible_in es c.args.name.now) c.deref_mut.ensures.value
     ∙ c.in_ok-place.ensures.same.extensibles c.args.name.now) c.append_at.ensures.fits
 
 pub returns-clause-too_long : goal.returns-clause-too_long
 returns-clause-too_long c = λ is.
-    subst (λ (o : Option (List Cell)). MAX_LEN < length (cells_of o) + length c.args.bytes.now)
+    subst (λ (o : Option (List Cell)). MAX_LEN < length (cells_or_none o) + length c.args.bytes.now)
     (ap (λ (es : List Entry). extensible_in es c.args.name.now) c.deref_mut.ensures.value
     ∙ c.in_ok-place.ensures.same.extensibles c.args.name.now) (c.append_at.ensures.too_long is)

@@ -3,7 +3,7 @@ use Rattle.std.specs.Prelude.{Option, OnOk}
 use Rattle.cord_io.specs.declared.TheConstants.{MAX_LEN}
 use Rattle.cord_node.specs.Tree.{Cell}
 use Rattle.cord_run.specs.declared.store.Entry.{Entry}
-use Rattle.cord_run.specs.inner.Extensibles.{cells_of, Grew, GrewTo}
+use Rattle.cord_run.specs.inner.Extensibles.{cells_or_none, Grew, GrewTo}
 use Rattle.cord_run.specs.inner.Entries.{cells_in}
 use Rattle.cord_run.proofs.Entries.{distinct_set, grew_set, if_grew, name_at_place, value_at_place}
 use Rattle.cord_run.proofs.store.appends.append_at.Goals as goal
@@ -21,13 +21,13 @@ returns-clause-grown c =
 
 pub returns-clause-fits : goal.returns-clause-fits
 returns-clause-fits c =
-    subst (λ (o : Option (List Cell)). OnOk c.append_to.result (length (cells_of o) + length c.args.bytes.now ≤ MAX_LEN))
+    subst (λ (o : Option (List Cell)). OnOk c.append_to.result (length (cells_or_none o) + length c.args.bytes.now ≤ MAX_LEN))
     (value_at_place (λ entry. cells_in entry.extensible) None c.args.entries.now c.args.name.now c.args.place c.index-entries-place.result
     c.requires.place) c.append_to.ensures.fits
 
 pub returns-clause-too_long : goal.returns-clause-too_long
 returns-clause-too_long c = λ is.
-    subst (λ (o : Option (List Cell)). MAX_LEN < length (cells_of o) + length c.args.bytes.now)
+    subst (λ (o : Option (List Cell)). MAX_LEN < length (cells_or_none o) + length c.args.bytes.now)
     (value_at_place (λ entry. cells_in entry.extensible) None c.args.entries.now c.args.name.now c.args.place
     c.index-entries-place.result c.requires.place) (c.append_to.ensures.too_long is)
 
