@@ -104,13 +104,9 @@ impl<'a> LineWords<'a> {
     fn plain(&mut self) -> Result<&'a [u8], NoStatement>
         ensures { IfOk result (λ word. PassesWord self.old (Plain word.now) self.new) }
     {
-        match plain_word(self.rest) {
-            Some((word, rest)) => {
-                self.rest = rest;
-                Ok(word)
-            }
-            None => Err(NoStatement),
-        }
+        let (word, rest) = plain_word(self.rest).ok_or(NoStatement)?;
+        self.rest = rest;
+        Ok(word)
     }
 
     // The name that a word is, if it is known and of this kind.
@@ -179,10 +175,7 @@ impl<'a> LineWords<'a> {
     {
         let word = self.plain()?;
         if begins_numeral(word) {
-            return match numeral_of(word) {
-                Some(value) => Ok(Number::Numeral(value)),
-                None => Err(NoStatement),
-            };
+            return Ok(Number::Numeral(numeral_of(word).ok_or(NoStatement)?));
         }
         let name = self.named(word, Kind::Number)?;
         Ok(Number::Named(name))

@@ -268,8 +268,7 @@ fn place_of_bytes<const M: usize, S: Source>(
 {
     let finder = Finder::new(bytes);
     let mut room = [0; M];
-    let place = first_of(x, start, end, &finder, &mut room, src)?;
-    Ok(place)
+    first_of(x, start, end, &finder, &mut room, src)
 }
 
 // The first place of a text of more than `PREFIX_LEN` bytes.

@@ -51,9 +51,8 @@ fn gather_all(members: &[Rc<Expr>], store: &Store, text: &mut ArrayVec<u8, MOST_
     ensures short { result ≡ true → length text.new.items ≤ MOST_GATHERED }
 {
     for member in members {
-        let slice = match slice_of(member.as_ref(), store) {
-            Some(slice) => slice,
-            None => return false,
+        let Some(slice) = slice_of(member.as_ref(), store) else {
+            return false;
         };
         match text.try_extend_from_slice(slice) {
             Ok(()) => {}
