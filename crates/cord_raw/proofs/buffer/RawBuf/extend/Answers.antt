@@ -1,4 +1,4 @@
-use Rattle.std.proofs.Common.{length, ap, arith}
+use Rattle.std.proofs.Common.{length, ap, arith, rules}
 use Rattle.cord_raw.proofs.buffer.RawBuf.extend.Goals as goal
 
 pub append-requires-clause-few : goal.append-requires-clause-few
@@ -9,3 +9,6 @@ append-requires-clause-few c =
     let count = c.count.ensures in
     let prefix = c.split_at.ensures.front_len in let back = c.split_at.ensures.back_len in let over = c.if-bytes-room.false in
     omega arith
+
+pub returns-in_err-fresh-clause-unchanged : goal.returns-in_err-fresh-clause-unchanged
+returns-in_err-fresh-clause-unchanged c = search rules
