@@ -39,7 +39,7 @@ impl<T: Drop> From<AllocFailed<T>> for FileError {
     ghost from_gives = { λ _ e. e ≡ NoMemory };
 
     fn from(_failed: AllocFailed<T>) -> FileError {
-        FileError::NoMemory
+        AllocError.into()
     }
 }
 

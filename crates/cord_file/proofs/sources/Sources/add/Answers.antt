@@ -101,3 +101,9 @@ returns-clause-file g c = λ file_system agrees.
     holds_file file_system (opened_of c.push.new.self.items) c.args.path.now (c.len-2.result + 2) file.len (length (opened_of files)) id
     slot
     (found_there file_system _ _ (c.in_ok-no.ensures.found file_system agrees))
+
+pub returns-clause-count : goal.returns-clause-count
+returns-clause-count g c = search rules
+
+pub returns-clause-once : goal.returns-clause-once
+returns-clause-once g c = search rules

@@ -1,4 +1,4 @@
-use Rattle.std.proofs.Common.{◌≡◌, ℕ, suc, ◌+◌, ◌<◌, List, Some, Ok, Err, Result, refl, sym, ◌∙◌, ap, subst, length, arith}
+use Rattle.std.proofs.Common.{◌≡◌, ℕ, suc, ◌+◌, ◌<◌, List, Some, Ok, Err, Result, refl, sym, ◌∙◌, ap, subst, length, arith, rules}
 use Rattle.std.specs.Prelude.{IfOk, OnErr}
 use Rattle.std.specs.Prelude.{slice_get}
 use Rattle.std.specs.Option.{option_map}
@@ -62,3 +62,9 @@ returns-in-Some-clause-file g c = λ file_system agrees.
     subst (λ p. IsFound file_system p e.len) at (self.sound.there n e here file_system agrees, self.sound.as_long n e here file_system agrees)
     in
     holds_file file_system (opened_of files) path (n + 2) e.len n id slot there
+
+pub returns-in-Some-clause-count : goal.returns-in-Some-clause-count
+returns-in-Some-clause-count g c = search rules
+
+pub returns-in-Some-clause-again : goal.returns-in-Some-clause-again
+returns-in-Some-clause-again g c = search rules

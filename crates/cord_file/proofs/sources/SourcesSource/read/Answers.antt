@@ -28,3 +28,9 @@ returns-in_default-clause-bytes g c = λ file_system agrees.
     let past : 2 ≤ c.args.id.0 = search rules in
     source_read_ok c.read_file.result file_system self.open_files.items c.args.id.0 c.args.start c.read_file.new.out past
     (c.read_file.ensures.bytes file_system agrees)
+
+pub returns-in_default-clause-count : goal.returns-in_default-clause-count
+returns-in_default-clause-count g c = search rules
+
+pub returns-in_default-clause-none_opened : goal.returns-in_default-clause-none_opened
+returns-in_default-clause-none_opened g c = search rules
