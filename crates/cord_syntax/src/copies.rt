@@ -1,19 +1,59 @@
 // Copies of the statements that plans keep.
-ghost use Rattle.std.specs.Prelude.{◌≡◌, IfOk};
+ghost use Rattle.std.specs.Prelude.{◌≡◌, IfOk, Ok};
 ghost use Rattle.cord_syntax.specs.Families.{statement_of};
 ghost use Rattle.cord_syntax.specs.declared.families.Family.{Family};
 
 use crate::{Computation, Control, Growth, Look, Search, Statement};
 use std::alloc::AllocError;
 
+// Both copies, unless one of them is refused.
+fn both<A: Drop, B: Drop>(
+    left: Result<A, AllocError>,
+    right: Result<B, AllocError>,
+) -> Result<(A, B), AllocError>
+    ensures left { IfOk result (λ copies. left ≡ Ok copies.0) }
+    ensures right { IfOk result (λ copies. right ≡ Ok copies.1) }
+{
+    let left = left?;
+    Ok((left, right?))
+}
+
+// A member's fields, as their copies are nested.
+macro_rules! nested {
+    ($fields:tt) => {
+        $fields
+    };
+    ($fields:tt $next:ident $($more:ident)*) => {
+        nested!(($fields, $next) $($more)*)
+    };
+}
+
+// Copies of a member's fields, beside those that were made.
+macro_rules! copies {
+    ($copies:expr;) => {
+        $copies
+    };
+    ($copies:expr; $next:ident $($more:ident)*) => {
+        copies!(both($copies, $next.clone()); $($more)*)
+    };
+}
+
 // The statement that has a line and copies of a member's fields.
+macro_rules! statement {
+    ($line:ident, $name:ident;) => {
+        Ok(Statement::$name { line: $line })
+    };
+    ($line:ident, $name:ident; $first:ident $($field:ident)*) => {{
+        let nested!($first $($field)*) = copies!($first.clone(); $($field)*)?;
+        Ok(Statement::$name { line: $line, $first $(, $field)* })
+    }};
+}
+
+// The statement that has a line and copies of the fields of whichever member this is.
 macro_rules! copied {
     ($family:ident, $member:ident, $line:ident; $($name:ident($($field:ident),*)),*) => {
         match $member {
-            $($family::$name { $($field),* } => Ok(Statement::$name {
-                line: $line,
-                $($field: $field.clone()?),*
-            }),)*
+            $($family::$name { $($field),* } => statement!($line, $name; $($field)*),)*
         }
     };
 }
