@@ -43,7 +43,7 @@ static void look(const zc_cord *x) {
     if (depth > greatest) greatest = depth;
 }
 
-/* Bytes put in one by one: each behind the one before, or at random places; or in and out by turns. */
+/* Bytes put in one by one: each after the one before, or at random places; or in and out by turns. */
 static void edited(zc_cord *x, int is_random, int goes_out) {
     zc_cord byte = ZC_EMPTY;
     uint64_t state = 1;

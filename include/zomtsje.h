@@ -171,7 +171,7 @@ int zc_rchr(const zc_cord *x, uint64_t end, unsigned char byte, uint64_t *place)
    each place up to the end. It takes no memory. O(n) in both texts. */
 int zc_str(const zc_cord *x, uint64_t start, const zc_cord *y, uint64_t *place);
 
-/* As zc_str, in the first end bytes of x: the bytes of y end at end or before. What lies behind isn't searched. */
+/* As zc_str, in the first end bytes of x: the bytes of y end at end or before. What lies after isn't searched. */
 int zc_str_in(const zc_cord *x, uint64_t start, uint64_t end, const zc_cord *y, uint64_t *place);
 
 /* Writes the last place of x where the bytes of y stand and end at end or before to *place, or ZC_NOT_FOUND. No bytes

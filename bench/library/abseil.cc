@@ -113,11 +113,11 @@ void *abseil_edited(void *text, const struct edits *edits) {
     uint64_t state = 1;
     for (uint64_t i = 0; i < edits->count; i++) {
         uint64_t place = edit_place(edits, i, &state);
-        absl::Cord behind = made->Subcord(place, made->size() - place);
-        made->RemoveSuffix(behind.size());
+        absl::Cord suffix = made->Subcord(place, made->size() - place);
+        made->RemoveSuffix(suffix.size());
         made->Append("e");
-        made->Append(std::move(behind));
-        if (edits->are_from) kept.push_back(*made);
+        made->Append(std::move(suffix));
+        if (edits->are_kept) kept.push_back(*made);
     }
     keep(kept.data());
     new std::vector<absl::Cord>(std::move(kept));  // which stay, as in the other libraries

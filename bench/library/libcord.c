@@ -134,7 +134,7 @@ uint64_t libcord_compare(void *text, void *other) {
 }
 
 void *libcord_edited(void *text, const struct edits *edits) {
-    CORD made = text, *kept = edits->are_from ? GC_MALLOC(edits->count * sizeof *kept) : NULL;
+    CORD made = text, *kept = edits->are_kept ? GC_MALLOC(edits->count * sizeof *kept) : NULL;
     uint64_t state = 1;
     for (uint64_t i = 0; i < edits->count; i++) {
         uint64_t place = edit_place(edits, i, &state);

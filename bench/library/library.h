@@ -33,11 +33,11 @@ static inline uint64_t next_place(uint64_t *state, uint64_t bound) {
     return (*state >> 32) * bound >> 32;
 }
 
-/* Single bytes that are put into a text of `size` bytes: each behind the one before, or at places that look random. */
+/* Single bytes that are put into a text of `size` bytes: each after the one before, or at places that look random. */
 struct edits {
     uint64_t size, count;
     int is_random;
-    int are_from; /* whether the text after each edit is kept */
+    int are_kept; /* whether the text after each edit is kept */
 };
 
 static inline uint64_t edit_place(const struct edits *edits, uint64_t done, uint64_t *state) {

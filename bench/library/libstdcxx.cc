@@ -35,7 +35,7 @@ void *libstdcxx_edited(void *text, const struct edits *edits) {
     uint64_t state = 1;
     for (uint64_t i = 0; i < edits->count; i++) {
         made->insert(edit_place(edits, i, &state), "e", 1);
-        if (edits->are_from) kept->push_back(*made);
+        if (edits->are_kept) kept->push_back(*made);
     }
     keep(kept);
     return made;

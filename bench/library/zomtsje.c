@@ -135,7 +135,7 @@ uint64_t zomtsje_compare(void *text, void *other) {
 }
 
 void *zomtsje_edited(void *text, const struct edits *edits) {
-    zc_cord *made = new_text(), *kept = edits->are_from ? calloc(edits->count, sizeof *kept) : NULL;
+    zc_cord *made = new_text(), *kept = edits->are_kept ? calloc(edits->count, sizeof *kept) : NULL;
     zc_edit edit = ZC_EDIT_EMPTY;
     uint64_t state = 1;
     must(zc_edit_set(text, &edit));
