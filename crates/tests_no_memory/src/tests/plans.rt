@@ -107,23 +107,9 @@ fn make_trivial(rt: &impl Abort, alloc: Global, case: &Planned) {
 }
 
 #[test]
-fn refused_plan_over_a_seam(rt: HostRuntime) {
-    make(&rt, rt.alloc(), &SEAM);
-}
-
-#[test]
-fn refused_plan_of_a_loop(rt: HostRuntime) {
-    make(&rt, rt.alloc(), &NEXT_TURN);
-}
-
-#[test]
-fn refused_plan_of_branches(rt: HostRuntime) {
-    make(&rt, rt.alloc(), &BOTH_ASSIGN);
-}
-
-#[test]
-fn refused_trivial_plans(rt: HostRuntime) {
+fn refused_plans(rt: HostRuntime) {
     for case in &[SEAM, NEXT_TURN, BOTH_ASSIGN] {
+        make(&rt, rt.alloc(), case);
         make_trivial(&rt, rt.alloc(), case);
     }
 }

@@ -111,61 +111,63 @@ fn run_both(rt: &impl Abort, alloc: Global, run: &Run) {
     run_it(rt, alloc, run, false);
 }
 
-#[test]
-fn refused_doubled_thirty_times(rt: HostRuntime) {
-    let run = Run {
+const RUNS: &[Run<'static>] = &[
+    // doubled-thirty-times
+    Run {
         script: "let x \"ab\"\nrepeat 30\ncat x x x\nend\nlen n x\nfetch c x 2147483647\nsprintf z \"%d %c\" n c\n\
             put z",
         lines: 8,
         puts: &[(8, b"2147483648 b")],
         long: b"",
-    };
-    run_both(&rt, rt.alloc(), &run);
-}
-
-#[test]
-fn refused_substr_over_seam(rt: HostRuntime) {
-    let run = Run {
+    },
+    // substr-over-seam
+    Run {
         script: "let a \"abc\"\nlet b \"def\"\ncat t a b\nsubstr z t 2 3\nput z",
         lines: 5,
         puts: &[(5, b"cde")],
         long: b"",
-    };
-    run_both(&rt, rt.alloc(), &run);
-}
-
-#[test]
-fn refused_sprintf_pads(rt: HostRuntime) {
-    let run = Run {
+    },
+    // sprintf-pads
+    Run {
         script: "let h \"hello\"\nsprintf z \"%5.2r|%-4d|%05d|%.0d|%%\" h 7 -7 0\nput z",
         lines: 3,
         puts: &[(3, b"   he|7   |-0007||%")],
         long: b"",
-    };
-    run_both(&rt, rt.alloc(), &run);
-}
-
-#[test]
-fn refused_ec_goes_on_after_tocord(rt: HostRuntime) {
-    let run = Run {
+    },
+    // ec-goes-on-after-tocord
+    Run {
         script: "ecinit e\nrepeat 129\necput e 65\nend\nectocord z e\necput e 66\nput z\nectocord y e\nlen n y\n\
             sprintf t \"%d\" n\nput t",
         lines: 11,
         puts: &[(7, &[b'A'; 129]), (11, b"130")],
         long: b"",
-    };
-    run_both(&rt, rt.alloc(), &run);
-}
-
-#[test]
-fn refused_file_twice(rt: HostRuntime) {
-    let run = Run {
+    },
+    // file-twice
+    Run {
         script: "file x \"p\"\nput x\nput x",
         lines: 3,
         puts: &[(2, b"line\n"), (3, b"line\n")],
         long: b"",
-    };
-    run_both(&rt, rt.alloc(), &run);
+    },
+    // edits
+    Run {
+        script: "let x \"hello world\"\nlet a \"new \"\ncat y x a\nsubstr l x 0 6\nsubstr r x 6 9\ncatn x l a r\n\
+            put x\nsubstr l x 0 2\nsubstr r x 9 9\ncat x l r\nput x\nput y",
+        lines: 12,
+        puts: &[
+            (7, b"hello new world"),
+            (11, b"he world"),
+            (12, b"hello worldnew "),
+        ],
+        long: b"",
+    },
+];
+
+#[test]
+fn refused_runs(rt: HostRuntime) {
+    for run in RUNS {
+        run_both(&rt, rt.alloc(), run);
+    }
 }
 
 #[test]
@@ -176,22 +178,6 @@ fn refused_lazy_twice(rt: HostRuntime) {
         lines: 3,
         puts: &[(2, &bytes), (3, &bytes)],
         long: &bytes,
-    };
-    run_both(&rt, rt.alloc(), &run);
-}
-
-#[test]
-fn refused_edits(rt: HostRuntime) {
-    let run = Run {
-        script: "let x \"hello world\"\nlet a \"new \"\ncat y x a\nsubstr l x 0 6\nsubstr r x 6 9\ncatn x l a r\n\
-            put x\nsubstr l x 0 2\nsubstr r x 9 9\ncat x l r\nput x\nput y",
-        lines: 12,
-        puts: &[
-            (7, b"hello new world"),
-            (11, b"he world"),
-            (12, b"hello worldnew "),
-        ],
-        long: b"",
     };
     run_both(&rt, rt.alloc(), &run);
 }

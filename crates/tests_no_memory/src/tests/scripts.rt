@@ -28,63 +28,38 @@ pub fn read(rt: &impl Abort, alloc: Global, script: &str, lines: usize) -> Scrip
     read
 }
 
-#[test]
-fn refused_parse_of_blocks(rt: HostRuntime) {
-    read(
-        &rt,
-        rt.alloc(),
+// Scripts, and how many lines each has: of blocks, numbers, prints, files, searches and extensible cords.
+const SCRIPTS: &[(&str, usize)] = &[
+    (
         "let x \"a\"\nrepeat 2\nlen n x\nif n eq 1\nlet x \"b\"\nelse\nlet x \"c\"\nend\nend\nput x",
         10,
-    );
-}
-
-#[test]
-fn refused_parse_of_numbers(rt: HostRuntime) {
-    read(
-        &rt,
-        rt.alloc(),
+    ),
+    (
         "set n 9223372036854775807\nadd n n 1\nsub m n -1\nchars a 65 3\nnul b 2\nfn d digits 12\nsubstr z d 8 3",
         7,
-    );
-}
-
-#[test]
-fn refused_parse_of_prints(rt: HostRuntime) {
-    read(
-        &rt,
-        rt.alloc(),
+    ),
+    (
         "let h \"hello\"\nsprintf z \"%5.2r|%-4d|%05d|%.0d|%%\" h 7 -7 0\nput z",
         3,
-    );
-}
-
-#[test]
-fn refused_parse_of_files(rt: HostRuntime) {
-    read(
-        &rt,
-        rt.alloc(),
+    ),
+    (
         "file x \"p\"\neager y \"q\"\nlazy z \"p\"\ncatn a x y z\ncatc a a 33\nbalance a a\nput a",
         7,
-    );
-}
-
-#[test]
-fn refused_parse_of_searches(rt: HostRuntime) {
-    read(
-        &rt,
-        rt.alloc(),
+    ),
+    (
         "let x \"abcx\"\nlet y \"zabcy\"\nfetch n x 0\ncmp n x y\nncmp n x 0 y 1 3\nstr n x 0 y\nchr n x 0 99\n\
             rchr n x 3 99",
         8,
-    );
-}
-
-#[test]
-fn refused_parse_of_extensible_cords(rt: HostRuntime) {
-    read(
-        &rt,
-        rt.alloc(),
+    ),
+    (
         "ecinit e\necstr e \"ab\"\necput e 67\nectocord z e\neccat e z\ncat z z z\nput z",
         7,
-    );
+    ),
+];
+
+#[test]
+fn refused_parse(rt: HostRuntime) {
+    for &(script, lines) in SCRIPTS {
+        read(&rt, rt.alloc(), script, lines);
+    }
 }
