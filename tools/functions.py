@@ -92,6 +92,23 @@ def places_changed(edit, crate):
             texts[file], old = known.replace(old, text), None
 
 
+def change(edit, crate):
+    """Makes an edit in a crate, and gives the files that it changed with their old texts."""
+    old_texts, file, old = {}, None, ""
+    for line in edit.read_text().split("\n"):
+        key, _, text = line.partition(": ")
+        if key == "file":
+            file = crate / text.strip()
+            old_texts.setdefault(file, file.read_text())
+        elif key == "old":
+            old = text
+        elif line.startswith("new:"):
+            if file.read_text().count(old) != 1:
+                raise ValueError(f"{edit.name}: {old!r} doesn't stand once in {file.name}")
+            file.write_text(file.read_text().replace(old, text))
+    return old_texts
+
+
 def crates():
     """The names in crates.txt, in its order."""
     return [it.split(":")[0].split()[0] for it in (TOP / "crates.txt").read_text().split("\n") if it and it[0] != "#"]

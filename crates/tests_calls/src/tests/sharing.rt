@@ -14,8 +14,9 @@ use std::alloc::Global;
 use std::process::Abort;
 use std::rc::{Rc, RcSlice};
 
-// The lengths of the leaves: the least that isn't copied, what the buffer of an extensible cord holds, and a long one.
-const LENGTHS: &[u64] = &[65, 4_096, 1_000_000];
+// The lengths of the leaves: the least that isn't copied, what the buffer of an extensible cord holds after a byte and
+// without one, and a long one.
+const LENGTHS: &[u64] = &[65, 4_095, 4_096, 1_000_000];
 
 // Bytes, and a cord that is one leaf of them.
 #[derive(Drop)]
@@ -159,11 +160,29 @@ fn gathered(rt: &impl Abort, alloc: Global, cord: &Cord) -> Cord {
     ext.to_cord(alloc).expect(rt, "no memory")
 }
 
+#[test]
+fn append_cord_shares_leaves(rt: HostRuntime) {
+    for len in LENGTHS {
+        let leaf = leaf_of(&rt, rt.alloc(), *len);
+        let cord = gathered(&rt, rt.alloc(), &leaf.cord);
+        expect_shared(&rt, "append_cord", &cord, &leaf, len.saturating_mul(2));
+    }
+}
+
 // The text of an extensible cord that has grown by a cord alone.
 fn taken(rt: &impl Abort, alloc: Global, cord: &Cord) -> Cord {
     let mut ext = ExtCord::new(alloc).expect(rt, "no memory");
     ext.append_cord(alloc, cord).expect(rt, "no memory");
     ext.to_cord(alloc).expect(rt, "no memory")
+}
+
+#[test]
+fn to_cord_shares_leaves(rt: HostRuntime) {
+    for len in LENGTHS {
+        let leaf = leaf_of(&rt, rt.alloc(), *len);
+        let cord = taken(&rt, rt.alloc(), &leaf.cord);
+        expect_shared(&rt, "to_cord", &cord, &leaf, *len);
+    }
 }
 
 // What a format of two conversions prints of a cord and of the same cord.
@@ -185,16 +204,11 @@ const PRINTED: &[(&str, &[u8], u64, u64)] = &[
 ];
 
 #[test]
-fn texts_that_grow_share_their_leaves(rt: HostRuntime) {
-    let alloc = rt.alloc();
+fn prints_share_leaves(rt: HostRuntime) {
     for len in LENGTHS {
-        let leaf = leaf_of(&rt, alloc, *len);
-        let cord = taken(&rt, alloc, &leaf.cord);
-        expect_shared(&rt, "to_cord", &cord, &leaf, *len);
-        let cord = gathered(&rt, alloc, &leaf.cord);
-        expect_shared(&rt, "append_cord", &cord, &leaf, len.saturating_mul(2));
+        let leaf = leaf_of(&rt, rt.alloc(), *len);
         for &(name, format, times, more) in PRINTED {
-            let cord = printed(&rt, alloc, format, &leaf.cord);
+            let cord = printed(&rt, rt.alloc(), format, &leaf.cord);
             let count = len.saturating_mul(times).saturating_add(more);
             expect_shared(&rt, name, &cord, &leaf, count);
         }
