@@ -2,8 +2,9 @@
  *
  * The text has lines of 20 to 99 bytes in leaves of 4,096 bytes. Prints a row a size in bytes: how fast the index is
  * made, its part of the memory, and nanoseconds: of a look-up by number and by place, of a count of 4,096 bytes at a
- * place, of what an edit of up to 40 bytes costs the index, and of the two look-ups of its line and of where that
- * begins. Answers are compared with a count of all bytes. Times are those of a processor. */
+ * place, of what an edit of up to 40 bytes costs the index, of the two look-ups of its line and of where that begins,
+ * and of both together. Answers are compared with a count of all bytes. Times are those of a processor, less what it
+ * takes to ask for them. */
 #define _POSIX_C_SOURCE 200809L
 #include <inttypes.h>
 #include <malloc.h>
@@ -28,6 +29,13 @@ static double nanoseconds(void) {
     struct timespec it;
     clock_gettime(CLOCK_PROCESS_CPUTIME_ID, &it);
     return (double)it.tv_sec * 1e9 + (double)it.tv_nsec;
+}
+
+/* What one more question for the time adds to a difference of two. */
+static double question(void) {
+    double start = nanoseconds();
+    for (size_t i = 0; i < LOOKUPS / 10; i++) nanoseconds();
+    return (nanoseconds() - start) / (LOOKUPS / 10);
 }
 
 static void must(int holds, const char *what) {
@@ -63,6 +71,7 @@ static uint64_t lines_before(const zc_cord *x, uint64_t place) {
 /* Edits at random places: the index's part of an edit, then the line of its place and where that begins. */
 static void edit(zc_cord *x, zc_lines *lines, double *kept, double *asked) {
     char bytes[LONGEST];
+    double asking = question();
     *kept = *asked = 0;
     for (size_t i = 0; i < EDITS; i++) {
         uint64_t len = zc_len(x), start = below(len + 1), removed = below(LONGEST), inserted = below(LONGEST);
@@ -87,8 +96,8 @@ static void edit(zc_cord *x, zc_lines *lines, double *kept, double *asked) {
             MUST(zc_lines_of(lines, x, place, &number) == ZC_OK && number == lines_before(x, place));
         }
     }
-    *kept /= EDITS;
-    *asked /= EDITS;
+    *kept = *kept / EDITS - asking;
+    *asked = *asked / EDITS - asking;
 }
 
 static size_t memory_in_use(void) {
@@ -134,7 +143,7 @@ static void measure(uint64_t size) {
     printf("%" PRIu64 " bytes: made at %.2f GB/s, %.4f %% of the memory, ", size, (double)size / made,
            100.0 * (double)memory / (double)size);
     printf("by number %.0f, by place %.0f, a count %.0f, ", by_number, by_place, counted);
-    printf("an edit %.0f, its two look-ups %.0f\n", kept, asked);
+    printf("an edit %.0f, its two look-ups %.0f, together %.0f\n", kept, asked, kept + asked);
     zc_lines_free(&lines);
     zc_free(&x);
 }

@@ -20,8 +20,8 @@ use Rattle.cord_pos.specs.declared.span.Span.{Span}
 use Rattle.cord_pos.proofs.Standings.{index_inside}
 use Rattle.cord.specs.Plain.{no_table, no_lengths, plain_bytes, IsPlain}
 use Rattle.cord.specs.declared.chunks.Chunk.{Chunk}
-use Rattle.cord.specs.Chunks.{chunk_bytes, GivesChunk, GivesChunkBefore}
-use Rattle.cord.specs.inner.Chunks.{left_from, left_to, IsNextChunk}
+use Rattle.cord.specs.Chunks.{chunk_bytes, GivesChunk, GivesChunkBefore, IsNextChunk}
+use Rattle.cord.specs.inner.Chunks.{left_from, left_to}
 
 -- no index where there is none
 no_index : (c : Option Node) (i : ℕ) → text_len c ≤ i → index_at c i ≡ None

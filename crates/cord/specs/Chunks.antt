@@ -1,5 +1,5 @@
 -- Chunks: what a text has in one part of its tree, of which none is empty.
-use Rattle.std.specs.Prelude.{◌≡◌, ◌<◌, ℕ, List, [], ◌++◌, length, map, reverse, replicate, Option, MatchOption}
+use Rattle.std.specs.Prelude.{◌≡◌, ◌<◌, ℕ, List, [], ◌++◌, length, map, reverse, replicate, drop, Option, MatchOption}
 use Rattle.std.specs.Prelude.{true}
 use Rattle.std.specs.List.{concat}
 use Rattle.std.specs.Iterator.Runs.{EachRunFrom}
@@ -10,6 +10,11 @@ use Rattle.cord.specs.declared.chunks.Chunk.TheVariants.{Bytes, Run}
 abbrev pub chunk_bytes : Chunk → List ℕ
 chunk_bytes (Bytes bytes) = bytes.now
 chunk_bytes (Run byte count) = replicate count byte
+
+-- a chunk with which the bytes begin, and nothing where there is none
+abbrev pub IsNextChunk : List ℕ → Option Chunk → Type 0
+IsNextChunk left answer = MatchOption answer (left ≡ []) (λ chunk. (0 < length (chunk_bytes chunk)) ×
+    (left ≡ chunk_bytes chunk ++ drop (length (chunk_bytes chunk)) left))
 
 -- a call that gave a chunk with which the bytes that were left begin, or nothing where none was left
 abbrev pub GivesChunk : List ℕ → Option Chunk → List ℕ → Type 0

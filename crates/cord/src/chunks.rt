@@ -1,12 +1,12 @@
 // The chunks of a text.
 ghost use Rattle.std.specs.Prelude.{◌≡◌, ◌<◌, ◌≤◌, length, min, take, drop};
 ghost use Rattle.cord_pos.specs.Spans.{span_len, span_bytes, SpanFitsIn};
-ghost use Rattle.cord.specs.Chunks.{chunk_bytes, JoinBackTo, JoinTo};
-ghost use Rattle.cord.specs.inner.Chunks.{IsNextChunk};
+ghost use Rattle.cord.specs.Chunks.{chunk_bytes, IsNextChunk, JoinBackTo, JoinTo};
 ghost use Rattle.cord.specs.Plain.{no_lengths, no_table};
 
 use crate::{ChunksBack, Text};
 use cord_pos::{Position, Span};
+use cord_search::cord_span_at;
 use std::io;
 use std::io::Read;
 use std::marker::Model;
@@ -74,6 +74,17 @@ impl Text {
         Chunks {
             position: Position::set(&self.cord, 0),
         }
+    }
+
+    /// The chunk that holds the byte at `place`, from there on: none at or past the end. It costs the steps down to one
+    /// part, so a walk over many chunks is for `chunks`.
+    pub fn chunk_at(&self, place: u64) -> Option<Chunk<'_>>
+        ensures { IsNextChunk (drop place self.now) result }
+    {
+        if place >= self.len() {
+            return None;
+        }
+        Some(Chunk::of(cord_span_at(&self.cord, place)))
     }
 
     /// Its chunks from the last to the first: put together from the last that came to the first, they are the text.

@@ -1,12 +1,12 @@
 -- Counts of texts, one after the other.
-use Rattle.std.proofs.Common.{◌≡◌, ℕ, ◌+◌, ◌-◌, ◌<◌, ◌≤◌, cond, List, [], ◌∷◌, ◌++◌, length, take, sym, ap, ◌∙◌, arith, length-append, Bool, true, false}
+use Rattle.std.proofs.Common.{◌≡◌, ℕ, ◌+◌, ◌-◌, ◌<◌, ◌≤◌, ◌^◌, cond, List, [], ◌∷◌, ◌++◌, length, take, sym, ap, ◌∙◌, arith, length-append, Bool, true, false}
 use Rattle.std.specs.Prelude.{◌==◌, if◌then◌else◌}
 use Rattle.std.proofs.lemmas.List.Sums.{sum_by-append, count_by-le-length}
 use Rattle.cord_node.proofs.Ranges.{take-append_right}
 use Rattle.cord_lines.specs.declared.counting.Counts.{Counts}
-use Rattle.cord_lines.specs.Counts.{begins_char, chars_in, counts_of, ends_in, is_end, plus}
+use Rattle.cord_lines.specs.Counts.{begins_char, chars_in, counts_of, ends_in, is_end, plus, AreFew}
 use Rattle.cord_lines.specs.Lines.{after_ends}
-use Rattle.cord_lines.proofs.Ends.{ends-append, in_first, past_all}
+use Rattle.cord_lines.proofs.Ends.{ends-append}
 
 abbrev counts : ℕ → ℕ → ℕ → Counts
 counts b e c = record { bytes = b; ends = e; chars = c }
@@ -32,6 +32,14 @@ counted_more all have next left less old chunk new whole prefix le is fewer =
     ap (λ (a : Counts). plus a (counts_of (take less new))) is ∙ plus_assoc have (counts_of chunk) (counts_of (take less new))
     ∙ ap (plus have) (sym (counts-append chunk (take less new)) ∙ ap counts_of (sym cut)) ∙ whole
 
+-- what is counted is few, where all is
+pub few_so_far : (all next rest : Counts) → plus next rest ≡ all → AreFew all → AreFew next
+few_so_far all next rest whole few = record {
+  bytes = (let e = ap (λ (a : Counts). a.bytes) whole in omega (arith, e, few.bytes));
+  ends = (let e = ap (λ (a : Counts). a.ends) whole in omega (arith, e, few.ends));
+  chars = (let e = ap (λ (a : Counts). a.chars) whole in omega (arith, e, few.chars));
+}
+
 pub ends-le : (x : List ℕ) → ends_in x ≤ length x
 ends-le x = count_by-le-length is_end x
 
@@ -47,14 +55,5 @@ after-le n (b ∷ x) = step (n == 0) (after-le (if is_end b then n - 1 else n) x
     step true le = omega arith
     step false le = omega (arith, le)
 
-module _ (n place target : ℕ) (old chunk new : List ℕ) (found : place + after_ends n old ≡ target) (prefix : old ≡ chunk ++ new) where
-  -- the end is not in this chunk
-  pub end_later : ends_in chunk < n → place + length chunk + after_ends (n - ends_in chunk) new ≡ target
-  end_later lt = let all : after_ends n old ≡ length chunk + after_ends (n - ends_in chunk) new = ap (after_ends n) prefix ∙ past_all n
-      chunk new lt in
-      omega (arith, found, all)
-
-  -- it is in this one
-  pub end_here : n ≤ ends_in chunk → place + after_ends n chunk ≡ target
-  end_here le = let all : after_ends n old ≡ after_ends n chunk = ap (after_ends n) prefix ∙ in_first n chunk new le in
-      omega (arith, found, all)
+pub few_bytes : (x : List ℕ) → length x < 2 ^ 64 → AreFew (counts_of x)
+few_bytes x lt = record { bytes = lt; ends = omega (arith, lt, ends-le x); chars = omega (arith, lt, chars-le x) }

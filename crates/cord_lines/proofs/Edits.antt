@@ -17,7 +17,7 @@ use Rattle.cord_lines.specs.inner.Blocks.{block_counts, exchanged, total}
 use Rattle.cord_lines.specs.inner.Cuts.{AreBlocksOf, AreModest, AreOfSomeText}
 use Rattle.cord_lines.specs.inner.Edits.{AreOfBytes, Covers, EditFits, FollowEdit}
 use Rattle.cord_lines.proofs.Countings.{chars-append, chars-le, counts-append, ends-le, plus_assoc, same_counts}
-use Rattle.cord_lines.proofs.Ends.{ends-append}
+use Rattle.cord_lines.proofs.Ends.{ends-append, times_ends}
 use Rattle.cord_lines.proofs.Cuts.{Split, split, joined, total_is}
 use Rattle.cord_lines.proofs.Sums.{min_prefix, set_one}
 
@@ -238,9 +238,6 @@ replaced_some bs news some span edit after covers fits le cut =
 -- some bytes with given counts
 abbrev bytes_with : ℕ → ℕ → ℕ → List ℕ
 bytes_with n e c = replicate e 10 ++ (replicate (c - e) 97 ++ replicate (n - c) 128)
-
-times_ends : (n b one : ℕ) → cond (is_end b) 1 0 ≡ one → ends_in (replicate n b) ≡ n * one
-times_ends n b one is = sum_by-replicate (λ (i : ℕ). cond (is_end i) 1 0) n b ∙ ap (λ (i : ℕ). n * i) is
 
 times_chars : (n b one : ℕ) → cond (begins_char b) 1 0 ≡ one → chars_in (replicate n b) ≡ n * one
 times_chars n b one is = sum_by-replicate (λ (i : ℕ). cond (begins_char i) 1 0) n b ∙ ap (λ (i : ℕ). n * i) is

@@ -1,8 +1,9 @@
 -- Where the ends of lines stand in two texts, one after the other.
-use Rattle.std.proofs.Common.{◌≡◌, ℕ, ◌+◌, ◌-◌, ◌<◌, ◌≤◌, Bool, true, false, cond, List, [], ◌∷◌, ◌++◌, length, replicate, min, refl, sym, ap, ◌∙◌, arith, suc, zero}
+use Rattle.std.proofs.Common.{◌≡◌, ℕ, ◌+◌, ◌*◌, ◌-◌, ◌<◌, ◌≤◌, Bool, true, false, cond, List, [], ◌∷◌, ◌++◌, length, replicate, min, refl, sym, ap, ◌∙◌, arith, suc, zero}
 use Rattle.std.specs.Prelude.{◌==◌, if◌then◌else◌}
 use Rattle.std.proofs.lemmas.Bool.Decides.{nat_tests}
 use Rattle.std.proofs.lemmas.List.Sums.{sum_by-cons, sum_by-append}
+use Rattle.std.proofs.lemmas.List.Folds.{sum_by-replicate}
 use Rattle.cord_lines.specs.Counts.{is_end, ends_in}
 use Rattle.cord_lines.specs.Lines.{after_ends}
 
@@ -55,6 +56,10 @@ in_first zero x y le = none_passed (x ++ y) ∙ sym (none_passed x)
 in_first (suc n) [] y le = absurd (omega (arith, le))
 in_first (suc n) (b ∷ x) y le = within_one (suc n) x y b (is_end b) refl (omega arith) le (λ m less. in_first m x y less)
 
+-- how many ends a run has
+pub times_ends : (n b one : ℕ) → cond (is_end b) 1 0 ≡ one → ends_in (replicate n b) ≡ n * one
+times_ends n b one is = sum_by-replicate (λ (i : ℕ). cond (is_end i) 1 0) n b ∙ ap (λ (i : ℕ). n * i) is
+
 -- a run of ends
 pub run_of_ends : (n count : ℕ) → after_ends n (replicate count 10) ≡ min n count
 run_of_ends n zero = omega arith
@@ -62,7 +67,15 @@ run_of_ends zero (suc count) = none_passed (replicate (suc count) 10) ∙ omega 
 run_of_ends (suc n) (suc count) =
     one_more (suc n) (replicate count 10) 10 true refl (omega arith) ∙ ap (λ (k : ℕ). 1 + k) (run_of_ends (suc n - 1) count) ∙ omega arith
 
--- a run of another byte
-pub run_of_none : (n count b : ℕ) → is_end b ≡ false → 0 < n → after_ends n (replicate count b) ≡ count
-run_of_none n zero b e some = refl
-run_of_none n (suc count) b e some = one_more n (replicate count b) b false e some ∙ ap (λ (k : ℕ). 1 + k) (run_of_none n count b e some) ∙ omega arith
+run_cases : (n count b : ℕ) (is : Bool) → is_end b ≡ is → n ≤ ends_in (replicate count b) → after_ends n (replicate count b) ≡ n
+run_cases n count b true h le =
+    let ten : b ≡ 10 = grind (arith, nat_tests) in
+    ap (λ (c : ℕ). after_ends n (replicate count c)) ten ∙ run_of_ends n count
+    ∙ omega (arith, le, times_ends count b 1 (ap (λ (w : Bool). cond w 1 0) h))
+run_cases n count b false h le =
+    let none : n ≡ 0 = omega (arith, le, times_ends count b 0 (ap (λ (w : Bool). cond w 1 0) h)) in
+    ap (λ (k : ℕ). after_ends k (replicate count b)) none ∙ none_passed (replicate count b) ∙ sym none
+
+-- an end that a run has
+pub run_end : (n count b : ℕ) → n ≤ ends_in (replicate count b) → after_ends n (replicate count b) ≡ n
+run_end n count b le = run_cases n count b (is_end b) refl le

@@ -1,5 +1,4 @@
 pub mod Reading
-pub mod Standing
 pub mod Blocks
 pub mod Cuts
 pub mod Edits

@@ -103,7 +103,7 @@ fn count_bytes(bytes: &[u8]) -> Counts
 }
 
 // How many ends of lines and first bytes of characters there are in so few bytes.
-fn count_few(bytes: &[u8]) -> (u8, u8)
+pub(crate) fn count_few(bytes: &[u8]) -> (u8, u8)
     requires { length bytes.now < 256 }
     ensures ends { result.0 ≡ ends_in bytes.now }
     ensures chars { result.1 ≡ chars_in bytes.now }

@@ -9,7 +9,7 @@ use cord::{CordError, Text};
 use std::alloc::Global;
 
 /// The bytes of a block of a new index: the last one has up to twice as many.
-pub(crate) const BLOCK: u64 = 8_192;
+pub(crate) const BLOCK: u64 = 6_656;
 
 /// Blocks have less than twice as many bytes.
 pub(crate) const LARGEST: u64 = 32_767;

@@ -1,68 +1,23 @@
 // A text from a place on.
-ghost use Rattle.std.specs.Prelude.{◌≡◌, ◌+◌, ◌-◌, ◌<◌, ◌≤◌, length, take, drop};
+ghost use Rattle.std.specs.Prelude.{◌≡◌, ◌+◌, ◌-◌, ◌<◌, ◌≤◌, ◌^◌, length, take, drop};
 ghost use Rattle.cord.specs.Chunks.{chunk_bytes};
 ghost use Rattle.cord_lines.specs.Counts.{counts_of};
 ghost use Rattle.cord_lines.specs.Lines.{after_ends};
-ghost use Rattle.cord_lines.specs.inner.Reading.{GivesPrefix};
+ghost use Rattle.cord_lines.specs.inner.Reading.{GivesPrefix, IsSearch};
 
-use crate::counting::{Counts, count_chunk};
+use crate::counting::{Counts, count_chunk, count_few};
 use cord::{Chunk, Text};
-use cord_pos::{Position, Span};
-use std::marker::Model;
 
 /// The most bytes that are looked at one by one for the end of a line.
-const WINDOW: u64 = 512;
+const PIECE: usize = 64;
 
-/// What is left of a text from a place on.
-#[derive(Drop)]
-struct Reader<'a> {
-    text: &'a Text,
-    position: Position<'a>,
-    place: u64,
-}
-
-impl<'a> Model for Reader<'a> {
-    ghost use Rattle.std.specs.Prelude.{List, ℕ, drop};
-    ghost use Rattle.cord_lines.specs.inner.Standing.{IsReaderAt};
-
-    ghost Value = { List ℕ };
-
-    ghost view = { λ r. drop r.place r.text.now };
-
-    ghost invariant = { λ r. IsReaderAt r.text.now r.position r.place };
-}
-
-impl<'a> Reader<'a> {
-    // What a text has from a place on.
-    fn from(text: &'a Text, place: u64) -> Reader<'a>
-        requires { place ≤ length text.now }
-        ensures { result ≡ drop place text.now }
-    {
-        let position = Position::set(text.as_cord(), place);
-        Reader {
-            text,
-            position,
-            place,
-        }
-    }
-
-    // Bytes of one part with which it begins, at most so many, and goes past them.
-    fn next(&mut self, most: u64) -> Option<Chunk<'a>>
-        requires { 0 < most }
-        ensures { GivesPrefix self.old most result self.new }
-    {
-        let Some(ahead) = self.position.ahead() else {
-            return None;
-        };
-        let span = ahead.up_to(ahead.len().min(most));
-        self.place += span.len();
-        self.position.move_to(self.place);
-        match span {
-            Span::Bytes(bytes) => Some(Chunk::Bytes(bytes)),
-            Span::Run { byte, len } => Some(Chunk::Run { byte, count: len }),
-            Span::Func { .. } => unreachable!(),
-        }
-    }
+/// What was found of the `n`th end of a line in some bytes.
+#[derive(Clone, Copy)]
+enum Search {
+    /// The place after it.
+    Found(u64),
+    /// So many ends more are wanted.
+    Missing(u64),
 }
 
 /// The counts of the bytes from one place of a text up to another.
@@ -71,13 +26,10 @@ pub(crate) fn count_range(text: &Text, from: u64, to: u64) -> Counts
     requires inside { to ≤ length text.now }
     ensures { result ≡ counts_of (take (to - from) (drop from text.now)) }
 {
-    if from == to {
-        return Counts::NONE;
-    }
-    let mut reader = Reader::from(text, from);
+    let _len = text.len();
     let mut counts = Counts::NONE;
     while counts.bytes < to - from {
-        let Some(chunk) = reader.next(to - from - counts.bytes) else {
+        let Some(chunk) = prefix_at(text, from + counts.bytes, to - from - counts.bytes) else {
             unreachable!()
         };
         counts = counts.plus(count_chunk(chunk));
@@ -85,42 +37,86 @@ pub(crate) fn count_range(text: &Text, from: u64, to: u64) -> Counts
     counts
 }
 
+// At most so many bytes that a text has at a place in one part.
+fn prefix_at(text: &Text, place: u64, most: u64) -> Option<Chunk<'_>>
+    requires { 0 < most }
+    ensures { GivesPrefix (drop place text.now) most result }
+{
+    match text.chunk_at(place) {
+        Some(chunk) => Some(prefix_of(chunk, most)),
+        None => None,
+    }
+}
+
+// At most so many bytes of a chunk.
+fn prefix_of(chunk: Chunk<'_>, most: u64) -> Chunk<'_>
+    ensures { chunk_bytes result ≡ take most (chunk_bytes chunk.entry) }
+{
+    let len = chunk.len().min(most);
+    match chunk {
+        Chunk::Bytes(bytes) => Chunk::Bytes(&bytes[..len as usize]),
+        Chunk::Run { byte, .. } => Chunk::Run { byte, count: len },
+    }
+}
+
 /// The place after the `n`th end of a line from a place of a text on: the end of the text where there are fewer.
 pub(crate) fn end_from(text: &Text, from: u64, n: u64) -> u64
     requires { from ≤ length text.now }
     ensures { result ≡ from + after_ends n (drop from text.now) }
 {
-    let mut reader = Reader::from(text, from);
     let mut place = from;
     let mut left = n;
     while place < text.len() {
-        let Some(chunk) = reader.next(WINDOW) else {
+        let Some(chunk) = text.chunk_at(place) else {
             unreachable!()
         };
-        let counts = count_chunk(chunk);
-        if left <= counts.ends {
-            return place + end_in(chunk, left);
+        match end_in(chunk, left) {
+            Search::Found(end) => return place + end,
+            Search::Missing(more) => left = more,
         }
-        place += counts.bytes;
-        left -= counts.ends;
+        place += chunk.len();
     }
     place
 }
 
-// The place after the `n`th end of a line in a chunk, which has as many.
-fn end_in(chunk: Chunk<'_>, n: u64) -> u64
-    ensures { result ≡ after_ends n (chunk_bytes chunk.entry) }
+// Looks for the `n`th end of a line in a chunk.
+fn end_in(chunk: Chunk<'_>, n: u64) -> Search
+    requires { length (chunk_bytes chunk) < 2 ^ 62 }
+    ensures { IsSearch (chunk_bytes chunk.entry) n result }
 {
     match chunk {
         Chunk::Bytes(bytes) => end_in_bytes(bytes, n),
-        Chunk::Run { byte, count } if byte == b'\n' => n.min(count),
-        Chunk::Run { .. } if n == 0 => 0,
-        Chunk::Run { count, .. } => count,
+        Chunk::Run { .. } => {
+            let ends = count_chunk(chunk).ends;
+            if n <= ends {
+                Search::Found(n)
+            } else {
+                Search::Missing(n - ends)
+            }
+        }
     }
 }
 
-// The place after the `n`th end of a line in some bytes: their number where there are fewer.
-fn end_in_bytes(bytes: &[u8], n: u64) -> u64
+// Looks for it in some bytes, of which pieces with too few ends are passed at once.
+fn end_in_bytes(bytes: &[u8], n: u64) -> Search
+    ensures { IsSearch bytes.now n result }
+{
+    let mut rest = bytes;
+    let mut left = n;
+    while !rest.is_empty() {
+        let (piece, back) = rest.split_at(rest.len().min(PIECE));
+        let ends = u64::from(count_few(piece).0);
+        if left <= ends {
+            return Search::Found((bytes.len() - rest.len()) as u64 + end_in_piece(piece, left));
+        }
+        left -= ends;
+        rest = back;
+    }
+    Search::Missing(left)
+}
+
+// The place after the `n`th end of a line in few bytes: their number where there are fewer.
+fn end_in_piece(bytes: &[u8], n: u64) -> u64
     ensures { result ≡ after_ends n bytes.now }
 {
     let mut left = n;

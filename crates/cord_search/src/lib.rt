@@ -18,6 +18,7 @@ pub use bytes::{chr, fetch, rchr};
 pub use last::rstr;
 pub use limits::limits_are;
 pub use order::{cmp, ncmp};
+pub use spans::cord_span_at;
 pub use substring::{MOST_BYTES, find_bytes, find_bytes_in, str, str_in};
 
 /// The most bytes of a run or of a function part that are looked at together, but for the windows of `str`.

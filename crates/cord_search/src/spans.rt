@@ -70,7 +70,7 @@ fn other_in(bytes: &[u8], byte: u8) -> Option<usize>
 
 /// What is left of a part of a cord's text from a place on.
 #[inline(always)]
-pub(crate) fn cord_span_at(cord: &Cord, place: u64) -> Span
+pub fn cord_span_at(cord: &Cord, place: u64) -> Span
     requires { place < text_len cord.now }
     ensures { IsSpanOf cord.now place result }
 {

@@ -1,13 +1,13 @@
-use Rattle.std.proofs.Common.{◌≡◌, ◌+◌, length, drop}
+use Rattle.std.proofs.Common.{◌≡◌, ◌+◌, ◌-◌, ◌≤◌, length, drop}
 use Rattle.cord_lines.specs.Lines.{after_ends}
 use Rattle.cord_lines.proofs.reading.end_from.Given as goal
 
 -- the place, and the way from there
 abbrev pub invariant-loop-place : goal.invariant-loop-place
 invariant-loop-place l = record {
-  found : l.place + after_ends l.left l.reader ≡ l.from + after_ends l.n (drop l.from l.text);
-  there : l.place + length l.reader ≡ length l.text;
+  found : l.place + after_ends l.left (drop l.place l.text) ≡ l.from + after_ends l.n (drop l.from l.text);
+  there : l.place ≤ length l.text;
 }
 
 abbrev pub decreases-loop-place : goal.decreases-loop-place
-decreases-loop-place l = length l.reader
+decreases-loop-place l = length l.text - l.place

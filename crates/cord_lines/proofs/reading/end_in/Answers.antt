@@ -1,20 +1,23 @@
-use Rattle.std.proofs.Common.{ℕ, ◌≡◌, ap, sym, ◌∙◌, arith, replicate, false}
-use Rattle.std.specs.Prelude.{◌==◌}
-use Rattle.std.proofs.lemmas.Bool.Decides.{nat_tests}
+use Rattle.std.proofs.Common.{◌≡◌, ◌-◌, ◌≤◌, ◌<◌, ℕ, ap, sym, ◌∙◌, arith, replicate}
 use Rattle.cord.specs.declared.chunks.Chunk.{Chunk}
 use Rattle.cord.specs.Chunks.{chunk_bytes}
+use Rattle.cord_lines.specs.declared.counting.Counts.{Counts}
+use Rattle.cord_lines.specs.Counts.{ends_in}
 use Rattle.cord_lines.specs.Lines.{after_ends}
-use Rattle.cord_lines.proofs.Ends.{run_of_none, run_of_ends}
+use Rattle.cord_lines.proofs.Ends.{run_end}
+use Rattle.cord_lines.proofs.Readings.{found_in, missing_in}
 use Rattle.cord_lines.proofs.reading.end_in.Goals as goal
 
-pub returns-in-Run : goal.returns-in-Run
-returns-in-Run c =
-    c.min.ensures ∙ sym (run_of_ends c.args.n c.in-Run.count)
-    ∙ ap (λ (b : ℕ). after_ends c.args.n (replicate c.in-Run.count b)) (sym c.if-byte-eq10.true)
-    ∙ ap (λ (chunk : Chunk). after_ends c.args.n (chunk_bytes chunk)) (sym c.in-Run.is)
+pub returns-then-n-ends : goal.returns-then-n-ends
+returns-then-n-ends c =
+    let x = chunk_bytes c.args.chunk in
+    let ends : c.count_chunk-ends.result.ends ≡ ends_in x = ap (λ (a : Counts). a.ends) c.count_chunk-ends.ensures in
+    let le : c.args.n ≤ ends_in x = omega (arith, ends, c.if-n-ends.true) in
+    let is : x ≡ replicate c.in-Run.count c.in-Run.byte = ap (λ (chunk : Chunk). chunk_bytes chunk) c.in-Run.is in
+    found_in x c.args.n c.args.n le (sym (run_end c.args.n c.in-Run.count c.in-Run.byte (rw is at le)) ∙ ap (after_ends c.args.n) (sym is))
 
-pub returns-in-Run-3 : goal.returns-in-Run-3
-returns-in-Run-3 c =
-    let no : (c.in-Run-3.byte == 10) ≡ false = grind (arith, nat_tests) in
-    sym (run_of_none c.args.n c.in-Run-3.count c.in-Run-3.byte no (omega (arith, c.if-n-eq0.false)))
-    ∙ ap (λ (chunk : Chunk). after_ends c.args.n (chunk_bytes chunk)) (sym c.in-Run-3.is)
+pub returns-else-n-ends : goal.returns-else-n-ends
+returns-else-n-ends c =
+    let x = chunk_bytes c.args.chunk in
+    let ends : c.count_chunk-ends.result.ends ≡ ends_in x = ap (λ (a : Counts). a.ends) c.count_chunk-ends.ensures in
+    missing_in x c.args.n (c.args.n - c.count_chunk-ends.result.ends) (omega (arith, ends, c.if-n-ends.false)) (omega (arith, ends))
