@@ -20,7 +20,7 @@ use Rattle.cord_lines.proofs.Sums.{min_prefix, total-cons}
 pub total_is : (bs : List Block) (x : List ℕ) → AreBlocksOf bs x → total bs ≡ counts_of x
 total_is [] x c = ap counts_of (sym c)
 total_is (b ∷ bs) x (piece, rest, text, here, more) =
-    total-cons b bs ∙ ap (λ (a : Counts). plus a (total bs)) here ∙ ap (plus (counts_of piece)) (total_is bs rest more)
+    total-cons block_counts b bs ∙ ap (λ (a : Counts). plus a (total bs)) here ∙ ap (plus (counts_of piece)) (total_is bs rest more)
     ∙ sym (counts-append piece rest) ∙ ap counts_of (sym text)
 
 -- the blocks of an index are cut from its text

@@ -2,25 +2,25 @@
 use Rattle.std.proofs.Common.{◌≡◌, ◌<◌, List, [], ◌∷◌, ◌++◌, length, take, drop, refl, arith, append_assoc}
 use Rattle.std.proofs.lemmas.List.{append-nil}
 use Rattle.cord_lines.specs.declared.counting.Counts.{Counts}
-use Rattle.cord_lines.specs.declared.blocks.Block.{Block}
-use Rattle.cord_lines.specs.inner.Blocks.{total, AreSumsOf}
+use Rattle.cord_lines.specs.inner.Blocks.{total_by, AreSumsOf}
 
--- whatever sums the rest has, with those made they are all
-pub record GroupsSoFar (sums : List Counts) (bs rest : List Block) : Type 0 where
-  pub all : (more : List Counts) → AreSumsOf more rest → AreSumsOf (sums ++ more) bs
+module _ {A : Type 0} (part : A → Counts) where
+  -- whatever sums the rest has, with those made they are all
+  pub record GroupsSoFar (sums : List Counts) (bs rest : List A) : Type 0 where
+    pub all : (more : List Counts) → AreSumsOf part more rest → AreSumsOf part (sums ++ more) bs
 
-pub none_so_far : (bs : List Block) → GroupsSoFar [] bs bs
-none_so_far bs = record { all = λ more s. s }
+  pub none_so_far : (bs : List A) → GroupsSoFar [] bs bs
+  none_so_far bs = record { all = λ more s. s }
 
-pub one_group_more : (sums : List Counts) (bs rest : List Block) (sum : Counts) (new : List Block) → GroupsSoFar sums bs rest → 0 < length rest →
-    sum ≡ total (take 256 rest) → new ≡ drop 256 rest → GroupsSoFar (sums ++ sum ∷ []) bs new
-one_group_more sums bs rest sum new g some e f = record {
-  all = λ more s. rw append_assoc (g.all (sum ∷ more) (e, some, rw f at s));
-}
+  pub one_group_more : (sums : List Counts) (bs rest : List A) (sum : Counts) (new : List A) → GroupsSoFar sums bs rest → 0 < length rest →
+      sum ≡ total_by part (take 64 rest) → new ≡ drop 64 rest → GroupsSoFar (sums ++ sum ∷ []) bs new
+  one_group_more sums bs rest sum new g some e f = record {
+    all = λ more s. rw append_assoc (g.all (sum ∷ more) (e, some, rw f at s));
+  }
 
-pub groups_done : (sums : List Counts) (bs rest : List Block) → GroupsSoFar sums bs rest → rest ≡ [] → AreSumsOf sums bs
-groups_done sums bs rest g none = let all = g.all [] none in rw append-nil at all
+  pub groups_done : (sums : List Counts) (bs rest : List A) → GroupsSoFar sums bs rest → rest ≡ [] → AreSumsOf part sums bs
+  groups_done sums bs rest g none = let all = g.all [] none in rw append-nil at all
 
-pub none_left : (xs : List Block) → length xs ≡ 0 → xs ≡ []
+pub none_left : {A : Type 0} (xs : List A) → length xs ≡ 0 → xs ≡ []
 none_left [] e = refl
 none_left (x ∷ xs) e = absurd (omega (arith, e))

@@ -1,8 +1,8 @@
 // The blocks of a text, and what each holds.
-ghost use Rattle.std.specs.Prelude.{◌≡◌, ◌+◌, ◌-◌, ◌<◌, ◌≤◌, ◌^◌, ◌++◌, IfOk, OnOk, IsErr, IsOkUnless, [], length, take, drop, slice_set};
+ghost use Rattle.std.specs.Prelude.{◌≡◌, ◌+◌, ◌-◌, ◌*◌, ◌<◌, ◌≤◌, ◌^◌, ◌++◌, IfOk, OnOk, IsErr, IsOkUnless, [], length, take, drop, slice_set};
 ghost use Rattle.cord_io.specs.declared.CordError.TheVariants.{NoMemory};
 ghost use Rattle.cord_lines.specs.Counts.{plus, AreFew, AreNarrow};
-ghost use Rattle.cord_lines.specs.inner.Blocks.{amount, block_counts, sum_of_all, total, AreSumsOf};
+ghost use Rattle.cord_lines.specs.inner.Blocks.{amount, block_counts, own, total, total_by, AreSumsOf};
 ghost use Rattle.cord_lines.specs.inner.Cuts.{AreModest};
 
 use crate::counting::Counts;
@@ -10,8 +10,8 @@ use cord_io::CordError;
 use std::alloc::Global;
 use std::marker::Model;
 
-/// How many blocks are summed up together.
-const GROUP: usize = 256;
+/// How many blocks are summed up together, and how many of their sums.
+const GROUP: usize = 64;
 
 /// The counts of a block, which has less than 65,536 bytes.
 #[derive(Clone, Copy)]
@@ -21,19 +21,38 @@ pub(crate) struct Block {
     pub(crate) chars: u16,
 }
 
-impl Block {
+/// What has counts: a block, or a group of them.
+pub(crate) trait Counted: Copy {
+    ghost use Rattle.cord_lines.specs.declared.counting.Counts.{Counts};
+
+    ghost part: { Self → Counts };
+
     /// Its counts.
-    pub(crate) fn counts(self) -> Counts
-        ensures counts { result ≡ block_counts self }
-        ensures narrow { AreNarrow result }
-    {
+    fn counts(self) -> Counts
+        ensures { result ≡ part self };
+}
+
+impl Counted for Counts {
+    ghost part = { own };
+
+    fn counts(self) -> Counts {
+        self
+    }
+}
+
+impl Counted for Block {
+    ghost part = { block_counts };
+
+    fn counts(self) -> Counts {
         Counts {
             bytes: u64::from(self.bytes),
             ends: u64::from(self.ends),
             chars: u64::from(self.chars),
         }
     }
+}
 
+impl Block {
     /// The block of these counts.
     pub(crate) fn of(counts: Counts) -> Block
         requires { AreNarrow counts }
@@ -72,11 +91,12 @@ pub(crate) struct Found {
     pub(crate) before: Counts,
 }
 
-/// The blocks of a text in order, with the sums of each `GROUP` of them, and of all.
+/// The blocks of a text in order, with the sums of each `GROUP` of them, of each `GROUP` of those, and of all.
 #[derive(Drop)]
 pub(crate) struct Blocks {
     blocks: Vec<Block>,
     sums: Vec<Counts>,
+    tops: Vec<Counts>,
     all: Counts,
 }
 
@@ -89,7 +109,7 @@ impl Model for Blocks {
 
     ghost view = { λ b. b.blocks.items };
 
-    ghost invariant = { λ b. AreSummed b.sums.items b.all b.blocks.items };
+    ghost invariant = { λ b. AreSummed b.tops.items b.sums.items b.all b.blocks.items };
 }
 
 impl Blocks {
@@ -100,8 +120,14 @@ impl Blocks {
         ensures refused { IsOkUnless result NoMemory }
     {
         let sums = sums_of(alloc, &blocks)?;
-        let all = sum_of_sums(&sums);
-        Ok(Blocks { blocks, sums, all })
+        let tops = sums_of(alloc, &sums)?;
+        let all = sum_of(&tops);
+        Ok(Blocks {
+            blocks,
+            sums,
+            tops,
+            all,
+        })
     }
 
     /// No blocks, which take no memory.
@@ -111,6 +137,7 @@ impl Blocks {
         Blocks {
             blocks: Vec::new(alloc),
             sums: Vec::new(alloc),
+            tops: Vec::new(alloc),
             all: Counts::NONE,
         }
     }
@@ -145,43 +172,9 @@ impl Blocks {
         ensures most { amount measure result.before ≤ target }
         ensures short { length self.now < 2 ^ 64 }
     {
-        let group = self.group_with(measure, target);
-        let rest = &self.blocks[group.index..];
-        let found = block_with(
-            &rest[..rest.len().min(GROUP)],
-            measure,
-            target,
-            group.before,
-        );
-        Found {
-            index: group.index + found.index,
-            before: found.before,
-        }
-    }
-
-    // The first block of the last group with no more than `target` before it.
-    fn group_with(&self, measure: Measure, target: u64) -> Found
-        requires { AreFew (total self.now) }
-        ensures inside { result.index ≤ length self.now }
-        ensures before { result.before ≡ total (take result.index self.now) }
-        ensures most { amount measure result.before ≤ target }
-    {
-        let blocks = self.blocks.as_slice();
-        let mut before = Counts::NONE;
-        for (index, sum) in self.sums.iter().enumerate() {
-            let after = before.plus(*sum);
-            if target < measure.of(after) {
-                return Found {
-                    index: index * GROUP,
-                    before,
-                };
-            }
-            before = after;
-        }
-        Found {
-            index: blocks.len(),
-            before,
-        }
+        let top = last_with(&self.tops, measure, target, Counts::NONE);
+        let sum = last_in_group(&self.sums, top, measure, target);
+        last_in_group(&self.blocks, sum, measure, target)
     }
 
     /// Puts a block into the place of another one.
@@ -193,8 +186,12 @@ impl Blocks {
         let old = self.blocks[index].counts();
         let new = block.counts();
         let group = index / GROUP;
+        let sum = self.sums[group];
+        let changed = sum.exchanged(old, new);
+        let top = group / GROUP;
         self.blocks[index] = block;
-        self.sums[group] = self.sums[group].exchanged(old, new);
+        self.sums[group] = changed;
+        self.tops[top] = self.tops[top].exchanged(sum, changed);
         self.all = self.all.exchanged(old, new);
     }
 
@@ -241,59 +238,68 @@ impl Blocks {
     }
 }
 
-// The last block with no more than `target` before it, where the blocks follow others.
-fn block_with(blocks: &[Block], measure: Measure, target: u64, others: Counts) -> Found
-    requires few { AreFew (plus others (total blocks.now)) }
+// The last one with no more than `target` before it in a group, of which the number is known and what is before it.
+fn last_in_group<T: Counted>(parts: &[T], group: Found, measure: Measure, target: u64) -> Found
+    requires few { AreFew (total_by T.part parts.now) }
+    requires short { length parts.now < 2 ^ 64 }
+    requires before { group.before ≡ total_by T.part (take (group.index * 64) parts.now) }
+    requires most { amount measure group.before ≤ target }
+    ensures inside { result.index ≤ length parts.now }
+    ensures before { result.before ≡ total_by T.part (take result.index parts.now) }
+    ensures most { amount measure result.before ≤ target }
+{
+    let start = group.index.saturating_mul(GROUP).min(parts.len());
+    let rest = &parts[start..];
+    let prefix = &rest[..rest.len().min(GROUP)];
+    let found = last_with(prefix, measure, target, group.before);
+    Found {
+        index: start + found.index,
+        before: found.before,
+    }
+}
+
+// The last one with no more than `target` before it, where they follow others.
+fn last_with<T: Counted>(parts: &[T], measure: Measure, target: u64, others: Counts) -> Found
+    requires few { AreFew (plus others (total_by T.part parts.now)) }
     requires most { amount measure others ≤ target }
-    ensures inside { result.index ≤ length blocks.now }
-    ensures before { result.before ≡ plus others (total (take result.index blocks.now)) }
+    ensures inside { result.index ≤ length parts.now }
+    ensures before { result.before ≡ plus others (total_by T.part (take result.index parts.now)) }
     ensures most { amount measure result.before ≤ target }
 {
     let mut before = others;
-    for (index, block) in blocks.iter().enumerate() {
-        let after = before.plus(block.counts());
+    for (index, part) in parts.iter().enumerate() {
+        let after = before.plus(part.counts());
         if target < measure.of(after) {
             return Found { index, before };
         }
         before = after;
     }
     Found {
-        index: blocks.len(),
+        index: parts.len(),
         before,
     }
 }
 
-// The sum of a group of blocks.
-fn sum_of(blocks: &[Block]) -> Counts
-    requires { length blocks.now ≤ GROUP }
-    ensures { result ≡ total blocks.now }
+// What they have together.
+fn sum_of<T: Counted>(parts: &[T]) -> Counts
+    requires { AreFew (total_by T.part parts.now) }
+    ensures { result ≡ total_by T.part parts.now }
 {
     let mut sum = Counts::NONE;
-    for block in blocks {
-        sum = sum.plus(block.counts());
+    for part in parts {
+        sum = sum.plus(part.counts());
     }
     sum
 }
 
-// The sum of the sums of groups.
-fn sum_of_sums(sums: &[Counts]) -> Counts
-    requires { AreFew (sum_of_all sums.now) }
-    ensures { result ≡ sum_of_all sums.now }
-{
-    let mut all = Counts::NONE;
-    for sum in sums {
-        all = all.plus(*sum);
-    }
-    all
-}
-
 // The sums of all groups.
-fn sums_of(alloc: Global, blocks: &[Block]) -> Result<Vec<Counts>, CordError>
-    ensures sums { IfOk result (λ sums. AreSumsOf sums.items blocks.now) }
+fn sums_of<T: Counted>(alloc: Global, parts: &[T]) -> Result<Vec<Counts>, CordError>
+    requires { AreFew (total_by T.part parts.now) }
+    ensures sums { IfOk result (λ sums. AreSumsOf T.part sums.items parts.now) }
     ensures refused { IsOkUnless result NoMemory }
 {
-    let mut sums = Vec::with_capacity(alloc, blocks.len() / GROUP + 1)?;
-    let mut rest = blocks;
+    let mut sums = Vec::with_capacity(alloc, parts.len() / GROUP + 1)?;
+    let mut rest = parts;
     while !rest.is_empty() {
         let (prefix, back) = rest.split_at(rest.len().min(GROUP));
         sums.push(sum_of(prefix))?;

@@ -18,18 +18,23 @@ abbrev pub amount : Measure → Counts → ℕ
 amount Bytes c = c.bytes
 amount Ends c = c.ends
 
--- each sum is that of the next 256 blocks
-abbrev pub AreSumsOf : List Counts → List Block → Type 0
-AreSumsOf [] bs = bs ≡ []
-AreSumsOf (sum ∷ sums) bs = (sum ≡ total (take 256 bs)) × (0 < length bs) × AreSumsOf sums (drop 256 bs)
+-- those of things of which each has some
+abbrev pub total_by : {A : Type 0} → (A → Counts) → List A → Counts
+total_by part xs = record { bytes = sum_by (λ x. (part x).bytes) xs; ends = sum_by (λ x. (part x).ends) xs; chars = sum_by (λ x. (part x).chars) xs }
 
--- the sum of some counts
-abbrev pub sum_of_all : List Counts → Counts
-sum_of_all cs = record { bytes = sum_by (λ c. c.bytes) cs; ends = sum_by (λ c. c.ends) cs; chars = sum_by (λ c. c.chars) cs }
+-- each sum is that of the next 64
+abbrev pub AreSumsOf : {A : Type 0} → (A → Counts) → List Counts → List A → Type 0
+AreSumsOf part [] xs = xs ≡ []
+AreSumsOf part (sum ∷ sums) xs = (sum ≡ total_by part (take 64 xs)) × (0 < length xs) × AreSumsOf part sums (drop 64 xs)
 
--- the sums of the groups, and of all
-pub record AreSummed (sums : List Counts) (whole : Counts) (bs : List Block) : Type 0 where
-  pub groups : AreSumsOf sums bs
+-- counts are their own
+abbrev pub own : Counts → Counts
+own c = c
+
+-- the sums of groups of blocks, the sums of groups of those, and that of all
+pub record AreSummed (tops sums : List Counts) (whole : Counts) (bs : List Block) : Type 0 where
+  pub groups : AreSumsOf block_counts sums bs
+  pub groups_of_groups : AreSumsOf own tops sums
   pub all : whole ≡ total bs
 
 -- some are a part of others

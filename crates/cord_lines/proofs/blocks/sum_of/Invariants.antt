@@ -1,11 +1,6 @@
-use Rattle.std.proofs.Common.{◌≡◌, ◌*◌, ◌≤◌, take}
-use Rattle.cord_lines.specs.inner.Blocks.{total}
+use Rattle.std.proofs.Common.{◌≡◌, take}
+use Rattle.cord_lines.specs.inner.Blocks.{total_by}
 use Rattle.cord_lines.proofs.blocks.sum_of.Given as goal
 
-abbrev pub invariant-loop-block : goal.invariant-loop-block
-invariant-loop-block l = record {
-  sum : l.sum ≡ total (take l.block-index l.blocks);
-  bytes : l.sum.bytes ≤ l.block-index * 65535;
-  ends : l.sum.ends ≤ l.block-index * 65535;
-  chars : l.sum.chars ≤ l.block-index * 65535;
-}
+abbrev pub invariant-loop-part : goal.invariant-loop-part
+invariant-loop-part g l = l.sum ≡ total_by g.T.Counted.part (take l.part-index l.parts)

@@ -1,23 +1,31 @@
-use Rattle.std.proofs.Common.{◌≡◌, ◌∙◌, ◌<◌, length, ap, arith}
+use Rattle.std.proofs.Common.{◌≡◌, ◌∙◌, ◌<◌, drop, take, length, ap, arith}
 use Rattle.std.proofs.lemmas.Bool.Decides.{nat_tests}
-use Rattle.cord_lines.specs.inner.Blocks.{total}
-use Rattle.cord_lines.proofs.Sums.{min_prefix, min_back}
+use Rattle.cord_lines.specs.inner.Blocks.{total_by}
+use Rattle.cord_lines.proofs.Sums.{few_back, few_blocks, min_prefix, min_back}
 use Rattle.cord_lines.proofs.Grouping.{none_so_far, one_group_more, groups_done, none_left}
 use Rattle.cord_lines.proofs.blocks.sums_of.Goals as goal
 
 pub loop-rest-init : goal.loop-rest-init
-loop-rest-init c = rw c.in_ok-sums.ensures.items (none_so_far c.args.blocks.now)
+loop-rest-init g c = record { groups = rw c.in_ok-sums.ensures.items (none_so_far g.T.Counted.part c.args.parts.now); few = c.requires }
+
+pub sum_of-requires : goal.sum_of-requires
+sum_of-requires g c =
+    let rest = c.loop-rest.rest.now in
+    rw (c.split_at.ensures.front ∙ min_prefix rest 64 c.min.result c.min.ensures) (few_blocks g.T.Counted.part rest 64 c.loop-rest.invariant.few)
 
 pub loop-rest-preserved : goal.loop-rest-preserved
-loop-rest-preserved c =
+loop-rest-preserved g c =
     let rest = c.loop-rest.rest.now in
     let some : 0 < length rest = grind (arith, nat_tests, c.loop-rest-test.true, c.is_empty.ensures) in
-    rw c.in_ok-push.ensures.items (one_group_more c.loop-rest.sums.items c.args.blocks.now rest c.sum_of.result c.split_at.result.1.now c.loop-rest.invariant some
-    (c.sum_of.ensures ∙ ap total (c.split_at.ensures.front ∙ min_prefix rest 256 c.min.result c.min.ensures))
-    (c.split_at.ensures.back ∙ min_back rest 256 c.min.result c.min.ensures))
+    let back = c.split_at.ensures.back ∙ min_back rest 64 c.min.result c.min.ensures in
+    record {
+      groups = rw c.in_ok-push.ensures.items (one_group_more g.T.Counted.part c.loop-rest.sums.items c.args.parts.now rest c.sum_of.result c.split_at.result.1.now c.loop-rest.invariant.groups some
+          (c.sum_of.ensures ∙ ap (total_by g.T.Counted.part) (c.split_at.ensures.front ∙ min_prefix rest 64 c.min.result c.min.ensures)) back);
+      few = rw back (few_back g.T.Counted.part 64 rest c.loop-rest.invariant.few);
+    }
 
 pub returns-clause-sums : goal.returns-clause-sums
-returns-clause-sums c =
+returns-clause-sums g c =
     let rest = c.loop-rest.rest.now in
     let none : length rest ≡ 0 = grind (arith, nat_tests, c.loop-rest-test.false, c.is_empty.ensures) in
-    groups_done c.loop-rest.sums.items c.args.blocks.now rest c.loop-rest.invariant (none_left rest none)
+    groups_done g.T.Counted.part c.loop-rest.sums.items c.args.parts.now rest c.loop-rest.invariant.groups (none_left rest none)

@@ -1,28 +1,41 @@
-use Rattle.std.proofs.Common.{◌≡◌, ◌∙◌, ◌-◌, ◌≤◌, ap, List, length, take, drop, arith, length-take, length-drop}
-use Rattle.std.proofs.lemmas.List.{take_all, take-take}
+use Rattle.std.proofs.Common.{◌≡◌, ◌∙◌, ◌*◌, ap, sym, subst, List, take, arith}
 use Rattle.cord_lines.specs.declared.counting.Counts.{Counts}
 use Rattle.cord_lines.specs.declared.blocks.Block.{Block}
-use Rattle.cord_lines.specs.Counts.{plus}
-use Rattle.cord_lines.specs.inner.Blocks.{total}
-use Rattle.cord_lines.proofs.Sums.{few_part, then_some}
+use Rattle.cord_lines.specs.Counts.{plus, AreFew}
+use Rattle.cord_lines.specs.inner.Blocks.{block_counts, own, total, total_by}
+use Rattle.cord_lines.proofs.Countings.{same_counts}
+use Rattle.cord_lines.proofs.Sums.{sums_prefix, sums_all}
 use Rattle.cord_lines.proofs.blocks.Blocks.find.Goals as goal
 
-pub block_with-found-requires-clause-few : goal.block_with-found-requires-clause-few
-block_with-found-requires-clause-few c =
-    let start = c.group_with-group.result.index in
-    let all = c.deref.result.now in
-    let rest : take (length all - start) (drop start all) ≡ drop start c.args.self.now =
-    take_all (length all - start) (drop start all) (omega (arith, length-drop start all)) ∙ ap (drop start) (c.deref.ensures.value ∙ c.self.view_is) in
-    rw c.group_with-group.ensures.before (few_part c.args.self.now (take (length all - start) (drop start all)) start c.min.result rest c.requires)
+none_before : (c : Counts) → plus (record { bytes = 0; ends = 0; chars = 0 }) c ≡ c
+none_before c = same_counts (plus (record { bytes = 0; ends = 0; chars = 0 }) c) c (omega arith) (omega arith) (omega arith)
 
-pub returns-clause-before : goal.returns-clause-before
-returns-clause-before c =
-    let start = c.group_with-group.result.index in
-    let all = c.deref.result.now in
-    let found = c.block_with-found.result.index in
-    let ys = take (length all - start) (drop start all) in
-    let rest : ys ≡ drop start c.args.self.now =
-    take_all (length all - start) (drop start all) (omega (arith, length-drop start all)) ∙ ap (drop start) (c.deref.ensures.value ∙ c.self.view_is) in
-    let within : found ≤ c.min.result = omega (arith, c.block_with-found.ensures.inside, length-take c.min.result ys, c.min.ensures) in
-    c.block_with-found.ensures.before ∙ ap (λ (y : List Block). plus c.group_with-group.result.before (total y)) (take-take found c.min.result ys within)
-    ∙ ap (λ (a : Counts). plus a (total (take found ys))) c.group_with-group.ensures.before ∙ then_some c.args.self.now ys start found rest
+pub last_with-top-requires-clause-few : goal.last_with-top-requires-clause-few
+last_with-top-requires-clause-few c =
+    let all : total_by own c.deref.result.now ≡ total c.args.self.now =
+    ap (λ (y : List Counts). total_by own y) c.deref.ensures.value
+    ∙ sums_all own c.self.inside.tops.items c.self.inside.sums.items c.self.invariant.groups_of_groups
+    ∙ sums_all block_counts c.self.inside.sums.items c.self.inside.blocks.items c.self.invariant.groups ∙ ap (λ (y : List Block). total y) c.self.view_is in
+    subst AreFew (sym (none_before (total_by own c.deref.result.now) ∙ all)) c.requires
+
+pub last_in_group-sum-requires-clause-few : goal.last_in_group-sum-requires-clause-few
+last_in_group-sum-requires-clause-few c =
+    let all : total_by own c.deref-2.result.now ≡ total c.args.self.now =
+    ap (λ (y : List Counts). total_by own y) c.deref-2.ensures.value
+    ∙ sums_all block_counts c.self.inside.sums.items c.self.inside.blocks.items c.self.invariant.groups ∙ ap (λ (y : List Block). total y) c.self.view_is in
+    subst AreFew (sym all) c.requires
+
+pub last_in_group-sum-requires-clause-before : goal.last_in_group-sum-requires-clause-before
+last_in_group-sum-requires-clause-before c =
+    let i = c.last_with-top.result.index in
+    c.last_with-top.ensures.before ∙ none_before (total_by own (take i c.deref.result.now))
+    ∙ ap (λ (y : List Counts). total_by own (take i y)) c.deref.ensures.value
+    ∙ sums_prefix own i c.self.inside.tops.items c.self.inside.sums.items c.self.invariant.groups_of_groups
+    ∙ ap (λ (y : List Counts). total_by own (take (i * 64) y)) (sym c.deref-2.ensures.value)
+
+pub last_in_group-requires-clause-before : goal.last_in_group-requires-clause-before
+last_in_group-requires-clause-before c =
+    let i = c.last_in_group-sum.result.index in
+    c.last_in_group-sum.ensures.before ∙ ap (λ (y : List Counts). total_by own (take i y)) c.deref-2.ensures.value
+    ∙ sums_prefix block_counts i c.self.inside.sums.items c.self.inside.blocks.items c.self.invariant.groups
+    ∙ ap (λ (y : List Block). total_by block_counts (take (i * 64) y)) (sym c.deref-3.ensures.value)
