@@ -109,7 +109,10 @@ impl Store {
         ensures len { IfSome result (λ cord. text_len cord.now ≡ length_in self.now.entries.items name.now) }
         ensures none { IfNone result (cord_in (content_in self.now.entries.items name.now) ≡ None) }
     {
-        self.entry(name)?.content.cord()
+        match self.entry(name) {
+            None => None,
+            Some(entry) => entry.content.cord(),
+        }
     }
 
     /// The cord of the entry at a place, where there is no length alone.
@@ -253,7 +256,9 @@ impl Store {
         ensures taken { cells_in result ≡ extensible_in self.old.entries.items name.now }
         ensures left { HasExtensible name.now None self.old.entries.items self.new.entries.items }
     {
-        let place = self.place(name)?;
-        set_extensible(&mut self.entries, name, place, None)
+        match self.place(name) {
+            None => None,
+            Some(place) => set_extensible(&mut self.entries, name, place, None),
+        }
     }
 }

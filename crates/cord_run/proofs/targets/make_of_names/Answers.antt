@@ -17,11 +17,11 @@ pub returns-in-Joined-clause-refused : goal.returns-in-Joined-clause-refused
 returns-in-Joined-clause-refused c = joined_unmade c.args.store.now.entries.items (made_view c.args.made.now)
     (expr_view c.in-Joined.expression) (ap made_view c.in-Joined.is) c.build.result c.build.ensures.refused
 
-pub returns-in_ok-literal-clause-built : goal.returns-in_ok-literal-clause-built
-returns-in_ok-literal-clause-built c =
+pub returns-in_ok-literal-in-Literal-clause-built : goal.returns-in_ok-literal-in-Literal-clause-built
+returns-in_ok-literal-in-Literal-clause-built c =
     literal_made c.args.store.now.entries.items (made_view c.args.made.now) c.as_slice.result.now
     (ap made_view c.in-Literal.is ∙ ap (λ (text : List ℕ). plan.Literal text) (sym c.as_slice.ensures))
-    c.in_ok-literal.field-0 c.in_ok-literal.ensures.made
+    c.in_ok-literal-in-Literal.field-0 c.in_ok-literal-in-Literal.ensures.made
 
 pub returns-in-OfFunction-clause-built : goal.returns-in-OfFunction-clause-built
 returns-in-OfFunction-clause-built c =
@@ -30,17 +30,17 @@ returns-in-OfFunction-clause-built c =
     (ap made_view c.in-OfFunction.is)
     (to_z w64 (of_z w64 c.value_of.result)) (to_z-of_z w64 c.value_of.result fits ∙ c.value_of.ensures) c.start.result c.start.ensures.made
 
-pub returns-in_ok-balanced-clause-built : goal.returns-in_ok-balanced-clause-built
-returns-in_ok-balanced-clause-built c =
+pub returns-in_ok-balanced-in-Balanced-clause-built : goal.returns-in_ok-balanced-in-Balanced-clause-built
+returns-in_ok-balanced-in-Balanced-clause-built c =
     balanced_made c.args.store.now.entries.items (made_view c.args.made.now) c.in-Balanced.name
     (ap made_view c.in-Balanced.is)
-    c.in_ok-balanced.field-0 c.in_ok-balanced.ensures.made
+    c.in_ok-balanced-in-Balanced.field-0 c.in_ok-balanced-in-Balanced.ensures.made
 
-pub returns-in_ok-extended-clause-built : goal.returns-in_ok-extended-clause-built
-returns-in_ok-extended-clause-built c =
+pub returns-in_ok-extended-in-OfExtensible-clause-built : goal.returns-in_ok-extended-in-OfExtensible-clause-built
+returns-in_ok-extended-in-OfExtensible-clause-built c =
     extensible_made c.args.store.now.entries.items (made_view c.args.made.now) c.in-OfExtensible.name
     (ap made_view c.in-OfExtensible.is)
-    c.in_ok-extended.field-0 c.in_ok-extended.ensures.made
+    c.in_ok-extended-in-OfExtensible.field-0 c.in_ok-extended-in-OfExtensible.ensures.made
 
 pub returns-in-Printed-clause-built : goal.returns-in-Printed-clause-built
 returns-in-Printed-clause-built c =
