@@ -73,3 +73,9 @@ invariant_of-self-then-is_ok g c =
           answers.trace.reported
           c.then-self-then-is_ok.result.reported pushed c.in-Ok.ensures.len c.then-self-then-is_ok.ensures beside;
     }
+
+pub returns-then-is_ok-clause-machine_found : goal.returns-then-is_ok-clause-machine_found
+returns-then-is_ok-clause-machine_found g c = search rules
+
+pub returns-in-Err-NotFound-clause-machine_not_found : goal.returns-in-Err-NotFound-clause-machine_not_found
+returns-in-Err-NotFound-clause-machine_not_found g c = search rules
