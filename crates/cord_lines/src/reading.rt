@@ -9,7 +9,7 @@ use crate::counting::{Counts, count_chunk, count_few};
 use cord::{Chunk, Text};
 
 /// The most bytes that are looked at one by one for the end of a line.
-const PIECE: usize = 64;
+const PIECE: usize = 192;
 
 /// What was found of the `n`th end of a line in some bytes.
 #[derive(Clone, Copy)]

@@ -152,7 +152,7 @@ fn edit_somewhere(
 ) {
     let most = if dice.roll(20) == 0 { 400 } else { 8 };
     let start = dice.roll(editor.text().len().max(1));
-    let removed = dice.roll(25 * most);
+    let removed = dice.roll(22 * most);
     let added = line.repeated(alloc, dice.roll(most)).expect(rt, "memory");
     editor
         .replace_range(alloc, start, removed, &added)
@@ -166,7 +166,7 @@ fn edits_like_chance(rt: HostRuntime) {
     let line = text_of(&rt, alloc, "one of many lines: é é\n".as_bytes());
     let text = line.repeated(alloc, 2_000).expect(&rt, "memory");
     let mut editor = LineEditor::of(alloc, &text).expect(&rt, "memory");
-    for _edit in 0..300 {
+    for _edit in 0..100_000 {
         edit_somewhere(&rt, alloc, &mut dice, &line, &mut editor);
         let place = dice.roll(editor.text().len().wrapping_add(1).max(1));
         expect_answers(&rt, alloc, &editor, place);
