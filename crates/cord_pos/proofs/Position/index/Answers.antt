@@ -1,5 +1,5 @@
 use Rattle.std.proofs.Common.{rules}
 use Rattle.cord_pos.proofs.Position.index.Goals as goal
 
-pub returns-in-Some-clause-value : goal.returns-in-Some-clause-value
-returns-in-Some-clause-value c = search rules
+pub returns-clause-value : goal.returns-clause-value
+returns-clause-value c = search rules
