@@ -1,4 +1,4 @@
-use Rattle.std.proofs.Common.{◌≡◌, arith, length}
+use Rattle.std.proofs.Common.{◌≡◌, arith, rules, length}
 use Rattle.std.proofs.lemmas.Grind.{common_steps}
 use Rattle.std.proofs.lemmas.Result.{IfOk-weaker}
 use Rattle.cord_node.specs.Tree.{len_of, IsSound}
@@ -74,3 +74,6 @@ returns-in_ok-right-in-Cat-clause-few t c =
     c.in-Cat.left.value c.in-Cat.right.value (parts c.in_ok-left-in-Cat.left.value) (parts c.in_ok-right-in-Cat.right.value) s seam
     c.if-middle-from.false c.if-from-count.false c.in_ok-left-in-Cat.ensures.few c.in_ok-right-in-Cat.ensures.few
     k.no_more) c.join.ensures.parts_from)
+
+pub returns-in-Run-clause-few : goal.returns-in-Run-clause-few
+returns-in-Run-clause-few t c = search rules
