@@ -21,9 +21,9 @@ use std::marker::Model;
 /// and by a place in it without a walk through the text. It belongs to one text and doesn't keep it: each call is given
 /// that text once more, and of another text its answers mean nothing.
 ///
-/// A line ends with the byte 10, which the last one may lack. Blocks have 8 to 16 KiB at first, so the index takes less
-/// than a thousandth of the text's memory. A look-up passes the sums of 256 blocks each, then the blocks of one group,
-/// and reads a part of one block.
+/// A line ends with the byte 10, which the last one may lack. Blocks have 6,656 bytes at first, so the index takes less
+/// than a thousandth of the text's memory. A look-up passes the sums of 4,096 blocks each, 64 sums of 64 blocks each and
+/// 64 blocks, and reads a part of one block.
 #[derive(Drop)]
 pub struct LineIndex {
     blocks: Blocks,
