@@ -1,5 +1,5 @@
 -- What a text has from a place on, chunk by chunk.
-use Rattle.std.proofs.Common.{◌≡◌, ℕ, ◌+◌, ◌-◌, ◌<◌, ◌≤◌, List, [], ◌++◌, length, take, drop, min, sym, ap, ◌∙◌, arith, length-take, length-append, append_assoc}
+use Rattle.std.proofs.Common.{◌≡◌, ℕ, ◌+◌, ◌-◌, ◌<◌, ◌≤◌, List, ◌++◌, length, take, drop, min, sym, ap, ◌∙◌, arith, length-take, length-append, append_assoc}
 use Rattle.std.proofs.lemmas.List.{take-append-drop, take-append-le, drop-drop}
 use Rattle.cord.specs.declared.chunks.Chunk.{Chunk}
 use Rattle.cord.specs.Chunks.{chunk_bytes}

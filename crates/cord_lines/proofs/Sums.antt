@@ -10,7 +10,7 @@ use Rattle.std.proofs.lemmas.List.Sums.{fold_more, sum_by-cons, sum_by-append, s
 use Rattle.cord_lines.specs.declared.counting.Counts.{Counts}
 use Rattle.cord_lines.specs.declared.blocks.Block.{Block}
 use Rattle.cord_lines.specs.Counts.{plus, AreFew}
-use Rattle.cord_lines.specs.inner.Blocks.{block_counts, exchanged, own, total, total_by, AreSumsOf, AreWithin}
+use Rattle.cord_lines.specs.inner.Blocks.{exchanged, own, total, total_by, AreSumsOf, AreWithin}
 use Rattle.cord_lines.specs.inner.Cuts.{AreModest}
 use Rattle.cord_lines.proofs.Countings.{plus_assoc, same_counts}
 

@@ -1,4 +1,4 @@
-use Rattle.std.proofs.Common.{◌≡◌, ◌∙◌, ◌<◌, drop, take, length, ap, arith}
+use Rattle.std.proofs.Common.{◌≡◌, ◌∙◌, ◌<◌, length, ap, arith}
 use Rattle.std.proofs.lemmas.Bool.Decides.{nat_tests}
 use Rattle.cord_lines.specs.inner.Blocks.{total_by}
 use Rattle.cord_lines.proofs.Sums.{few_back, few_blocks, min_prefix, min_back}

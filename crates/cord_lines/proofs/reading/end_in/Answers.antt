@@ -1,4 +1,4 @@
-use Rattle.std.proofs.Common.{◌≡◌, ◌-◌, ◌≤◌, ◌<◌, ℕ, ap, sym, ◌∙◌, arith, replicate}
+use Rattle.std.proofs.Common.{◌≡◌, ◌-◌, ◌≤◌, ap, sym, ◌∙◌, arith, replicate}
 use Rattle.cord.specs.declared.chunks.Chunk.{Chunk}
 use Rattle.cord.specs.Chunks.{chunk_bytes}
 use Rattle.cord_lines.specs.declared.counting.Counts.{Counts}

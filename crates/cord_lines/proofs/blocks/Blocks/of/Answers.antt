@@ -1,6 +1,6 @@
-use Rattle.std.proofs.Common.{◌≡◌, ◌∙◌, ap, refl, subst, sym}
+use Rattle.std.proofs.Common.{◌∙◌, refl, subst, sym}
 use Rattle.cord_lines.specs.Counts.{AreFew}
-use Rattle.cord_lines.specs.inner.Blocks.{block_counts, own, total, total_by, AreSumsOf}
+use Rattle.cord_lines.specs.inner.Blocks.{block_counts, own, AreSumsOf}
 use Rattle.cord_lines.proofs.Sums.{sums_all, sums_as}
 use Rattle.cord_lines.proofs.blocks.Blocks.of.Goals as goal
 
