@@ -125,3 +125,12 @@ length_around xs g cut_start cut_end len e o i = rw (← length-map g known) (le
 -- no bytes in the gap, and some that were added to none
 pub around_nothing : (xs : List Cell) (g : List ℕ) (at : ℕ) → g ≡ [] → take at xs ++ map known g ++ drop at xs ≡ xs
 around_nothing xs g at e = around xs (map known g) at (ap (map known) e)
+
+-- bytes in the gap of a text, and of what is left of it around them
+pub still_around : (xs ys : List Cell) (g : List ℕ) (start end : ℕ) → start ≤ length xs → ys ≡ take start xs ++ drop end xs →
+    take start ys ++ map known g ++ drop start ys ≡ take start xs ++ map known g ++ drop end xs
+still_around xs ys g start end h e =
+    let size : length (take start xs) ≡ start = length-take-le start xs h in
+    ap (λ (zs : List Cell). take start zs ++ map known g ++ drop start zs) e
+    ∙ ap (λ (zs : List Cell). zs ++ map known g ++ drop start (take start xs ++ drop end xs)) (take_at (take start xs) (drop end xs) start size)
+    ∙ ap (λ (zs : List Cell). take start xs ++ map known g ++ zs) (drop_at (take start xs) (drop end xs) start size)

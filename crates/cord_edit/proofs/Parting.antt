@@ -58,10 +58,9 @@ beside old leaves k g = record {
 }
 
 -- leaves that were put into a cord
-pub leaves_put : (old leaves new : List Part) (k : ℕ) → Gathered k [] leaves → AtMostOneMore old leaves new → AreFrom new (old ++ leaves) →
-    Gathered (1 + k) old new
-leaves_put old leaves new k g few from = more (k + 1) (1 + k) old new (omega arith)
-    (made_through IsGathered gathered_own k 1 old (old ++ leaves) new (beside old leaves k g) (spliced old leaves new few from))
+pub leaves_put : (old leaves new : List Part) (k : ℕ) → Gathered k [] leaves → Gathered 1 (old ++ leaves) new → Gathered (1 + k) old new
+leaves_put old leaves new k g put = more (k + 1) (1 + k) old new (omega arith)
+    (made_through IsGathered gathered_own k 1 old (old ++ leaves) new (beside old leaves k g) put)
 
 -- no bytes in the gap
 pub no_gap : (n : ℕ) (old ps : List Part) (b : List ℕ) → b ≡ [] → Gathered n old ps → Gathered n old (ps ++ leaf_parts b)
@@ -78,10 +77,9 @@ pub steps : (m n : ℕ) (a b c : List Part) → Gathered m a b → Gathered n b 
 steps m n a b c g h = made_through IsGathered gathered_own m n a b c g h
 
 -- a text that is put in after the gap's bytes were
-pub spliced_after : (old ps middle new : List Part) → Gathered 1 old ps → AtMostOneMore ps middle new → AreFrom new (ps ++ middle) →
-    Gathered 2 (old ++ middle) new
-spliced_after old ps middle new g few from = made_through IsGathered gathered_own 1 1 (old ++ middle) (ps ++ middle) new
-    (made_beside IsGathered gathered_own 1 old ps middle g) (spliced ps middle new few from)
+pub spliced_after : (old ps middle new : List Part) → Gathered 1 old ps → Gathered 1 (ps ++ middle) new → Gathered 2 (old ++ middle) new
+spliced_after old ps middle new g put = made_through IsGathered gathered_own 1 1 (old ++ middle) (ps ++ middle) new
+    (made_beside IsGathered gathered_own 1 old ps middle g) put
 
 -- nothing but the gap's bytes was put in, and a text beside them is still to come
 pub not_yet : (old ps middle : List Part) (b : List ℕ) → b ≡ [] → Gathered 1 old ps → Gathered 2 (old ++ middle) (ps ++ leaf_parts b)

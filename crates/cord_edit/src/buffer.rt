@@ -11,11 +11,15 @@ ghost use Rattle.cord_edit.specs.Edits.{edited, IsTextOf, IsEdited, IsEditedByCo
 ghost use Rattle.cord_edit.specs.inner.Gaps.{gap_bytes};
 
 use crate::gap::{Gap, MOST};
+use crate::parted::Parted;
 use cord_core::Cord;
 use cord_ec::ExtCord;
 use cord_io::{CordError, MAX_LEN};
 use std::alloc::Global;
 use std::marker::Model;
+
+// The most bytes of the gap that are copied for each text that is asked for.
+const COPIED: usize = 128;
 
 /// A text of at most `MAX_LEN` bytes that is edited at a place, the gap, which moves now and then.
 ///
@@ -25,19 +29,20 @@ use std::marker::Model;
 /// `Cord::splice`, which takes steps for each level of the tree.
 #[derive(Drop)]
 pub struct EditBuffer {
-    cord: Cord,
-    // The text begins with so many bytes of the cord,
+    cords: Parted,
+    // The text begins with so many bytes of the cords,
     cut_start: u64,
     // and ends with those from here on.
     cut_end: u64,
     gap: Gap,
+    // Whether the text was asked for while the gap stood where it is.
+    is_asked: bool,
 }
 
 impl Model for EditBuffer {
     ghost use Rattle.std.specs.Prelude.{◌≡◌, ◌≤◌, ◌+◌, ◌-◌, ◌++◌, length, map, take, drop};
     ghost use Rattle.cord_io.specs.declared.TheConstants.{MAX_LEN};
     ghost use Rattle.cord_node.specs.Tree.{known};
-    ghost use Rattle.cord_core.specs.Cord.{text, text_len, parts_of};
     ghost use Rattle.cord_ec.specs.Gathered.{Growth, coded_growth, leaf_parts};
     ghost use Rattle.cord_edit.specs.inner.Gaps.{gap_bytes};
 
@@ -47,14 +52,13 @@ impl Model for EditBuffer {
 
     // The gap's bytes are a leaf after the cord's parts.
     ghost view = { λ e. record {
-      text = take e.cut_start (text e.cord) ++ map known (gap_bytes e.gap) ++ drop e.cut_end (text e.cord);
-      parts = parts_of e.cord
-          ++ leaf_parts (gap_bytes e.gap);
+      text = take e.cut_start e.cords.text ++ map known (gap_bytes e.gap) ++ drop e.cut_end e.cords.text;
+      parts = e.cords.parts ++ leaf_parts (gap_bytes e.gap);
     } };
 
-    ghost invariant = { λ e. (e.cut_start ≤ e.cut_end) × (e.cut_end ≤ text_len e.cord) × (text_len e.cord ≤ MAX_LEN)
-        × (length (text e.cord) ≡ text_len e.cord)
-        × (e.cut_start + length (gap_bytes e.gap) + (text_len e.cord - e.cut_end) ≤ MAX_LEN) };
+    ghost invariant = { λ e. (e.cut_start ≤ e.cut_end) × (e.cut_end ≤ length e.cords.text)
+        × (length e.cords.text ≤ MAX_LEN)
+        × (e.cut_start + length (gap_bytes e.gap) + (length e.cords.text - e.cut_end) ≤ MAX_LEN) };
 }
 
 impl EditBuffer {
@@ -66,13 +70,14 @@ impl EditBuffer {
         ensures refused { IsOkUnless result CordError.NoMemory }
     {
         let gap = Gap::new(alloc)?;
-        let shared = cord.share(alloc)?;
-        let len = shared.len();
+        let cords = Parted::of(alloc, cord)?;
+        let len = cords.len();
         Ok(EditBuffer {
-            cord: shared,
+            cords,
             cut_start: len,
             cut_end: len,
             gap,
+            is_asked: false,
         })
     }
 
@@ -82,7 +87,7 @@ impl EditBuffer {
         ensures over { (t : Table) → result ≡ length (bytes_of_cells t self.now.text) }
         ensures limit { result ≤ MAX_LEN }
     {
-        self.cut_start + self.gap.len() as u64 + (self.cord.len() - self.cut_end)
+        self.cut_start + self.gap.len() as u64 + (self.cords.len() - self.cut_end)
     }
 
     /// Puts bytes, of which it takes a copy, in front of the byte `at`: at the end where `at` is at or past the end.
@@ -137,13 +142,15 @@ impl EditBuffer {
         }
         flush(
             alloc,
-            &mut self.cord,
+            &mut self.cords,
             self.cut_start,
             self.cut_end,
             &mut self.gap,
+            false,
         )?;
         self.cut_start = from;
         self.cut_end = until;
+        self.is_asked = false;
         Ok(())
     }
 
@@ -168,17 +175,24 @@ impl EditBuffer {
             + (length self.old.text - (start + count)) ≤ MAX_LEN) }
         ensures refused { IfErr result IsRefusal }
     {
+        let len = self.len();
+        let from = start.min(len);
+        let until = start.saturating_add(count).min(len);
+        if from + middle.len() + (len - until) > MAX_LEN {
+            return Err(CordError::TooLong);
+        }
         let end = flush(
             alloc,
-            &mut self.cord,
+            &mut self.cords,
             self.cut_start,
             self.cut_end,
             &mut self.gap,
+            false,
         )?;
         self.cut_start = end;
         self.cut_end = end;
-        let from = start.min(self.cord.len());
-        self.cord.splice(alloc, start, count, middle)?;
+        self.is_asked = false;
+        self.cords.splice(alloc, from, until, middle)?;
         self.cut_start = from + middle.len();
         self.cut_end = self.cut_start;
         Ok(())
@@ -195,16 +209,43 @@ impl EditBuffer {
         ensures stays { Gathered 1 self.old.parts self.new.parts }
         ensures refused { IsOkUnless result CordError.NoMemory }
     {
+        let is_again = self.is_asked && self.cords.has_room();
+        if is_again && self.gap.len() <= COPIED && self.has_edits() {
+            let cord = self.with_gap(alloc)?;
+            return Ok(cord);
+        }
         let end = flush(
             alloc,
-            &mut self.cord,
+            &mut self.cords,
             self.cut_start,
             self.cut_end,
             &mut self.gap,
+            is_again,
         )?;
         self.cut_start = end;
         self.cut_end = end;
-        let cord = self.cord.share(alloc)?;
+        self.is_asked = true;
+        let cord = self.cords.to_cord(alloc)?;
+        Ok(cord)
+    }
+
+    // Whether the text is another one than that of the cords.
+    fn has_edits(&self) -> bool {
+        self.gap.len() > 0 || self.cut_start < self.cut_end
+    }
+
+    // The text as a cord, where it is parted at the gap, whose bytes stay in it.
+    fn with_gap(&mut self, alloc: Global) -> Result<Cord, CordError>
+        ensures text { IfOk result (λ c. text c ≡ self.old.text) }
+        ensures sound { IfOk result IsCord }
+        ensures gathered { IfOk result (λ c. Gathered 1 self.old.parts (parts_of c)) }
+        ensures same { self.new.text ≡ self.old.text }
+        ensures stays { Gathered 1 self.old.parts self.new.parts }
+        ensures refused { IsOkUnless result CordError.NoMemory }
+    {
+        let leaf = Cord::from_bytes(alloc, self.gap.bytes())?;
+        let cord = self.cords.with(alloc, self.cut_start, self.cut_end, &leaf)?;
+        self.cut_end = self.cut_start;
         Ok(cord)
     }
 
@@ -221,49 +262,50 @@ impl EditBuffer {
     {
         flush(
             alloc,
-            &mut self.cord,
+            &mut self.cords,
             self.cut_start,
             self.cut_end,
             &mut self.gap,
+            false,
         )?;
         self.cut_start = at;
         self.cut_end = at;
+        self.is_asked = false;
         if bytes.len() <= MOST {
             self.gap.append(bytes);
             return Ok(());
         }
-        put_leaves(alloc, &mut self.cord, at, bytes)?;
+        put_leaves(alloc, &mut self.cords, at, bytes)?;
         self.cut_start = at + bytes.len() as u64;
         self.cut_end = self.cut_start;
         Ok(())
     }
 }
 
-// Puts the gap's bytes into the cord, in the place of those from `cut_start` up to `cut_end`, and empties it. Answers
-// the place after them.
+// Puts the gap's bytes into the cords, in the place of those from `cut_start` up to `cut_end`, and empties it. Answers
+// the place after them, where the text is parted then if it is to be.
 fn flush(
     alloc: Global,
-    cord: &mut Cord,
+    cords: &mut Parted,
     cut_start: u64,
     cut_end: u64,
     gap: &mut Gap,
+    is_parted: bool,
 ) -> Result<u64, CordError>
     requires order { cut_start ≤ cut_end }
-    requires inside { cut_end ≤ text_len cord.old }
-    requires counted { length (text cord.old) ≡ text_len cord.old }
-    requires within_limit { cut_start + length (gap_bytes gap.old) + (text_len cord.old - cut_end) ≤ MAX_LEN }
-    ensures text { IfOk result (λ _. text cord.new
-        ≡ take cut_start (text cord.old) ++ map known (gap_bytes gap.old) ++ drop cut_end (text cord.old)) }
-    ensures len { IfOk result (λ _. text_len cord.new
-        ≡ cut_start + length (gap_bytes gap.old) + (text_len cord.old - cut_end)) }
-    ensures counted { IfOk result (λ _. length (text cord.new) ≡ text_len cord.new) }
+    requires inside { cut_end ≤ length cords.old.text }
+    requires within_limit { cut_start + length (gap_bytes gap.old) + (length cords.old.text - cut_end) ≤ MAX_LEN }
+    ensures text { IfOk result (λ _. cords.new.text
+        ≡ take cut_start cords.old.text ++ map known (gap_bytes gap.old) ++ drop cut_end cords.old.text) }
+    ensures len { IfOk result (λ _. length cords.new.text
+        ≡ cut_start + length (gap_bytes gap.old) + (length cords.old.text - cut_end)) }
     ensures place { IfOk result (λ place. place ≡ cut_start + length (gap_bytes gap.old)) }
-    ensures gathered { IfOk result (λ _. Gathered 1 (parts_of cord.old ++ leaf_parts (gap_bytes gap.old))
-        (parts_of cord.new)) }
+    ensures gathered { IfOk result (λ _. Gathered 1 (cords.old.parts ++ leaf_parts (gap_bytes gap.old))
+        cords.new.parts) }
     ensures emptied { IfOk result (λ _. gap_bytes gap.new ≡ []) }
     ensures gap_start { IfOk result (λ _. gap.new.start ≡ MOST) }
     ensures gap_end { IfOk result (λ _. gap.new.end ≡ MOST) }
-    ensures cord_unchanged { IsErr result → cord.new ≡ cord.old }
+    ensures cords_unchanged { IsErr result → cords.new ≡ cords.old }
     ensures gap_unchanged { IsErr result → gap.new ≡ gap.old }
     ensures refused { IsOkUnless result CordError.NoMemory }
 {
@@ -272,7 +314,7 @@ fn flush(
         return Ok(cut_start);
     }
     let end = cut_start + gap.len() as u64;
-    put_bytes(alloc, cord, cut_start, cut_end, gap.bytes())?;
+    put_bytes(alloc, cords, cut_start, cut_end, gap.bytes(), is_parted)?;
     gap.clear();
     Ok(end)
 }
@@ -280,40 +322,45 @@ fn flush(
 // Puts bytes, which are one leaf, in the place of those from `from` up to `until`.
 fn put_bytes(
     alloc: Global,
-    cord: &mut Cord,
+    cords: &mut Parted,
     from: u64,
     until: u64,
     bytes: &[u8],
+    is_parted: bool,
 ) -> Result<(), CordError>
     requires order { from ≤ until }
-    requires inside { until ≤ text_len cord.old }
+    requires inside { until ≤ length cords.old.text }
     requires leaf { length bytes.now ≤ MOST }
-    requires within_limit { from + length bytes.now + (text_len cord.old - until) ≤ MAX_LEN }
-    ensures text { IfOk result (λ _. text cord.new
-        ≡ take from (text cord.old) ++ map known bytes.now ++ drop until (text cord.old)) }
-    ensures len { IfOk result (λ _. text_len cord.new ≡ from + length bytes.now + (text_len cord.old - until)) }
-    ensures gathered { IfOk result (λ _. Gathered 1 (parts_of cord.old ++ leaf_parts bytes.now) (parts_of cord.new)) }
-    ensures unchanged { IsErr result → cord.new ≡ cord.old }
+    requires within_limit { from + length bytes.now + (length cords.old.text - until) ≤ MAX_LEN }
+    ensures text { IfOk result (λ _. cords.new.text
+        ≡ take from cords.old.text ++ map known bytes.now ++ drop until cords.old.text) }
+    ensures len { IfOk result (λ _. length cords.new.text ≡ from + length bytes.now + (length cords.old.text - until)) }
+    ensures gathered { IfOk result (λ _. Gathered 1 (cords.old.parts ++ leaf_parts bytes.now) cords.new.parts) }
+    ensures unchanged { IsErr result → cords.new ≡ cords.old }
     ensures refused { IsOkUnless result CordError.NoMemory }
 {
     let leaf = Cord::from_bytes(alloc, bytes)?;
-    cord.splice(alloc, from, until - from, &leaf)?;
+    if is_parted {
+        cords.splice_parted(alloc, from, until, &leaf)?;
+        return Ok(());
+    }
+    cords.splice(alloc, from, until, &leaf)?;
     Ok(())
 }
 
 // Puts bytes in front of the byte `at`, as leaves of at most `RawBuf::CAP` bytes.
-fn put_leaves(alloc: Global, cord: &mut Cord, at: u64, bytes: &[u8]) -> Result<(), CordError>
-    requires inside { at ≤ text_len cord.old }
-    requires within_limit { text_len cord.old + length bytes.now ≤ MAX_LEN }
-    ensures text { IfOk result (λ _. text cord.new ≡ take at (text cord.old) ++ map known bytes.now ++ drop at (text cord.old)) }
-    ensures len { IfOk result (λ _. text_len cord.new ≡ text_len cord.old + length bytes.now) }
+fn put_leaves(alloc: Global, cords: &mut Parted, at: u64, bytes: &[u8]) -> Result<(), CordError>
+    requires inside { at ≤ length cords.old.text }
+    requires within_limit { length cords.old.text + length bytes.now ≤ MAX_LEN }
+    ensures text { IfOk result (λ _. cords.new.text ≡ take at cords.old.text ++ map known bytes.now ++ drop at cords.old.text) }
+    ensures len { IfOk result (λ _. length cords.new.text ≡ length cords.old.text + length bytes.now) }
     ensures gathered { IfOk result (λ _. (k : ℕ) → length bytes.now ≤ leaf_bytes k →
-        Gathered (1 + k) (parts_of cord.old) (parts_of cord.new)) }
-    ensures unchanged { IsErr result → cord.new ≡ cord.old }
+        Gathered (1 + k) cords.old.parts cords.new.parts) }
+    ensures unchanged { IsErr result → cords.new ≡ cords.old }
     ensures refused { IsOkUnless result CordError.NoMemory }
 {
     let leaves = leaves_of(alloc, bytes)?;
-    cord.splice(alloc, at, 0, &leaves)?;
+    cords.splice(alloc, at, at, &leaves)?;
     Ok(())
 }
 

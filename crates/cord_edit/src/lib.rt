@@ -3,5 +3,6 @@
 
 mod buffer;
 mod gap;
+mod parted;
 
 pub use buffer::EditBuffer;

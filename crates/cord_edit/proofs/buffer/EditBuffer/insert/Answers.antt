@@ -21,9 +21,9 @@ pub returns-then-bytes-len-clause-gathered : goal.returns-then-bytes-len-clause-
 returns-then-bytes-len-clause-gathered c = λ k few. as_before (2 + k) c.args.self.now.parts
 
 pub returns-then-fits_after-clause-text : goal.returns-then-fits_after-clause-text
-returns-then-fits_after-clause-text c = typed_after (text c.self.inside.cord) c.args.self.now.text (gap_bytes c.self.inside.gap)
-    c.self.inside.cut_start c.self.inside.cut_end (text_len c.self.inside.cord) c.len-len.result (ap (λ (g : Growth). g.text) c.self.view_is)
-    c.self.invariant.3 c.self.invariant.0 c.self.invariant.1 c.len-len.ensures.value c.args.bytes.now (gap_bytes c.append.new.self)
+returns-then-fits_after-clause-text c = typed_after c.self.inside.cords.text c.args.self.now.text (gap_bytes c.self.inside.gap)
+    c.self.inside.cut_start c.self.inside.cut_end (length c.self.inside.cords.text) c.len-len.result (ap (λ (g : Growth). g.text) c.self.view_is)
+    refl c.self.invariant.0 c.self.invariant.1 c.len-len.ensures.value c.args.bytes.now (gap_bytes c.append.new.self)
     c.min-at.result c.args.at c.append.ensures c.min-at.ensures (omega (arith, c.if-at-self.true, c.len.ensures.value))
 
 pub returns-then-fits_after-clause-over : goal.returns-then-fits_after-clause-over
@@ -32,7 +32,7 @@ returns-then-fits_after-clause-over c = edited_by c.args.at 0 c.args.bytes.now c
 
 pub returns-then-fits_after-clause-gathered : goal.returns-then-fits_after-clause-gathered
 returns-then-fits_after-clause-gathered c = λ k few.
-    let ps : List Part = parts_of c.self.inside.cord in
+    let ps : List Part = c.self.inside.cords.parts in
     let g : List ℕ = gap_bytes c.self.inside.gap in
     let b : List ℕ = c.args.bytes.now in
     let fits : length (g ++ b) ≤ CAP = omega (arith, length-append g b, c.fits_after.ensures.most c.if-fits_after.true) in
@@ -42,9 +42,9 @@ returns-then-fits_after-clause-gathered c = λ k few.
     (more k (2 + k) (ps ++ leaf_parts g) (ps ++ leaf_parts (g ++ b)) (omega arith) (tail_grown ps g b k fits few)))
 
 pub returns-then-fits_before-clause-text : goal.returns-then-fits_before-clause-text
-returns-then-fits_before-clause-text c = typed_before (text c.self.inside.cord) c.args.self.now.text (gap_bytes c.self.inside.gap)
-    c.self.inside.cut_start c.self.inside.cut_end (text_len c.self.inside.cord) c.len-len.result (ap (λ (g : Growth). g.text) c.self.view_is)
-    c.self.invariant.3 c.self.invariant.0 c.self.invariant.1 c.len-len.ensures.value c.args.bytes.now (gap_bytes c.prepend.new.self)
+returns-then-fits_before-clause-text c = typed_before c.self.inside.cords.text c.args.self.now.text (gap_bytes c.self.inside.gap)
+    c.self.inside.cut_start c.self.inside.cut_end (length c.self.inside.cords.text) c.len-len.result (ap (λ (g : Growth). g.text) c.self.view_is)
+    refl c.self.invariant.0 c.self.invariant.1 c.len-len.ensures.value c.args.bytes.now (gap_bytes c.prepend.new.self)
     c.min-at.result c.args.at c.prepend.ensures c.min-at.ensures (omega arith)
 
 pub returns-then-fits_before-clause-over : goal.returns-then-fits_before-clause-over
@@ -53,7 +53,7 @@ returns-then-fits_before-clause-over c = edited_by c.args.at 0 c.args.bytes.now 
 
 pub returns-then-fits_before-clause-gathered : goal.returns-then-fits_before-clause-gathered
 returns-then-fits_before-clause-gathered c = λ k few.
-    let ps : List Part = parts_of c.self.inside.cord in
+    let ps : List Part = c.self.inside.cords.parts in
     let g : List ℕ = gap_bytes c.self.inside.gap in
     let b : List ℕ = c.args.bytes.now in
     let fits : length (b ++ g) ≤ CAP = omega (arith, length-append b g, c.fits_before.ensures.most c.if-fits_before.true) in

@@ -15,27 +15,27 @@ use Rattle.cord_edit.proofs.buffer.EditBuffer.insert_apart.Goals as goal
 
 pub returns-in_err-flush-clause-gathered : goal.returns-in_err-flush-clause-gathered
 returns-in_err-flush-clause-gathered c = λ k few. unchanged_parts (2 + k) _ _ _ (ap (λ (g : Growth). g.parts) c.self.view_is)
-    (ap (λ (n : Option Node). parts_of n ++ leaf_parts (gap_bytes c.flush.new.gap)) (c.in_err-flush.ensures.cord_unchanged refl)
-    ∙ ap (λ (g : Gap). parts_of c.self.inside.cord ++ leaf_parts (gap_bytes g)) (c.in_err-flush.ensures.gap_unchanged refl))
+    (ap (λ (n : Growth). n.parts ++ leaf_parts (gap_bytes c.flush.new.gap)) (c.in_err-flush.ensures.cords_unchanged refl)
+    ∙ ap (λ (g : Gap). c.self.inside.cords.parts ++ leaf_parts (gap_bytes g)) (c.in_err-flush.ensures.gap_unchanged refl))
 
 pub returns-then-bytes-le-MOST-clause-gathered : goal.returns-then-bytes-le-MOST-clause-gathered
 returns-then-bytes-le-MOST-clause-gathered c = λ k few.
-    let ps : List Part = parts_of c.flush.new.cord in
+    let ps : List Part = c.flush.new.cords.parts in
     let b : List ℕ = c.args.bytes.now in
     let held : gap_bytes c.append.new.self ≡ b =
     c.append.ensures ∙ ap (λ (g : List ℕ). g ++ b) c.in_ok-flush.ensures.emptied in
     subst (λ (old : List Part). Gathered (2 + k) old (ps ++ leaf_parts (gap_bytes c.append.new.self)))
     (ap (λ (e : Growth). e.parts) c.self.view_is)
-    (subst (λ (h : List ℕ). Gathered (2 + k) (parts_of c.self.inside.cord ++ leaf_parts (gap_bytes c.self.inside.gap)) (ps ++ leaf_parts h))
+    (subst (λ (h : List ℕ). Gathered (2 + k) (c.self.inside.cords.parts ++ leaf_parts (gap_bytes c.self.inside.gap)) (ps ++ leaf_parts h))
     (sym held)
-    (gap_begun k (parts_of c.self.inside.cord ++ leaf_parts (gap_bytes c.self.inside.gap)) ps b (omega arith) c.in_ok-flush.ensures.gathered))
+    (gap_begun k (c.self.inside.cords.parts ++ leaf_parts (gap_bytes c.self.inside.gap)) ps b (omega arith) c.in_ok-flush.ensures.gathered))
 
 pub returns-clause-gathered : goal.returns-clause-gathered
 returns-clause-gathered c = λ k few.
-    let old : List Part = parts_of c.self.inside.cord ++ leaf_parts (gap_bytes c.self.inside.gap) in
-    subst (λ (ps : List Part). Gathered (2 + k) ps (parts_of c.put_leaves.new.cord ++ leaf_parts (gap_bytes c.flush.new.gap)))
+    let old : List Part = c.self.inside.cords.parts ++ leaf_parts (gap_bytes c.self.inside.gap) in
+    subst (λ (ps : List Part). Gathered (2 + k) ps (c.put_leaves.new.cords.parts ++ leaf_parts (gap_bytes c.flush.new.gap)))
     (ap (λ (e : Growth). e.parts) c.self.view_is)
-    (no_gap (2 + k) old (parts_of c.put_leaves.new.cord) (gap_bytes c.flush.new.gap) c.in_ok-flush.ensures.emptied
-    (more (1 + (1 + k)) (2 + k) old (parts_of c.put_leaves.new.cord) (omega arith)
-    (steps 1 (1 + k) old (parts_of c.flush.new.cord) (parts_of c.put_leaves.new.cord) c.in_ok-flush.ensures.gathered
+    (no_gap (2 + k) old c.put_leaves.new.cords.parts (gap_bytes c.flush.new.gap) c.in_ok-flush.ensures.emptied
+    (more (1 + (1 + k)) (2 + k) old c.put_leaves.new.cords.parts (omega arith)
+    (steps 1 (1 + k) old c.flush.new.cords.parts c.put_leaves.new.cords.parts c.in_ok-flush.ensures.gathered
     (c.in_ok-put_leaves.ensures.gathered k few))))

@@ -15,8 +15,8 @@ use Rattle.cord_edit.proofs.Editing.{text_of}
 use Rattle.cord_edit.proofs.buffer.EditBuffer.of.Goals as goal
 
 pub returns-clause-text : goal.returns-clause-text
-returns-clause-text c = around_nothing (text c.in_ok-shared.shared) (gap_bytes c.in_ok-gap.gap) c.len-len.result c.in_ok-gap.ensures
-    ∙ ap text c.in_ok-shared.ensures.same
+returns-clause-text c = around_nothing c.in_ok-cords.cords.text (gap_bytes c.in_ok-gap.gap) c.len-len.result c.in_ok-gap.ensures
+    ∙ c.in_ok-cords.ensures.text
 
 pub returns-clause-over : goal.returns-clause-over
 returns-clause-over c = text_of _ c.args.cord.now (returns-clause-text c)

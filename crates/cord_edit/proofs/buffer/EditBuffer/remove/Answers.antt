@@ -16,9 +16,9 @@ use Rattle.cord_edit.proofs.Parting.{tail_cut, unchanged_parts}
 use Rattle.cord_edit.proofs.buffer.EditBuffer.remove.Goals as goal
 
 pub returns-then-end-until-clause-text : goal.returns-then-end-until-clause-text
-returns-then-end-until-clause-text c = removed_next (text c.self.inside.cord) c.args.self.now.text (gap_bytes c.self.inside.gap)
-    c.self.inside.cut_start c.self.inside.cut_end (text_len c.self.inside.cord) c.len-len.result (ap (λ (g : Growth). g.text) c.self.view_is)
-    c.self.invariant.3 c.self.invariant.0 c.self.invariant.1 c.len-len.ensures.value (gap_bytes c.truncate.new.self)
+returns-then-end-until-clause-text c = removed_next c.self.inside.cords.text c.args.self.now.text (gap_bytes c.self.inside.gap)
+    c.self.inside.cut_start c.self.inside.cut_end (length c.self.inside.cords.text) c.len-len.result (ap (λ (g : Growth). g.text) c.self.view_is)
+    refl c.self.invariant.0 c.self.invariant.1 c.len-len.ensures.value (gap_bytes c.truncate.new.self)
     c.min-self-inside.result c.saturating_sub.result c.min-from.result c.min-until.result (c.self.inside.cut_start + c.len.result) c.args.start
     c.args.count c.saturating_add.result (2 ^ 64 - 1) c.min-self-inside.ensures c.saturating_sub.ensures c.truncate.ensures
     (ap (λ (n : ℕ). c.self.inside.cut_start + n) c.len.ensures.value) c.if-from-end.true c.if-end-until.true
@@ -29,7 +29,7 @@ returns-then-end-until-clause-over c = edited_by c.args.start c.args.count [] c.
 
 pub returns-then-end-until-clause-gathered : goal.returns-then-end-until-clause-gathered
 returns-then-end-until-clause-gathered c =
-    let ps : List Part = parts_of c.self.inside.cord in
+    let ps : List Part = c.self.inside.cords.parts in
     let g : List ℕ = gap_bytes c.self.inside.gap in
     let n : ℕ = c.saturating_sub.result in
     let fits : length (take n g) ≤ CAP = omega (arith, length-take n g, c.len.ensures.value, c.len.ensures.limit) in
@@ -38,11 +38,11 @@ returns-then-end-until-clause-gathered c =
 
 pub returns-in_err-flush-clause-gathered : goal.returns-in_err-flush-clause-gathered
 returns-in_err-flush-clause-gathered c = unchanged_parts 1 _ _ _ (ap (λ (g : Growth). g.parts) c.self.view_is)
-    (ap (λ (n : Option Node). parts_of n ++ leaf_parts (gap_bytes c.flush.new.gap)) (c.in_err-flush.ensures.cord_unchanged refl)
-    ∙ ap (λ (g : Gap). parts_of c.self.inside.cord ++ leaf_parts (gap_bytes g)) (c.in_err-flush.ensures.gap_unchanged refl))
+    (ap (λ (n : Growth). n.parts ++ leaf_parts (gap_bytes c.flush.new.gap)) (c.in_err-flush.ensures.cords_unchanged refl)
+    ∙ ap (λ (g : Gap). c.self.inside.cords.parts ++ leaf_parts (gap_bytes g)) (c.in_err-flush.ensures.gap_unchanged refl))
 
 pub returns-clause-text : goal.returns-clause-text
-returns-clause-text c = removed_apart (text c.flush.new.cord) c.args.self.now.text (gap_bytes c.flush.new.gap) c.len-len.result
+returns-clause-text c = removed_apart c.flush.new.cords.text c.args.self.now.text (gap_bytes c.flush.new.gap) c.len-len.result
     c.min-from.result c.min-until.result c.args.start c.args.count c.saturating_add.result (2 ^ 64 - 1)
     (c.in_ok-flush.ensures.text ∙ ap (λ (g : Growth). g.text) c.self.view_is) c.in_ok-flush.ensures.emptied c.len-len.ensures.value
     (omega (arith, c.len-len.ensures.limit)) c.min-from.ensures c.saturating_add.ensures c.min-until.ensures

@@ -10,36 +10,59 @@ use Rattle.cord_ec.specs.Gathered.{Growth, Gathered, leaf_parts}
 use Rattle.cord_edit.specs.declared.gap.Gap.{Gap}
 use Rattle.cord_edit.specs.Edits.{edited}
 use Rattle.cord_edit.specs.inner.Gaps.{gap_bytes}
+use Rattle.cord_core.proofs.Splices.{clamped_text}
 use Rattle.cord_edit.proofs.Lists.{around_nothing}
 use Rattle.cord_edit.proofs.Editing.{edited_by_cord}
 use Rattle.cord_edit.proofs.Parting.{no_gap, not_yet, spliced_after, untouched, unchanged_parts}
 use Rattle.cord_edit.proofs.buffer.EditBuffer.splice.Goals as goal
 
+pub returns-then-from-len-gt-MAX_LEN-clause-gathered : goal.returns-then-from-len-gt-MAX_LEN-clause-gathered
+returns-then-from-len-gt-MAX_LEN-clause-gathered c = untouched 2 c.args.self.now.parts (parts_of c.args.middle.now)
+
 pub returns-in_err-end-clause-gathered : goal.returns-in_err-end-clause-gathered
 returns-in_err-end-clause-gathered c =
-    let new : List Part = parts_of c.flush.new.cord ++ leaf_parts (gap_bytes c.flush.new.gap) in
+    let new : List Part = c.flush.new.cords.parts ++ leaf_parts (gap_bytes c.flush.new.gap) in
     let same : new ≡ c.args.self.now.parts =
-    ap (λ (n : Option Node). parts_of n ++ leaf_parts (gap_bytes c.flush.new.gap)) (c.in_err-end.ensures.cord_unchanged refl)
-    ∙ ap (λ (g : Gap). parts_of c.self.inside.cord ++ leaf_parts (gap_bytes g)) (c.in_err-end.ensures.gap_unchanged refl)
+    ap (λ (n : Growth). n.parts ++ leaf_parts (gap_bytes c.flush.new.gap)) (c.in_err-end.ensures.cords_unchanged refl)
+    ∙ ap (λ (g : Gap). c.self.inside.cords.parts ++ leaf_parts (gap_bytes g)) (c.in_err-end.ensures.gap_unchanged refl)
     ∙ ap (λ (g : Growth). g.parts) c.self.view_is in
     subst (λ (ps : List Part). Gathered 2 (c.args.self.now.parts ++ parts_of c.args.middle.now) ps) (sym same)
     (untouched 2 c.args.self.now.parts (parts_of c.args.middle.now))
+
+pub splice-requires-clause-inside : goal.splice-requires-clause-inside
+splice-requires-clause-inside c = omega (
+  arith,
+  c.min-until.ensures,
+  c.len-len.ensures.value,
+  ap length (c.in_ok-end.ensures.text ∙ ap (λ (e : Growth). e.text) c.self.view_is),
+)
+
+pub splice-requires-clause-within_limit : goal.splice-requires-clause-within_limit
+splice-requires-clause-within_limit c = omega (
+  arith,
+  c.len-len.ensures.value,
+  ap length (c.in_ok-end.ensures.text ∙ ap (λ (e : Growth). e.text) c.self.view_is),
+)
 
 pub returns-in_err-splice-clause-gathered : goal.returns-in_err-splice-clause-gathered
 returns-in_err-splice-clause-gathered c =
     let m : List Part = parts_of c.args.middle.now in
     let g : List ℕ = gap_bytes c.flush.new.gap in
-    subst (λ (n : Option Node). Gathered 2 (c.args.self.now.parts ++ m) (parts_of n ++ leaf_parts g))
+    subst (λ (n : Growth). Gathered 2 (c.args.self.now.parts ++ m) (n.parts ++ leaf_parts g))
     (sym (c.in_err-splice.ensures.unchanged refl))
-    (subst (λ (old : List Part). Gathered 2 (old ++ m) (parts_of c.flush.new.cord ++ leaf_parts g))
+    (subst (λ (old : List Part). Gathered 2 (old ++ m) (c.flush.new.cords.parts ++ leaf_parts g))
     (ap (λ (e : Growth). e.parts) c.self.view_is)
-    (not_yet _ (parts_of c.flush.new.cord) m g c.in_ok-end.ensures.emptied c.in_ok-end.ensures.gathered))
+    (not_yet _ c.flush.new.cords.parts m g c.in_ok-end.ensures.emptied c.in_ok-end.ensures.gathered))
 
 pub returns-clause-text : goal.returns-clause-text
-returns-clause-text c = around_nothing (text c.splice.new.self) (gap_bytes c.flush.new.gap) (c.min-from.result + c.len-2.result)
-    c.in_ok-end.ensures.emptied ∙ c.in_ok-splice.ensures.text
-    ∙ ap (edited c.args.start c.args.count (text c.args.middle.now))
-    (c.in_ok-end.ensures.text ∙ ap (λ (e : Growth). e.text) c.self.view_is)
+returns-clause-text c = around_nothing c.splice.new.self.text (gap_bytes c.flush.new.gap) (c.min-from.result + c.len-2.result)
+    c.in_ok-end.ensures.emptied
+    ∙ clamped_text c.args.self.now.text (text c.args.middle.now) c.splice.new.self.text c.args.start (c.args.start + c.args.count)
+    (2 ^ 64 - 1) c.len-len.result c.min-from.result c.saturating_add.result c.min-until.result (sym c.len-len.ensures.value)
+    (omega (arith, c.len-len.ensures.limit)) c.min-from.ensures c.saturating_add.ensures c.min-until.ensures
+    (c.in_ok-splice.ensures.text
+    ∙ ap (λ (xs : List Cell). take c.min-from.result xs ++ text c.args.middle.now ++ drop c.min-until.result xs)
+    (c.in_ok-end.ensures.text ∙ ap (λ (e : Growth). e.text) c.self.view_is))
 
 pub returns-clause-over : goal.returns-clause-over
 returns-clause-over c = edited_by_cord c.args.start c.args.count c.args.middle.now c.args.self.now.text _ (returns-clause-text c)
@@ -48,8 +71,7 @@ pub returns-clause-gathered : goal.returns-clause-gathered
 returns-clause-gathered c =
     let m : List Part = parts_of c.args.middle.now in
     let g : List ℕ = gap_bytes c.flush.new.gap in
-    subst (λ (old : List Part). Gathered 2 (old ++ m) (parts_of c.splice.new.self ++ leaf_parts g))
+    subst (λ (old : List Part). Gathered 2 (old ++ m) (c.splice.new.self.parts ++ leaf_parts g))
     (ap (λ (e : Growth). e.parts) c.self.view_is)
-    (no_gap 2 _ (parts_of c.splice.new.self) g c.in_ok-end.ensures.emptied
-    (spliced_after _ (parts_of c.flush.new.cord) m (parts_of c.splice.new.self) c.in_ok-end.ensures.gathered c.in_ok-splice.ensures.few
-    c.in_ok-splice.ensures.from_there))
+    (no_gap 2 _ c.splice.new.self.parts g c.in_ok-end.ensures.emptied
+    (spliced_after _ c.flush.new.cords.parts m c.splice.new.self.parts c.in_ok-end.ensures.gathered c.in_ok-splice.ensures.gathered))

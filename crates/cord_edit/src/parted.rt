@@ -1,0 +1,212 @@
+// A text in one cord or in two.
+ghost use Rattle.std.specs.Prelude.{◌≡◌, ◌+◌, ◌-◌, ◌≤◌, ◌++◌, length, take, drop, IfOk, IsErr, IsOkUnless};
+ghost use Rattle.cord_node.specs.PartsFrom.{AreFrom};
+ghost use Rattle.cord_core.specs.Cord.{text, text_len, parts_of, IsCord};
+ghost use Rattle.cord_ec.specs.Gathered.{Gathered};
+
+use cord_core::Cord;
+use cord_io::{CordError, MAX_DEPTH, MAX_LEN};
+use std::alloc::Global;
+use std::marker::Model;
+
+// A text in one cord, or in two where it is asked for again and again while it is edited at one place: there it is
+// parted, and the cord with what was put in is made of both by joins alone.
+#[derive(Drop)]
+pub(crate) struct Parted {
+    front: Cord,
+    // What comes after it: nothing where the text isn't parted.
+    back: Cord,
+}
+
+impl Model for Parted {
+    ghost use Rattle.std.specs.Prelude.{◌≡◌, ◌≤◌, ◌+◌, ◌++◌, length};
+    ghost use Rattle.cord_io.specs.declared.TheConstants.{MAX_LEN};
+    ghost use Rattle.cord_core.specs.Cord.{text, text_len, parts_of};
+    ghost use Rattle.cord_ec.specs.Gathered.{Growth, coded_growth};
+
+    ghost Value = { Growth };
+
+    ghost coded = { coded_growth };
+
+    ghost view = { λ p. record {
+      text = text p.front ++ text p.back;
+      parts = parts_of p.front ++ parts_of p.back;
+    } };
+
+    ghost invariant = { λ p. (text_len p.front + text_len p.back ≤ MAX_LEN)
+        × (length (text p.front ++ text p.back) ≡ text_len p.front + text_len p.back) };
+}
+
+impl Parted {
+    // The text of `cord`, whose tree is shared.
+    pub(crate) fn of(alloc: Global, cord: &Cord) -> Result<Parted, CordError>
+        ensures text { IfOk result (λ made. made.text ≡ text cord.now) }
+        ensures parts { IfOk result (λ made. made.parts ≡ parts_of cord.now) }
+        ensures refused { IsOkUnless result CordError.NoMemory }
+    {
+        let front = cord.share(alloc)?;
+        let back = Cord::empty();
+        Ok(Parted { front, back })
+    }
+
+    // The length of the text, in bytes.
+    #[inline(always)]
+    pub(crate) fn len(&self) -> u64
+        ensures value { result ≡ length self.now.text }
+        ensures limit { result ≤ MAX_LEN }
+    {
+        self.front.len() + self.back.len()
+    }
+
+    // Whether two joins of it leave it no deeper than a tree may be.
+    pub(crate) fn has_room(&self) -> bool {
+        self.front.depth().max(self.back.depth()) + 2 <= MAX_DEPTH
+    }
+
+    // The text as one cord.
+    pub(crate) fn to_cord(&self, alloc: Global) -> Result<Cord, CordError>
+        ensures text { IfOk result (λ c. text c ≡ self.now.text) }
+        ensures sound { IfOk result IsCord }
+        ensures gathered { IfOk result (λ c. Gathered 0 self.now.parts (parts_of c)) }
+        ensures refused { IsOkUnless result CordError.NoMemory }
+    {
+        let cord = Cord::cat(alloc, &self.front, &self.back)?;
+        Ok(cord)
+    }
+
+    // Puts `middle` in the place of the bytes from `from` up to `until`, and leaves one cord.
+    pub(crate) fn splice(
+        &mut self,
+        alloc: Global,
+        from: u64,
+        until: u64,
+        middle: &Cord,
+    ) -> Result<(), CordError>
+        requires order { from ≤ until }
+        requires inside { until ≤ length self.old.text }
+        requires within_limit { from + text_len middle.now + (length self.old.text - until) ≤ MAX_LEN }
+        ensures text { IfOk result (λ _. self.new.text
+            ≡ take from self.old.text ++ text middle.now ++ drop until self.old.text) }
+        ensures len { IfOk result (λ _. length self.new.text
+            ≡ from + text_len middle.now + (length self.old.text - until)) }
+        ensures gathered { IfOk result (λ _. Gathered 1 (self.old.parts ++ parts_of middle.now) self.new.parts) }
+        ensures unchanged { IsErr result → self.new ≡ self.old }
+        ensures refused { IsOkUnless result CordError.NoMemory }
+    {
+        if self.back.len() == 0 {
+            self.front.splice(alloc, from, until - from, middle)?;
+            return Ok(());
+        }
+        let mut all = Cord::cat(alloc, &self.front, &self.back)?;
+        all.splice(alloc, from, until - from, middle)?;
+        self.front = all;
+        self.back = Cord::empty();
+        Ok(())
+    }
+
+    // The same, where the text is parted after `middle`.
+    pub(crate) fn splice_parted(
+        &mut self,
+        alloc: Global,
+        from: u64,
+        until: u64,
+        middle: &Cord,
+    ) -> Result<(), CordError>
+        requires order { from ≤ until }
+        requires inside { until ≤ length self.old.text }
+        requires within_limit { from + text_len middle.now + (length self.old.text - until) ≤ MAX_LEN }
+        ensures text { IfOk result (λ _. self.new.text
+            ≡ take from self.old.text ++ text middle.now ++ drop until self.old.text) }
+        ensures len { IfOk result (λ _. length self.new.text
+            ≡ from + text_len middle.now + (length self.old.text - until)) }
+        ensures gathered { IfOk result (λ _. Gathered 1 (self.old.parts ++ parts_of middle.now) self.new.parts) }
+        ensures unchanged { IsErr result → self.new ≡ self.old }
+        ensures refused { IsOkUnless result CordError.NoMemory }
+    {
+        let (front, back) = halves(alloc, &self.front, &self.back, from, until)?;
+        let longer = Cord::cat(alloc, &front, middle)?;
+        self.front = longer;
+        self.back = back;
+        Ok(())
+    }
+
+    // The text with `middle` in the place of the bytes from `from` up to `until`, as a cord. The text itself loses these
+    // bytes, and is parted there.
+    pub(crate) fn with(
+        &mut self,
+        alloc: Global,
+        from: u64,
+        until: u64,
+        middle: &Cord,
+    ) -> Result<Cord, CordError>
+        requires order { from ≤ until }
+        requires inside { until ≤ length self.old.text }
+        requires within_limit { from + text_len middle.now + (length self.old.text - until) ≤ MAX_LEN }
+        ensures text { IfOk result (λ c. text c
+            ≡ take from self.old.text ++ text middle.now ++ drop until self.old.text) }
+        ensures sound { IfOk result IsCord }
+        ensures gathered { IfOk result (λ c. Gathered 1 (self.old.parts ++ parts_of middle.now) (parts_of c)) }
+        ensures cut { IfOk result (λ _. self.new.text ≡ take from self.old.text ++ drop until self.old.text) }
+        ensures cut_len { IfOk result (λ _. length self.new.text ≡ from + (length self.old.text - until)) }
+        ensures stays { IfOk result (λ _. Gathered 1 self.old.parts self.new.parts) }
+        ensures unchanged { IsErr result → self.new ≡ self.old }
+        ensures refused { IsOkUnless result CordError.NoMemory }
+    {
+        let (front, back) = halves(alloc, &self.front, &self.back, from, until)?;
+        let all = joined(alloc, &front, middle, &back)?;
+        self.front = front;
+        self.back = back;
+        Ok(all)
+    }
+}
+
+// The text of two cords up to `from`, and the one from `until` on.
+fn halves(
+    alloc: Global,
+    front: &Cord,
+    back: &Cord,
+    from: u64,
+    until: u64,
+) -> Result<(Cord, Cord), CordError>
+    requires order { from ≤ until }
+    requires inside { until ≤ text_len front.now + text_len back.now }
+    requires within_limit { text_len front.now + text_len back.now ≤ MAX_LEN }
+    ensures front { IfOk result (λ halves. text halves.0 ≡ take from (text front.now ++ text back.now)) }
+    ensures back { IfOk result (λ halves. text halves.1 ≡ drop until (text front.now ++ text back.now)) }
+    ensures front_sound { IfOk result (λ halves. IsCord halves.0) }
+    ensures back_sound { IfOk result (λ halves. IsCord halves.1) }
+    ensures front_len { IfOk result (λ halves. text_len halves.0 ≡ from) }
+    ensures back_len { IfOk result (λ halves. text_len halves.1
+        ≡ text_len front.now + text_len back.now - until) }
+    ensures few { IfOk result (λ halves. length (parts_of halves.0) + length (parts_of halves.1)
+        ≤ length (parts_of front.now ++ parts_of back.now) + 1) }
+    ensures front_from { IfOk result (λ halves. AreFrom (parts_of halves.0) (parts_of front.now ++ parts_of back.now)) }
+    ensures back_from { IfOk result (λ halves. AreFrom (parts_of halves.1) (parts_of front.now ++ parts_of back.now)) }
+    ensures refused { IsOkUnless result CordError.NoMemory }
+{
+    if from == until && from == front.len() {
+        let front = front.share(alloc)?;
+        let back = back.share(alloc)?;
+        return Ok((front, back));
+    }
+    let all = Cord::cat(alloc, front, back)?;
+    let front = all.substr(alloc, 0, from)?;
+    let back = all.substr(alloc, until, all.len())?;
+    Ok((front, back))
+}
+
+// Three texts, one after the other.
+fn joined(alloc: Global, front: &Cord, middle: &Cord, back: &Cord) -> Result<Cord, CordError>
+    requires { text_len front.now + text_len middle.now + text_len back.now ≤ MAX_LEN }
+    ensures text { IfOk result (λ c. text c ≡ text front.now ++ text middle.now ++ text back.now) }
+    ensures sound { IfOk result IsCord }
+    ensures from_there { IfOk result (λ c. AreFrom (parts_of c)
+        (parts_of front.now ++ parts_of middle.now ++ parts_of back.now)) }
+    ensures few { IfOk result (λ c. length (parts_of c)
+        ≤ length (parts_of front.now) + length (parts_of middle.now) + length (parts_of back.now)) }
+    ensures refused { IsOkUnless result CordError.NoMemory }
+{
+    let longer = Cord::cat(alloc, front, middle)?;
+    let all = Cord::cat(alloc, &longer, back)?;
+    Ok(all)
+}
