@@ -14,12 +14,12 @@ use Rattle.cord_core.proofs.OverLemmas.{length-text}
 use Rattle.cord_core.proofs.Splices.{cut_parts, old_parts, new_parts}
 use Rattle.cord_ec.specs.Gathered.{IsGathered, Gathered}
 use Rattle.cord_ec.proofs.Leaves.{gathered_own}
-use Rattle.cord_ec.proofs.MadeLemmas.{are_kept, made_kept, made_more, made_through}
+use Rattle.cord_ec.proofs.MadeLemmas.{are_from, made_from, made_more, made_through}
 use Rattle.cord_edit.proofs.Parting.{spliced}
 
 -- how long two cords are
-pub counted : (front back : Option Node) → IsCord front → IsCord back → length (text front ++ text back) ≡ text_len front + text_len back
-counted front back s t = omega (arith, length-append (text front) (text back), length-text front s, length-text back t)
+pub counted : (prefix back : Option Node) → IsCord prefix → IsCord back → length (text prefix ++ text back) ≡ text_len prefix + text_len back
+counted prefix back s t = omega (arith, length-append (text prefix) (text back), length-text prefix s, length-text back t)
 
 cord_limit : (c : Option Node) → IsCord c → text_len c ≤ MAX_LEN
 cord_limit None s = omega arith
@@ -34,45 +34,45 @@ one_cord c none s e =
     (limit, counted c None s tt)
 
 -- how many parts there are on both sides of a range
-pub halves_few : (from until count : ℕ) (old all front back : List Part) → from ≤ until → PartsFrom old all →
-    length front ≤ touched 0 (0 + from) all → length back ≤ touched until (until + count) all → length front + length back ≤ length old + 1
-halves_few from until count old all front back order p f b =
+pub halves_few : (from until count : ℕ) (old all prefix back : List Part) → from ≤ until → PartsFrom old all →
+    length prefix ≤ touched 0 (0 + from) all → length back ≤ touched until (until + count) all → length prefix + length back ≤ length old + 1
+halves_few from until count old all prefix back order p f b =
     let z : 0 + from ≡ from = omega arith in
-    let g : length front ≤ touched 0 from all = rw z at f in
+    let g : length prefix ≤ touched 0 from all = rw z at f in
     omega (arith, g, b, p.no_more, touched_around from until (until + count) all order)
 
 -- what is on both sides of a range
-pub parted : (old front back : List Part) → length front + length back ≤ length old + 1 → AreFrom front old → AreFrom back old →
-    Gathered 1 old (front ++ back)
-parted old front back few f b = record {
-  no_more = omega (arith, few, length-append front back);
-  from_there = are_kept IsGathered gathered_own (front ++ back) old (AreFrom-append front back old f b);
+pub parted : (old prefix back : List Part) → length prefix + length back ≤ length old + 1 → AreFrom prefix old → AreFrom back old →
+    Gathered 1 old (prefix ++ back)
+parted old prefix back few f b = record {
+  no_more = omega (arith, few, length-append prefix back);
+  from_there = are_from IsGathered gathered_own (prefix ++ back) old (AreFrom-append prefix back old f b);
 }
 
 -- the same with a text in the place of the range
-pub put_between : (old middle front back all : List Part) → length front + length back ≤ length old + 1 → AreFrom front old →
-    AreFrom back old → length all ≤ length front + length middle + length back → AreFrom all (front ++ middle ++ back) →
+pub put_between : (old middle prefix back all : List Part) → length prefix + length back ≤ length old + 1 → AreFrom prefix old →
+    AreFrom back old → length all ≤ length prefix + length middle + length back → AreFrom all (prefix ++ middle ++ back) →
     Gathered 1 (old ++ middle) all
-put_between old middle front back all few f b least from = spliced old middle all (omega (arith, few, least))
-    (cut_parts old middle front back all f b from)
+put_between old middle prefix back all few f b least from = spliced old middle all (omega (arith, few, least))
+    (cut_parts old middle prefix back all f b from)
 
-pub put_after : (old middle front back longer : List Part) → length front + length back ≤ length old + 1 → AreFrom front old →
-    AreFrom back old → PartsFrom (front ++ middle) longer → Gathered 1 (old ++ middle) (longer ++ back)
-put_after old middle front back longer few f b k = put_between old middle front back (longer ++ back) few f b
-    (omega (arith, k.no_more, length-append longer back, length-append front middle))
-    (AreFrom-both (front ++ middle) back longer back k.from_there (AreFrom-self back))
+pub put_after : (old middle prefix back longer : List Part) → length prefix + length back ≤ length old + 1 → AreFrom prefix old →
+    AreFrom back old → PartsFrom (prefix ++ middle) longer → Gathered 1 (old ++ middle) (longer ++ back)
+put_after old middle prefix back longer few f b k = put_between old middle prefix back (longer ++ back) few f b
+    (omega (arith, k.no_more, length-append longer back, length-append prefix middle))
+    (AreFrom-both (prefix ++ middle) back longer back k.from_there (AreFrom-self back))
 
 -- a text that is put into the first of two
-pub put_in_front : (front back middle new : List Part) → AtMostOneMore front middle new → AreFrom new (front ++ middle) →
-    Gathered 1 (front ++ back ++ middle) (new ++ back)
-put_in_front front back middle new few from = record {
-  no_more = omega (arith, few, length-append new back, length-append (front ++ back) middle, length-append front back);
-  from_there = are_kept IsGathered gathered_own (new ++ back) (front ++ back ++ middle)
-      (AreFrom-append new back (front ++ back ++ middle)
-      (AreFrom-trans new (front ++ middle) (front ++ back ++ middle) from
-      (AreFrom-append front middle (front ++ back ++ middle)
-      (AreFrom-append_left front (front ++ back) middle (old_parts front back)) (new_parts (front ++ back) middle)))
-      (AreFrom-append_left back (front ++ back) middle (new_parts front back)));
+pub put_in_prefix : (prefix back middle new : List Part) → AtMostOneMore prefix middle new → AreFrom new (prefix ++ middle) →
+    Gathered 1 (prefix ++ back ++ middle) (new ++ back)
+put_in_prefix prefix back middle new few from = record {
+  no_more = omega (arith, few, length-append new back, length-append (prefix ++ back) middle, length-append prefix back);
+  from_there = are_from IsGathered gathered_own (new ++ back) (prefix ++ back ++ middle)
+      (AreFrom-append new back (prefix ++ back ++ middle)
+      (AreFrom-trans new (prefix ++ middle) (prefix ++ back ++ middle) from
+      (AreFrom-append prefix middle (prefix ++ back ++ middle)
+      (AreFrom-append_left prefix (prefix ++ back) middle (old_parts prefix back)) (new_parts (prefix ++ back) middle)))
+      (AreFrom-append_left back (prefix ++ back) middle (new_parts prefix back)));
 }
 
 -- and into both, joined before

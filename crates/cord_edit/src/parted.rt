@@ -13,7 +13,7 @@ use std::marker::Model;
 // parted, and the cord with what was put in is made of both by joins alone.
 #[derive(Drop)]
 pub(crate) struct Parted {
-    front: Cord,
+    prefix: Cord,
     // What comes after it: nothing where the text isn't parted.
     back: Cord,
 }
@@ -29,12 +29,12 @@ impl Model for Parted {
     ghost coded = { coded_growth };
 
     ghost view = { λ p. record {
-      text = text p.front ++ text p.back;
-      parts = parts_of p.front ++ parts_of p.back;
+      text = text p.prefix ++ text p.back;
+      parts = parts_of p.prefix ++ parts_of p.back;
     } };
 
-    ghost invariant = { λ p. (text_len p.front + text_len p.back ≤ MAX_LEN)
-        × (length (text p.front ++ text p.back) ≡ text_len p.front + text_len p.back) };
+    ghost invariant = { λ p. (text_len p.prefix + text_len p.back ≤ MAX_LEN)
+        × (length (text p.prefix ++ text p.back) ≡ text_len p.prefix + text_len p.back) };
 }
 
 impl Parted {
@@ -44,9 +44,9 @@ impl Parted {
         ensures parts { IfOk result (λ made. made.parts ≡ parts_of cord.now) }
         ensures refused { IsOkUnless result CordError.NoMemory }
     {
-        let front = cord.share(alloc)?;
+        let prefix = cord.share(alloc)?;
         let back = Cord::empty();
-        Ok(Parted { front, back })
+        Ok(Parted { prefix, back })
     }
 
     // The length of the text, in bytes.
@@ -55,12 +55,12 @@ impl Parted {
         ensures value { result ≡ length self.now.text }
         ensures limit { result ≤ MAX_LEN }
     {
-        self.front.len() + self.back.len()
+        self.prefix.len() + self.back.len()
     }
 
     // Whether two joins of it leave it no deeper than a tree may be.
     pub(crate) fn has_room(&self) -> bool {
-        self.front.depth().max(self.back.depth()) + 2 <= MAX_DEPTH
+        self.prefix.depth().max(self.back.depth()) + 2 <= MAX_DEPTH
     }
 
     // The text as one cord.
@@ -70,7 +70,7 @@ impl Parted {
         ensures gathered { IfOk result (λ c. Gathered 0 self.now.parts (parts_of c)) }
         ensures refused { IsOkUnless result CordError.NoMemory }
     {
-        let cord = Cord::cat(alloc, &self.front, &self.back)?;
+        let cord = Cord::cat(alloc, &self.prefix, &self.back)?;
         Ok(cord)
     }
 
@@ -94,12 +94,12 @@ impl Parted {
         ensures refused { IsOkUnless result CordError.NoMemory }
     {
         if self.back.len() == 0 {
-            self.front.splice(alloc, from, until - from, middle)?;
+            self.prefix.splice(alloc, from, until - from, middle)?;
             return Ok(());
         }
-        let mut all = Cord::cat(alloc, &self.front, &self.back)?;
+        let mut all = Cord::cat(alloc, &self.prefix, &self.back)?;
         all.splice(alloc, from, until - from, middle)?;
-        self.front = all;
+        self.prefix = all;
         self.back = Cord::empty();
         Ok(())
     }
@@ -123,9 +123,9 @@ impl Parted {
         ensures unchanged { IsErr result → self.new ≡ self.old }
         ensures refused { IsOkUnless result CordError.NoMemory }
     {
-        let (front, back) = halves(alloc, &self.front, &self.back, from, until)?;
-        let longer = Cord::cat(alloc, &front, middle)?;
-        self.front = longer;
+        let (prefix, back) = halves(alloc, &self.prefix, &self.back, from, until)?;
+        let longer = Cord::cat(alloc, &prefix, middle)?;
+        self.prefix = longer;
         self.back = back;
         Ok(())
     }
@@ -152,9 +152,9 @@ impl Parted {
         ensures unchanged { IsErr result → self.new ≡ self.old }
         ensures refused { IsOkUnless result CordError.NoMemory }
     {
-        let (front, back) = halves(alloc, &self.front, &self.back, from, until)?;
-        let all = joined(alloc, &front, middle, &back)?;
-        self.front = front;
+        let (prefix, back) = halves(alloc, &self.prefix, &self.back, from, until)?;
+        let all = joined(alloc, &prefix, middle, &back)?;
+        self.prefix = prefix;
         self.back = back;
         Ok(all)
     }
@@ -163,50 +163,50 @@ impl Parted {
 // The text of two cords up to `from`, and the one from `until` on.
 fn halves(
     alloc: Global,
-    front: &Cord,
+    prefix: &Cord,
     back: &Cord,
     from: u64,
     until: u64,
 ) -> Result<(Cord, Cord), CordError>
     requires order { from ≤ until }
-    requires inside { until ≤ text_len front.now + text_len back.now }
-    requires within_limit { text_len front.now + text_len back.now ≤ MAX_LEN }
-    ensures front { IfOk result (λ halves. text halves.0 ≡ take from (text front.now ++ text back.now)) }
-    ensures back { IfOk result (λ halves. text halves.1 ≡ drop until (text front.now ++ text back.now)) }
-    ensures front_sound { IfOk result (λ halves. IsCord halves.0) }
+    requires inside { until ≤ text_len prefix.now + text_len back.now }
+    requires within_limit { text_len prefix.now + text_len back.now ≤ MAX_LEN }
+    ensures prefix { IfOk result (λ halves. text halves.0 ≡ take from (text prefix.now ++ text back.now)) }
+    ensures back { IfOk result (λ halves. text halves.1 ≡ drop until (text prefix.now ++ text back.now)) }
+    ensures prefix_sound { IfOk result (λ halves. IsCord halves.0) }
     ensures back_sound { IfOk result (λ halves. IsCord halves.1) }
-    ensures front_len { IfOk result (λ halves. text_len halves.0 ≡ from) }
+    ensures prefix_len { IfOk result (λ halves. text_len halves.0 ≡ from) }
     ensures back_len { IfOk result (λ halves. text_len halves.1
-        ≡ text_len front.now + text_len back.now - until) }
+        ≡ text_len prefix.now + text_len back.now - until) }
     ensures few { IfOk result (λ halves. length (parts_of halves.0) + length (parts_of halves.1)
-        ≤ length (parts_of front.now ++ parts_of back.now) + 1) }
-    ensures front_from { IfOk result (λ halves. AreFrom (parts_of halves.0) (parts_of front.now ++ parts_of back.now)) }
-    ensures back_from { IfOk result (λ halves. AreFrom (parts_of halves.1) (parts_of front.now ++ parts_of back.now)) }
+        ≤ length (parts_of prefix.now ++ parts_of back.now) + 1) }
+    ensures prefix_from { IfOk result (λ halves. AreFrom (parts_of halves.0) (parts_of prefix.now ++ parts_of back.now)) }
+    ensures back_from { IfOk result (λ halves. AreFrom (parts_of halves.1) (parts_of prefix.now ++ parts_of back.now)) }
     ensures refused { IsOkUnless result CordError.NoMemory }
 {
-    if from == until && from == front.len() {
-        let front = front.share(alloc)?;
+    if from == until && from == prefix.len() {
+        let prefix = prefix.share(alloc)?;
         let back = back.share(alloc)?;
-        return Ok((front, back));
+        return Ok((prefix, back));
     }
-    let all = Cord::cat(alloc, front, back)?;
-    let front = all.substr(alloc, 0, from)?;
+    let all = Cord::cat(alloc, prefix, back)?;
+    let prefix = all.substr(alloc, 0, from)?;
     let back = all.substr(alloc, until, all.len())?;
-    Ok((front, back))
+    Ok((prefix, back))
 }
 
 // Three texts, one after the other.
-fn joined(alloc: Global, front: &Cord, middle: &Cord, back: &Cord) -> Result<Cord, CordError>
-    requires { text_len front.now + text_len middle.now + text_len back.now ≤ MAX_LEN }
-    ensures text { IfOk result (λ c. text c ≡ text front.now ++ text middle.now ++ text back.now) }
+fn joined(alloc: Global, prefix: &Cord, middle: &Cord, back: &Cord) -> Result<Cord, CordError>
+    requires { text_len prefix.now + text_len middle.now + text_len back.now ≤ MAX_LEN }
+    ensures text { IfOk result (λ c. text c ≡ text prefix.now ++ text middle.now ++ text back.now) }
     ensures sound { IfOk result IsCord }
     ensures from_there { IfOk result (λ c. AreFrom (parts_of c)
-        (parts_of front.now ++ parts_of middle.now ++ parts_of back.now)) }
+        (parts_of prefix.now ++ parts_of middle.now ++ parts_of back.now)) }
     ensures few { IfOk result (λ c. length (parts_of c)
-        ≤ length (parts_of front.now) + length (parts_of middle.now) + length (parts_of back.now)) }
+        ≤ length (parts_of prefix.now) + length (parts_of middle.now) + length (parts_of back.now)) }
     ensures refused { IsOkUnless result CordError.NoMemory }
 {
-    let longer = Cord::cat(alloc, front, middle)?;
+    let longer = Cord::cat(alloc, prefix, middle)?;
     let all = Cord::cat(alloc, &longer, back)?;
     Ok(all)
 }

@@ -11,31 +11,31 @@ use Rattle.cord_core.proofs.Splices.{old_parts, new_parts, joined_parts}
 use Rattle.cord_core.proofs.OverLemmas.{length-text}
 use Rattle.cord_ec.specs.Gathered.{Growth, IsGathered, Gathered}
 use Rattle.cord_ec.proofs.Leaves.{gathered_own}
-use Rattle.cord_ec.proofs.MadeLemmas.{made_kept}
-use Rattle.cord_edit.proofs.Halves.{counted, halves_few, parted, put_between, put_after, put_in_front, put_in_all}
+use Rattle.cord_ec.proofs.MadeLemmas.{made_from}
+use Rattle.cord_edit.proofs.Halves.{counted, halves_few, parted, put_between, put_after, put_in_prefix, put_in_all}
 use Rattle.cord_edit.proofs.parted.halves.Goals as goal
 
-pub returns-then-from-len-clause-front_from : goal.returns-then-from-len-clause-front_from
-returns-then-from-len-clause-front_from c =
-    subst (λ (n : Option Node). AreFrom (parts_of n) (parts_of c.args.front.now ++ parts_of c.args.back.now))
-    (sym c.in_ok-front.ensures.same) (old_parts (parts_of c.args.front.now) (parts_of c.args.back.now))
+pub returns-then-from-len-clause-prefix_from : goal.returns-then-from-len-clause-prefix_from
+returns-then-from-len-clause-prefix_from c =
+    subst (λ (n : Option Node). AreFrom (parts_of n) (parts_of c.args.prefix.now ++ parts_of c.args.back.now))
+    (sym c.in_ok-prefix.ensures.same) (old_parts (parts_of c.args.prefix.now) (parts_of c.args.back.now))
 
 pub returns-then-from-len-clause-back_from : goal.returns-then-from-len-clause-back_from
 returns-then-from-len-clause-back_from c =
-    subst (λ (n : Option Node). AreFrom (parts_of n) (parts_of c.args.front.now ++ parts_of c.args.back.now))
-    (sym c.in_ok-back.ensures.same) (new_parts (parts_of c.args.front.now) (parts_of c.args.back.now))
+    subst (λ (n : Option Node). AreFrom (parts_of n) (parts_of c.args.prefix.now ++ parts_of c.args.back.now))
+    (sym c.in_ok-back.ensures.same) (new_parts (parts_of c.args.prefix.now) (parts_of c.args.back.now))
 
 pub returns-clause-few : goal.returns-clause-few
-returns-clause-few c = halves_few c.args.from c.args.until _ (parts_of c.args.front.now ++ parts_of c.args.back.now)
-    (parts_of c.in_ok-all.all) (parts_of c.in_ok-front-2.front) (parts_of c.in_ok-back-2.back) c.requires.order
-    c.in_ok-all.ensures.parts_from c.in_ok-front-2.ensures.few c.in_ok-back-2.ensures.few
+returns-clause-few c = halves_few c.args.from c.args.until _ (parts_of c.args.prefix.now ++ parts_of c.args.back.now)
+    (parts_of c.in_ok-all.all) (parts_of c.in_ok-prefix-2.prefix) (parts_of c.in_ok-back-2.back) c.requires.order
+    c.in_ok-all.ensures.parts_from c.in_ok-prefix-2.ensures.few c.in_ok-back-2.ensures.few
 
-pub returns-clause-front_from : goal.returns-clause-front_from
-returns-clause-front_from c = AreFrom-trans (parts_of c.in_ok-front-2.front) (parts_of c.in_ok-all.all)
-    (parts_of c.args.front.now ++ parts_of c.args.back.now) c.in_ok-front-2.ensures.parts_from.from_there
+pub returns-clause-prefix_from : goal.returns-clause-prefix_from
+returns-clause-prefix_from c = AreFrom-trans (parts_of c.in_ok-prefix-2.prefix) (parts_of c.in_ok-all.all)
+    (parts_of c.args.prefix.now ++ parts_of c.args.back.now) c.in_ok-prefix-2.ensures.parts_from.from_there
     c.in_ok-all.ensures.parts_from.from_there
 
 pub returns-clause-back_from : goal.returns-clause-back_from
 returns-clause-back_from c = AreFrom-trans (parts_of c.in_ok-back-2.back) (parts_of c.in_ok-all.all)
-    (parts_of c.args.front.now ++ parts_of c.args.back.now) c.in_ok-back-2.ensures.parts_from.from_there
+    (parts_of c.args.prefix.now ++ parts_of c.args.back.now) c.in_ok-back-2.ensures.parts_from.from_there
     c.in_ok-all.ensures.parts_from.from_there

@@ -11,11 +11,11 @@ use Rattle.cord_core.proofs.Splices.{old_parts, new_parts, joined_parts}
 use Rattle.cord_core.proofs.OverLemmas.{length-text}
 use Rattle.cord_ec.specs.Gathered.{Growth, IsGathered, Gathered}
 use Rattle.cord_ec.proofs.Leaves.{gathered_own}
-use Rattle.cord_ec.proofs.MadeLemmas.{made_kept}
-use Rattle.cord_edit.proofs.Halves.{counted, halves_few, parted, put_between, put_after, put_in_front, put_in_all}
+use Rattle.cord_ec.proofs.MadeLemmas.{made_from}
+use Rattle.cord_edit.proofs.Halves.{counted, halves_few, parted, put_between, put_after, put_in_prefix, put_in_all}
 use Rattle.cord_edit.proofs.parted.joined.Goals as goal
 
 pub returns-clause-from_there : goal.returns-clause-from_there
-returns-clause-from_there c = joined_parts (parts_of c.args.front.now) (parts_of c.args.middle.now) (parts_of c.args.back.now)
+returns-clause-from_there c = joined_parts (parts_of c.args.prefix.now) (parts_of c.args.middle.now) (parts_of c.args.back.now)
     (parts_of c.in_ok-longer.longer) (parts_of c.in_ok-all.all) c.in_ok-longer.ensures.parts_from.from_there
     c.in_ok-all.ensures.parts_from.from_there

@@ -11,8 +11,8 @@ use Rattle.cord_core.proofs.Splices.{old_parts, new_parts, joined_parts}
 use Rattle.cord_core.proofs.OverLemmas.{length-text}
 use Rattle.cord_ec.specs.Gathered.{Growth, IsGathered, Gathered}
 use Rattle.cord_ec.proofs.Leaves.{gathered_own}
-use Rattle.cord_ec.proofs.MadeLemmas.{made_kept}
-use Rattle.cord_edit.proofs.Halves.{counted, one_cord, halves_few, parted, put_between, put_after, put_in_front, put_in_all}
+use Rattle.cord_ec.proofs.MadeLemmas.{made_from}
+use Rattle.cord_edit.proofs.Halves.{counted, one_cord, halves_few, parted, put_between, put_after, put_in_prefix, put_in_all}
 use Rattle.cord_edit.proofs.parted.Parted.splice.Goals as goal
 
 pub returns-then-len-eq0-clause-len : goal.returns-then-len-eq0-clause-len
@@ -31,7 +31,7 @@ pub returns-then-len-eq0-clause-gathered : goal.returns-then-len-eq0-clause-gath
 returns-then-len-eq0-clause-gathered c =
     subst (λ (old : List Part). Gathered 1 (old ++ parts_of c.args.middle.now) (parts_of c.splice.new.self ++ parts_of c.self.inside.back))
     (ap (λ (e : Growth). e.parts) c.self.view_is)
-    (put_in_front (parts_of c.self.inside.front) (parts_of c.self.inside.back) (parts_of c.args.middle.now) (parts_of c.splice.new.self)
+    (put_in_prefix (parts_of c.self.inside.prefix) (parts_of c.self.inside.back) (parts_of c.args.middle.now) (parts_of c.splice.new.self)
     c.in_ok-splice.ensures.few c.in_ok-splice.ensures.from_there)
 
 pub invariant_of-self-2 : goal.invariant_of-self-2
@@ -49,5 +49,5 @@ returns-clause-gathered c =
     subst (λ (n : Option Node). Gathered 1 (c.args.self.now.parts ++ m) (parts_of c.splice-2.new.self ++ parts_of n)) (sym c.empty.ensures)
     (subst (λ (ps : List Part). Gathered 1 (c.args.self.now.parts ++ m) ps) (sym (append-nil (parts_of c.splice-2.new.self)))
     (subst (λ (old : List Part). Gathered 1 (old ++ m) (parts_of c.splice-2.new.self)) (ap (λ (e : Growth). e.parts) c.self.view_is)
-    (put_in_all (parts_of c.self.inside.front ++ parts_of c.self.inside.back) m (parts_of c.in_ok-all.all) (parts_of c.splice-2.new.self)
+    (put_in_all (parts_of c.self.inside.prefix ++ parts_of c.self.inside.back) m (parts_of c.in_ok-all.all) (parts_of c.splice-2.new.self)
     c.in_ok-all.ensures.parts_from c.in_ok-splice-2.ensures.few c.in_ok-splice-2.ensures.from_there)))

@@ -11,8 +11,8 @@ use Rattle.cord_core.proofs.Splices.{old_parts, new_parts, joined_parts}
 use Rattle.cord_core.proofs.OverLemmas.{length-text}
 use Rattle.cord_ec.specs.Gathered.{Growth, IsGathered, Gathered}
 use Rattle.cord_ec.proofs.Leaves.{gathered_own}
-use Rattle.cord_ec.proofs.MadeLemmas.{made_kept}
-use Rattle.cord_edit.proofs.Halves.{counted, halves_few, parted, put_between, put_after, put_in_front, put_in_all}
+use Rattle.cord_ec.proofs.MadeLemmas.{made_from}
+use Rattle.cord_edit.proofs.Halves.{counted, halves_few, parted, put_between, put_after, put_in_prefix, put_in_all}
 use Rattle.cord_edit.proofs.parted.Parted.splice_parted.Goals as goal
 
 pub halves-requires-clause-inside : goal.halves-requires-clause-inside
@@ -20,33 +20,33 @@ halves-requires-clause-inside c = omega (arith, c.requires.inside, c.self.invari
 
 pub invariant_of-self : goal.invariant_of-self
 invariant_of-self c =
-    let limit : text_len c.in_ok-longer.longer + text_len c.in_ok-front.back ≤ MAX_LEN =
+    let limit : text_len c.in_ok-longer.longer + text_len c.in_ok-prefix.back ≤ MAX_LEN =
     omega (
       arith,
       c.in_ok-longer.ensures.len,
-      c.in_ok-front.ensures.front_len,
-      c.in_ok-front.ensures.back_len,
+      c.in_ok-prefix.ensures.prefix_len,
+      c.in_ok-prefix.ensures.back_len,
       c.requires.within_limit,
       c.self.invariant.1,
       ap (λ (e : Growth). length e.text) c.self.view_is,
     ) in
-    (limit, counted c.in_ok-longer.longer c.in_ok-front.back c.in_ok-longer.ensures.sound c.in_ok-front.ensures.back_sound)
+    (limit, counted c.in_ok-longer.longer c.in_ok-prefix.back c.in_ok-longer.ensures.sound c.in_ok-prefix.ensures.back_sound)
 
 pub returns-clause-len : goal.returns-clause-len
-returns-clause-len c = counted c.in_ok-longer.longer c.in_ok-front.back c.in_ok-longer.ensures.sound c.in_ok-front.ensures.back_sound
+returns-clause-len c = counted c.in_ok-longer.longer c.in_ok-prefix.back c.in_ok-longer.ensures.sound c.in_ok-prefix.ensures.back_sound
     ∙ omega (
       arith,
       c.in_ok-longer.ensures.len,
-      c.in_ok-front.ensures.front_len,
-      c.in_ok-front.ensures.back_len,
+      c.in_ok-prefix.ensures.prefix_len,
+      c.in_ok-prefix.ensures.back_len,
       c.self.invariant.1,
       ap (λ (e : Growth). length e.text) c.self.view_is,
     )
 
 pub returns-clause-gathered : goal.returns-clause-gathered
 returns-clause-gathered c =
-    subst (λ (old : List Part). Gathered 1 (old ++ parts_of c.args.middle.now) (parts_of c.in_ok-longer.longer ++ parts_of c.in_ok-front.back))
+    subst (λ (old : List Part). Gathered 1 (old ++ parts_of c.args.middle.now) (parts_of c.in_ok-longer.longer ++ parts_of c.in_ok-prefix.back))
     (ap (λ (e : Growth). e.parts) c.self.view_is)
-    (put_after (parts_of c.self.inside.front ++ parts_of c.self.inside.back) (parts_of c.args.middle.now) (parts_of c.in_ok-front.front)
-    (parts_of c.in_ok-front.back) (parts_of c.in_ok-longer.longer) c.in_ok-front.ensures.few c.in_ok-front.ensures.front_from
-    c.in_ok-front.ensures.back_from c.in_ok-longer.ensures.parts_from)
+    (put_after (parts_of c.self.inside.prefix ++ parts_of c.self.inside.back) (parts_of c.args.middle.now) (parts_of c.in_ok-prefix.prefix)
+    (parts_of c.in_ok-prefix.back) (parts_of c.in_ok-longer.longer) c.in_ok-prefix.ensures.few c.in_ok-prefix.ensures.prefix_from
+    c.in_ok-prefix.ensures.back_from c.in_ok-longer.ensures.parts_from)

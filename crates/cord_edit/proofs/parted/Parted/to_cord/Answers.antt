@@ -11,12 +11,12 @@ use Rattle.cord_core.proofs.Splices.{old_parts, new_parts, joined_parts}
 use Rattle.cord_core.proofs.OverLemmas.{length-text}
 use Rattle.cord_ec.specs.Gathered.{Growth, IsGathered, Gathered}
 use Rattle.cord_ec.proofs.Leaves.{gathered_own}
-use Rattle.cord_ec.proofs.MadeLemmas.{made_kept}
-use Rattle.cord_edit.proofs.Halves.{counted, halves_few, parted, put_between, put_after, put_in_front, put_in_all}
+use Rattle.cord_ec.proofs.MadeLemmas.{made_from}
+use Rattle.cord_edit.proofs.Halves.{counted, halves_few, parted, put_between, put_after, put_in_prefix, put_in_all}
 use Rattle.cord_edit.proofs.parted.Parted.to_cord.Goals as goal
 
 pub returns-clause-gathered : goal.returns-clause-gathered
 returns-clause-gathered c = subst (λ (old : List Part). Gathered 0 old (parts_of c.in_ok-cord.cord))
     (ap (λ (e : Growth). e.parts) c.self.view_is)
-    (made_kept IsGathered gathered_own (parts_of c.self.inside.front ++ parts_of c.self.inside.back) (parts_of c.in_ok-cord.cord)
+    (made_from IsGathered gathered_own (parts_of c.self.inside.prefix ++ parts_of c.self.inside.back) (parts_of c.in_ok-cord.cord)
     c.in_ok-cord.ensures.parts_from)

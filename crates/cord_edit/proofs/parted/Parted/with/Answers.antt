@@ -11,8 +11,8 @@ use Rattle.cord_core.proofs.Splices.{old_parts, new_parts, joined_parts}
 use Rattle.cord_core.proofs.OverLemmas.{length-text}
 use Rattle.cord_ec.specs.Gathered.{Growth, IsGathered, Gathered}
 use Rattle.cord_ec.proofs.Leaves.{gathered_own}
-use Rattle.cord_ec.proofs.MadeLemmas.{made_kept}
-use Rattle.cord_edit.proofs.Halves.{counted, halves_few, parted, put_between, put_after, put_in_front, put_in_all}
+use Rattle.cord_ec.proofs.MadeLemmas.{made_from}
+use Rattle.cord_edit.proofs.Halves.{counted, halves_few, parted, put_between, put_after, put_in_prefix, put_in_all}
 use Rattle.cord_edit.proofs.parted.Parted.with.Goals as goal
 
 pub halves-requires-clause-inside : goal.halves-requires-clause-inside
@@ -21,8 +21,8 @@ halves-requires-clause-inside c = omega (arith, c.requires.inside, c.self.invari
 pub joined-requires : goal.joined-requires
 joined-requires c = omega (
   arith,
-  c.in_ok-front.ensures.front_len,
-  c.in_ok-front.ensures.back_len,
+  c.in_ok-prefix.ensures.prefix_len,
+  c.in_ok-prefix.ensures.back_len,
   c.requires.within_limit,
   c.self.invariant.1,
   ap (λ (e : Growth). length e.text) c.self.view_is,
@@ -30,23 +30,23 @@ joined-requires c = omega (
 
 pub invariant_of-self : goal.invariant_of-self
 invariant_of-self c =
-    let limit : text_len c.in_ok-front.front + text_len c.in_ok-front.back ≤ MAX_LEN =
+    let limit : text_len c.in_ok-prefix.prefix + text_len c.in_ok-prefix.back ≤ MAX_LEN =
     omega (
       arith,
-      c.in_ok-front.ensures.front_len,
-      c.in_ok-front.ensures.back_len,
+      c.in_ok-prefix.ensures.prefix_len,
+      c.in_ok-prefix.ensures.back_len,
       c.requires.within_limit,
       c.self.invariant.1,
       ap (λ (e : Growth). length e.text) c.self.view_is,
     ) in
-    (limit, counted c.in_ok-front.front c.in_ok-front.back c.in_ok-front.ensures.front_sound c.in_ok-front.ensures.back_sound)
+    (limit, counted c.in_ok-prefix.prefix c.in_ok-prefix.back c.in_ok-prefix.ensures.prefix_sound c.in_ok-prefix.ensures.back_sound)
 
 pub returns-clause-cut_len : goal.returns-clause-cut_len
-returns-clause-cut_len c = counted c.in_ok-front.front c.in_ok-front.back c.in_ok-front.ensures.front_sound c.in_ok-front.ensures.back_sound
+returns-clause-cut_len c = counted c.in_ok-prefix.prefix c.in_ok-prefix.back c.in_ok-prefix.ensures.prefix_sound c.in_ok-prefix.ensures.back_sound
     ∙ omega (
       arith,
-      c.in_ok-front.ensures.front_len,
-      c.in_ok-front.ensures.back_len,
+      c.in_ok-prefix.ensures.prefix_len,
+      c.in_ok-prefix.ensures.back_len,
       c.self.invariant.1,
       ap (λ (e : Growth). length e.text) c.self.view_is,
     )
@@ -55,13 +55,13 @@ pub returns-clause-gathered : goal.returns-clause-gathered
 returns-clause-gathered c =
     subst (λ (old : List Part). Gathered 1 (old ++ parts_of c.args.middle.now) (parts_of c.in_ok-all.all))
     (ap (λ (e : Growth). e.parts) c.self.view_is)
-    (put_between (parts_of c.self.inside.front ++ parts_of c.self.inside.back) (parts_of c.args.middle.now)
-    (parts_of c.in_ok-front.front) (parts_of c.in_ok-front.back) (parts_of c.in_ok-all.all) c.in_ok-front.ensures.few
-    c.in_ok-front.ensures.front_from c.in_ok-front.ensures.back_from c.in_ok-all.ensures.few c.in_ok-all.ensures.from_there)
+    (put_between (parts_of c.self.inside.prefix ++ parts_of c.self.inside.back) (parts_of c.args.middle.now)
+    (parts_of c.in_ok-prefix.prefix) (parts_of c.in_ok-prefix.back) (parts_of c.in_ok-all.all) c.in_ok-prefix.ensures.few
+    c.in_ok-prefix.ensures.prefix_from c.in_ok-prefix.ensures.back_from c.in_ok-all.ensures.few c.in_ok-all.ensures.from_there)
 
 pub returns-clause-stays : goal.returns-clause-stays
 returns-clause-stays c =
-    subst (λ (old : List Part). Gathered 1 old (parts_of c.in_ok-front.front ++ parts_of c.in_ok-front.back))
+    subst (λ (old : List Part). Gathered 1 old (parts_of c.in_ok-prefix.prefix ++ parts_of c.in_ok-prefix.back))
     (ap (λ (e : Growth). e.parts) c.self.view_is)
-    (parted (parts_of c.self.inside.front ++ parts_of c.self.inside.back) (parts_of c.in_ok-front.front) (parts_of c.in_ok-front.back)
-    c.in_ok-front.ensures.few c.in_ok-front.ensures.front_from c.in_ok-front.ensures.back_from)
+    (parted (parts_of c.self.inside.prefix ++ parts_of c.self.inside.back) (parts_of c.in_ok-prefix.prefix) (parts_of c.in_ok-prefix.back)
+    c.in_ok-prefix.ensures.few c.in_ok-prefix.ensures.prefix_from c.in_ok-prefix.ensures.back_from)
