@@ -32,11 +32,7 @@ pub(crate) fn close_output<S: Sink>(own: End, sink: &mut S) -> End
 {
     match own {
         End::WriteFailed(_) => own,
-        End::ReadFailed(_) => {
-            let _ = sink.finish();
-            own
-        }
-        End::NoMemory(_) => {
+        End::ReadFailed(_) | End::NoMemory(_) => {
             let _ = sink.finish();
             own
         }

@@ -2,8 +2,8 @@ use Rattle.std.proofs.Common.{rules}
 use Rattle.cord_run.proofs.runner.ends.close_output.Goals as goal
 
 -- each of these is broken by a must-fail edit
-pub returns-in-NoMemory-clause-closes : goal.returns-in-NoMemory-clause-closes
-returns-in-NoMemory-clause-closes g c = search rules
+pub returns-in-ReadFailed-clause-closes : goal.returns-in-ReadFailed-clause-closes
+returns-in-ReadFailed-clause-closes g c = search rules
 
 pub returns-in-Ok-clause-closes : goal.returns-in-Ok-clause-closes
 returns-in-Ok-clause-closes g c = search rules
