@@ -62,12 +62,12 @@ exchanged-self-inside-requires-clause-within c =
 pub invariant_of-self : goal.invariant_of-self
 invariant_of-self c = record {
   groups = sum_changed block_counts (c.args.index / 64) c.args.index c.self.inside.sums.items c.self.inside.blocks.items c.args.block c.index.result.now c.index-sum.result.now c.counts-old.result c.counts-new.result
-    c.self.invariant.groups c.index-sum.ensures (c.counts-old.ensures ∙ ap block_counts c.index.ensures) c.counts-new.ensures (here c.self.inside.sums.items c.self.inside.blocks.items c.args.self.now c.args.index c.self.invariant.groups c.self.view_is c.requires.inside)
-    (omega arith) (omega arith) (omega (arith, c.requires.inside, ap (λ (y : List Block). length y) c.self.view_is))
-    c.exchanged-changed.result c.exchanged-changed.ensures;
+      c.self.invariant.groups c.index-sum.ensures (c.counts-old.ensures ∙ ap block_counts c.index.ensures) c.counts-new.ensures (here c.self.inside.sums.items c.self.inside.blocks.items c.args.self.now c.args.index c.self.invariant.groups c.self.view_is c.requires.inside)
+      (omega arith) (omega arith) (omega (arith, c.requires.inside, ap (λ (y : List Block). length y) c.self.view_is))
+      c.exchanged-changed.result c.exchanged-changed.ensures;
   groups_of_groups = sum_changed own (c.args.index / 64 / 64) (c.args.index / 64) c.self.inside.tops.items c.self.inside.sums.items c.exchanged-changed.result c.index-sum.result.now c.index-2.result.now c.index-sum.result.now c.exchanged-changed.result
-    c.self.invariant.groups_of_groups c.index-2.ensures c.index-sum.ensures refl (above c.self.inside.tops.items c.self.inside.sums.items (c.args.index / 64) c.self.invariant.groups_of_groups (here c.self.inside.sums.items c.self.inside.blocks.items c.args.self.now c.args.index c.self.invariant.groups c.self.view_is c.requires.inside)) (omega arith) (omega arith) (here c.self.inside.sums.items c.self.inside.blocks.items c.args.self.now c.args.index c.self.invariant.groups c.self.view_is c.requires.inside)
-    c.exchanged.result c.exchanged.ensures;
+      c.self.invariant.groups_of_groups c.index-2.ensures c.index-sum.ensures refl (above c.self.inside.tops.items c.self.inside.sums.items (c.args.index / 64) c.self.invariant.groups_of_groups (here c.self.inside.sums.items c.self.inside.blocks.items c.args.self.now c.args.index c.self.invariant.groups c.self.view_is c.requires.inside)) (omega arith) (omega arith) (here c.self.inside.sums.items c.self.inside.blocks.items c.args.self.now c.args.index c.self.invariant.groups c.self.view_is c.requires.inside)
+      c.exchanged.result c.exchanged.ensures;
   all = c.exchanged-self-inside.ensures ∙ all_is block_counts c.args.index c.self.inside.blocks.items c.args.block c.index.result.now c.self.inside.all c.counts-old.result c.counts-new.result c.self.invariant.all
-    (c.counts-old.ensures ∙ ap block_counts c.index.ensures) c.counts-new.ensures (omega (arith, c.requires.inside, ap (λ (y : List Block). length y) c.self.view_is));
+      (c.counts-old.ensures ∙ ap block_counts c.index.ensures) c.counts-new.ensures (omega (arith, c.requires.inside, ap (λ (y : List Block). length y) c.self.view_is));
 }
