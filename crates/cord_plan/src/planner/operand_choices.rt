@@ -159,7 +159,10 @@ fn expression_at(operations: &[Operation], place: usize) -> Option<&Expr>
     ensures { option_map (λ e. expr_view e.now) result
         ≡ expression_in (map operation_expression (map operation_view operations.now)) place }
 {
-    expression_of(operations.get(place)?)
+    match operations.get(place) {
+        Some(operation) => expression_of(operation),
+        None => None,
+    }
 }
 
 // The expression of an operation, where it has one.
