@@ -235,7 +235,7 @@ module _ (s : List Statement) (d : Decisions) (ok : MeetsConditions s d) (limit 
               (built_agrees limit files (Related (p + 1)) f h z line made r to_build built
               (λ t e. inv_set s d ok limit p l here simple_shape f h inv z target t (Text t) (knows t e) refl))
 
-        -- a line that isn't simple is measured where its target is dead
+        -- of a line that isn't simple the length alone is computed where its target is dead
         other_agrees : is_simple l ≡ false → (made : Made) (r : Result (List ℕ) FaultKind) → act limit files l f ≡ gives_text f z r
             → all_texts h (texts_to_build made) ≡ true → made_text limit files made (plain h) ≡ r →
             all_texts h (texts_to_measure made) ≡ true → made_length limit files made h ≡ length_of r

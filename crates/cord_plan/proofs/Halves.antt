@@ -57,7 +57,7 @@ module _ (all : plain.Exprs) (o : Option (Bor Members)) (rest : List Shared)
       ap weights (halves_Some prefix is) ∙ weights_append (members_view prefix.now) (members_of (map shared_view rest)) in
       omega (arith, more, sum)
 
-  -- so the measures of walks over members fall
+  -- so what bounds the walks over members falls
   pub rest_falls : weights (members_of (map shared_view rest)) < weights all + 1
   rest_falls = let no_heavier : weights (members_of (map shared_view rest)) ≤ weights all = rest_lighter in omega (arith, no_heavier)
 

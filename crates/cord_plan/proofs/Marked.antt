@@ -1,4 +1,4 @@
--- The operations of a script, made line by line: those that a later line takes the expression of only measure from then on.
+-- The operations of a script, made line by line: those that a later line takes the expression of compute the length alone from then on.
 use Rattle.std.proofs.Common.{◌≡◌, ℕ, zero, suc, ◌+◌, ◌<◌, ◌≤◌, Bool, true, false, ◌||◌, List, [], ◌∷◌, ◌++◌, map, drop, take, length}
 use Rattle.std.proofs.Common.{get_or, set, Option, Some, None, refl, sym, ap, ◌∙◌, subst, arith, length-append, eq-eqb}
 use Rattle.std.specs.Prelude.{◌==◌, slice_get}
@@ -61,7 +61,7 @@ measured_given false true false line x e = refl
 measured_given false false true line x e = refl
 measured_given false false false line x e = refl
 
--- a text that no expression makes is measured only where its target is dead
+-- of a text that no expression makes the length alone is computed only where its target is dead
 measured_other : (v dead : Bool) (line : ℕ) (x : List ℕ) (made : Made) → made_expression made ≡ None →
     measured v (gives dead line x made) ≡ gives dead line x made
 measured_other true true line x made none = refl
@@ -147,7 +147,7 @@ measured_there p (suc k) a (q ∷ os) o place lt is =
     λ i. sym (ap (λ (v : Bool). measured (v || false) (operation_view q)) other ∙ measured_false (operation_view q)) i
     ∷ measured_there (p + 1) k a os o next below is i
 
--- an operation that only measures now
+-- an operation that computes the length alone now
 pub measured_at : (os : List program.Operation) (k : ℕ) (o r : program.Operation) → k < length os → o ≡ get_or os k o →
     operation_view r ≡ measured true (operation_view o) →
     map operation_view (set os k r) ≡ measured_from 0 (Some k ∷ []) (map operation_view os)

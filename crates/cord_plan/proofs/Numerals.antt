@@ -42,7 +42,7 @@ greatest_length =
     ends_with 1099511627775 (1 ∷ 0 ∷ 9 ∷ 9 ∷ 5 ∷ 1 ∷ 1 ∷ 6 ∷ 2 ∷ 7 ∷ 7 ∷ 7 ∷ []) (omega arith) d12 in
     figures_of 1099511627775 (1 ∷ 0 ∷ 9 ∷ 9 ∷ 5 ∷ 1 ∷ 1 ∷ 6 ∷ 2 ∷ 7 ∷ 7 ∷ 7 ∷ 5 ∷ []) d13
 
--- a plan whose first line measures n bytes, in parts that don't depend on n
+-- a plan whose first line computes the length of n bytes, in parts that don't depend on n
 abbrev pub zeros : ℕ → Expr
 zeros n = run (numeral 0) (numeral n)
 

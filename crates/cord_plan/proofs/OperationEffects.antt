@@ -34,7 +34,7 @@ module _ (limit : ℕ) (files : FileSystem) (Related : State → Option Holding 
         pick (Ok t) e = (refl, related t e)
         pick (Err kind) e = refl
 
-    -- what is measured is its length
+    -- what is computed is its length
     pub measured_agrees : all_texts h (texts_to_measure made) ≡ true → made_length limit files made h ≡ length_of r →
         ((t : List ℕ) → r ≡ Ok t → Related (after t) (Some (gets h z (Long (length t)))))
         → Agree Related (gives_text s z r) (does limit files (Measure line z made) h)

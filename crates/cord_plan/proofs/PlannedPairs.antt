@@ -75,7 +75,7 @@ measured_by dead paired line x t e first named =
     ap (λ (v : Bool). gives v line x (Joined e)) (or_right dead paired first)
     ∙ ap (λ (y : List ℕ). Measure line y (Joined e)) (sym (same_bytes t x named))
 
--- the first line of a pair only measures the name that it assigns
+-- the first line of a pair computes the length alone of the name that it assigns
 only_measures : (l : Statement) (e : Expr) (dead paired : Bool) (t : List ℕ) → HasDefining (defining l) → assigns l t ≡ true → paired ≡ true
     →
     operation l e dead paired ≡ Measure (line_of l) t (Joined e)
@@ -145,7 +145,7 @@ module _ (s : List Statement) (later : List ℕ → ℕ → Bool) where
           (has_defining b (Some e, pair.choices) pair.line e pair.is_expression pair.is_line refl),
     )
 
-    -- the earlier one only measures the name
+    -- the earlier one computes the name's length alone
     pub earlier_operation : (line : ℕ) × (slice_get (planned s later) a ≡ Some (Measure line t (Joined pair.earlier)))
     earlier_operation =
         let earlier : Earlier a t pair.earlier =

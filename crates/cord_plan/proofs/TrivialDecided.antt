@@ -1,4 +1,4 @@
--- The trivial plan is the case without pairs and measures.
+-- The trivial plan is the case without pairs, where no length alone is computed.
 use Rattle.std.proofs.Common.{◌≡◌, ℕ, suc, ◌+◌, false, List, [], ◌∷◌, Option, Some, None, refl, sym, ap, ◌∙◌, arith}
 use Rattle.std.specs.Prelude.{slice_get}
 use Rattle.cord_syntax.specs.declared.statements.Statement.{Statement}

@@ -1,4 +1,4 @@
--- The conditions on what a plan decides under which it keeps the meaning of its script: on dead targets, on measured ones, and on inlined
+-- The conditions on what a plan decides under which it keeps the meaning of its script: on dead targets, on those whose length alone is computed, and on inlined
 -- pairs.
 use Rattle.std.specs.Prelude.{◌≡◌, ◌<◌, ◌≤◌, ◌⊎◌, ℕ, ◌+◌, Bool, true, false, not, ◌&&◌, List, [], ◌∷◌, map, Option, Some, None, slice_get}
 use Rattle.cord_syntax.specs.declared.statements.Statement.{Statement}
@@ -10,7 +10,7 @@ use Rattle.cord_plan.specs.Liveness.{NotLive}
 use Rattle.cord_plan.specs.Inlined.{expr_with, is_block_at, preserves}
 use Rattle.cord_plan.specs.Planned.{Operation, operation}
 
--- what a plan decides of each line: its expression, whether it only measures because its target is dead, or because it is the first of a
+-- what a plan decides of each line: its expression, whether it computes the length alone because its target is dead, or because it is the first of a
 -- inlined pair, and the line whose expression stands for an operand
 pub record Decisions : Type 0 where
   pub exprs : ℕ → Expr
@@ -100,6 +100,6 @@ pub record MeetsConditions (s : List Statement) (d : Decisions) : Type 0 where
       ≡ Some (d.exprs p)
   -- each source is that of an inlined pair
   pub inlined : (a b : ℕ) (x : List ℕ) → d.source b x ≡ Some a → IsInlined s d a b x
-  -- what is measured is dead, or is the first of an inlined pair
+  -- a target whose length alone is computed is dead, or is the first of an inlined pair
   pub dead : (p : ℕ) (x : List ℕ) → d.dead p ≡ true → assigns_at (slice_get s p) x ≡ true → NotLive s x p
   pub paired : (p : ℕ) (x : List ℕ) → d.paired p ≡ true → assigns_at (slice_get s p) x ≡ true → (b : ℕ) × (d.source b x ≡ Some p)

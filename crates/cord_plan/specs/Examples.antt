@@ -69,7 +69,7 @@ plan_text k s = text_of_plan (plan_of k s)
 abbrev pub plan_after : List Operation → FileSystem → ℕ → Config (Option Holding)
 plan_after plan files k = after (plan_rules MAX_LEN files) MAX_TURNS plan k (Some start_holding)
 
--- a plan that no script has: it puts a name that it only measured
+-- a plan that no script has: it puts a name of which it only computed the length
 abbrev pub measured_and_put : List Operation
 measured_and_put =
     Measure 1 (codes "a") (Literal (codes "abc"))
@@ -77,11 +77,11 @@ measured_and_put =
     ∷ Write 3 (name (codes "a"))
     ∷ []
 
--- a plan that measures a file that isn't there
+-- a plan that computes the length of a file that isn't there
 abbrev pub missing_file_measured : List Operation
 missing_file_measured = Measure 1 (codes "x") (OfEager (codes "p")) ∷ []
 
--- a plan that measures a `cat` whose text would be too long
+-- a plan that computes the length of a `cat` whose text would be too long
 abbrev pub too_long_measured : List Operation
 too_long_measured =
     Measure 1 (codes "a") (Joined (run (numeral 0) (numeral 1099511627775)))

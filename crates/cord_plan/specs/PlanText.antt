@@ -93,7 +93,7 @@ counted target word operands = spaced (codes "number" ∷ target ∷ called word
 abbrev pub grows : List ℕ → List ℕ → List ℕ
 grows e what = spaced (codes "ec" ∷ e ∷ what ∷ [])
 
--- a statement that is kept; those that are built, measured or written are no such ones
+-- a statement that is kept; those that build, write or compute the length alone are no such ones
 abbrev pub statement : Statement → List ℕ
 statement (Len line n x) = counted n (codes "len") (x ∷ [])
 statement (Fetch line n x i) = counted n (codes "fetch") (x ∷ number i ∷ [])

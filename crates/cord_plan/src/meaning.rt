@@ -24,7 +24,7 @@ pub fn trivial_plans_keep_the_meaning()
         plan_end limit most (trivial s) files ≡ end_within limit most s files }
 {}
 
-/// Each plan that meets the conditions on dead targets, on what is measured and on inlined pairs is never stuck, and
+/// Each plan that meets the conditions on dead targets, on lengths alone and on inlined pairs is never stuck, and
 /// has, over all files and with all limits, member by member the lines and the puts of its script, and its end.
 pub fn plans_keep_the_meaning()
     ensures never_stuck { (limit most : ℕ) (s : List Statement) (files : FileSystem) (d : Decisions) →
@@ -39,7 +39,7 @@ pub fn plans_keep_the_meaning()
 
 /// The plan of a script, given what is read later, is one that meets the conditions, wherever no name that is assigned
 /// as a number or an extensible cord is read as a cord; so it is in every script that is read. The trivial plan is the
-/// one without pairs and measures.
+/// one without pairs and lengths alone.
 pub fn planned_scripts_meet_the_conditions()
     ensures meets { (s : List Statement) (later : List ℕ → ℕ → Bool) → IsLater s later → HasKinds s → (d : Decisions) ×
         MeetsConditions s d × (planned s later ≡ decided d s) }

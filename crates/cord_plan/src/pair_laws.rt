@@ -26,7 +26,7 @@ pub fn pairs_leave_their_name_out()
         (t : List ℕ) (e : Expr) → ReadsBy g text s → IsPair s later a b t e → has (names e) t ≡ false }
 {}
 
-/// An inlined pair in a plan: the earlier line only measures the name, and the later operation has the pair's
+/// An inlined pair in a plan: the earlier line computes the name's length alone, and the later operation has the pair's
 /// expression.
 pub fn pairs_are_planned()
     ensures earlier { (s : List Statement) (later : List ℕ → ℕ → Bool) (a b : ℕ) (t : List ℕ) (e : Expr) →

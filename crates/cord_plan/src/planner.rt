@@ -44,7 +44,7 @@ fn is_dead(statement: &Statement, number: Option<usize>, place: usize, later: &L
 }
 
 // The operations of a script's lines, and which of them extend the one before. Where a line takes the expression of an
-// earlier one, the earlier one's operation turns from building to measuring.
+// earlier one, the earlier one's operation builds no more, and computes the length alone.
 fn operations_of(
     alloc: Global,
     statements: &[Statement],

@@ -1,4 +1,4 @@
--- Lengths that are known without being measured.
+-- Lengths that are known without being computed.
 use Rattle.std.proofs.Common.{◌≡◌, ◌+◌, ◌-◌, ◌^◌, ℕ, suc, Bool, true, false, ◌&&◌, List, [], ◌∷◌, ◌++◌, Result, Ok, Err, refl}
 use Rattle.std.proofs.Common.{length, map, sym, ap, subst, ◌∙◌, arith}
 use Rattle.std.specs.Prelude.{Some, IfOk, min, not, slice_get, if◌then◌else◌}
@@ -84,7 +84,7 @@ module _ (old new : List Entry) (x : List ℕ) (len : ℕ) (has : HasContent x (
   same_operand (Numeral z) = refl
   same_operand (Named y) = has.numbers y
 
-  -- what was measured for it stays so long
+  -- what had its length computed for it stays so long
   measured_stays : (line : ℕ) (made : Made) → IsExtent old made len → StaysKnown new (Measure line x made)
   measured_stays line (Joined (cat es)) is = λ free.
       extent_stays old new x other_length same_operand (cat es) free ∙ is ∙ ap (λ (n : ℕ). Ok n) (sym own_length)

@@ -106,7 +106,7 @@ pub record IsRun (z w : ℤ) (len : ℕ) : Type 0 where
   pub count : as_index w ≡ Ok len
   pub short : len ≤ MAX_LEN
 
--- copies that are made are those that are measured
+-- copies that are made are those whose length is computed
 pub record AreMade (z w : ℤ) (whole : List ℕ) : Type 0 where
   pub byte : ℕ
   pub count : ℕ

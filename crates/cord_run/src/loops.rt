@@ -1,3 +1,3 @@
-//! Append buffers: texts of names that grow in place.
+//! Append buffers: texts that grow under their names.
 pub(crate) mod growth;
 mod window;

@@ -71,7 +71,7 @@ pub(crate) fn give_cord<F: Files>(
     }
 }
 
-/// Gives a name the length alone of what it is made of; a length that is known isn't measured. Refused so too.
+/// Gives a name the length alone of what it is made of; a length that is known isn't computed. Refused so too.
 #[inline(always)]
 pub(crate) fn give_length<F: Files>(
     alloc: Global,
@@ -225,7 +225,7 @@ fn measure_of_names(
     }
 }
 
-// The length of an expression, or its fault. It is measured where it isn't known.
+// The length of an expression, or its fault. It is computed where it isn't known.
 #[inline(always)]
 fn joined_length(expression: &Expr, known: Option<u64>, store: &Store) -> Result<u64, FaultKind>
     requires { IfSome known (IsKnownLength store.now.entries.items (plan.Joined (expr_view expression.now))) }

@@ -31,16 +31,16 @@ ahead_there c None j s valid h a = let bad : false ≡ true = valid in cc
 ahead_there c (Some i) j s valid h a = rw (index_inside c j h) at a
 
 -- the same of what lies after it
-pub behind_some : (c : Option Node) (i : Option ℕ) (j : ℕ) (r : Option Span) → IsSome i → j < text_len c →
+pub after_some : (c : Option Node) (i : Option ℕ) (j : ℕ) (r : Option Span) → IsSome i → j < text_len c →
     ((s : Span) → r ≡ Some s → ⊥) → IsBehindOf c (moved_index c i j) r → ⊥
-behind_some c i j (Some s) valid h never a = never s refl
-behind_some c None j None valid h never a = let bad : false ≡ true = valid in cc
-behind_some c (Some i) j None valid h never a = rw (index_inside c j h) at a
+after_some c i j (Some s) valid h never a = never s refl
+after_some c None j None valid h never a = let bad : false ≡ true = valid in cc
+after_some c (Some i) j None valid h never a = rw (index_inside c j h) at a
 
-pub behind_there : (c : Option Node) (i : Option ℕ) (j : ℕ) (s : Span) → IsSome i → j < text_len c →
+pub after_there : (c : Option Node) (i : Option ℕ) (j : ℕ) (s : Span) → IsSome i → j < text_len c →
     IsBehindOf c (moved_index c i j) (Some s) → EndsAt c j s
-behind_there c None j s valid h a = let bad : false ≡ true = valid in cc
-behind_there c (Some i) j s valid h a = rw (index_inside c j h) at a
+after_there c None j s valid h a = let bad : false ≡ true = valid in cc
+after_there c (Some i) j s valid h a = rw (index_inside c j h) at a
 
 -- a span that ends before a place
 pub ends_there : (c : Option Node) (end : ℕ) (s : Span) → 0 < end → EndsAt c (end - 1) s → IsSpanOf c (end - span_len s) s

@@ -9,7 +9,7 @@ use Rattle.cord_script.specs.FirstErrors.{FirstError}
 use Rattle.cord_script.specs.Script.{ReadsUpTo}
 use Rattle.cord_script.specs.declared.refusals.Refusal.{Refusal}
 use Rattle.cord_script.specs.declared.refusals.RefusalKind.TheVariants.{NoMemory}
-use Rattle.cord_shell.specs.Drives.{IsRun, IsPlanShown, Serves}
+use Rattle.cord_shell.specs.Drives.{IsRun, IsPlanPrinted, Serves}
 use Rattle.cord_shell.specs.inner.Outcomes.{outcome_of}
 use Rattle.cord_shell.specs.Reports.{sink_of}
 use Rattle.cord_shell.specs.declared.outcome.Outcome.{Outcome}
@@ -26,7 +26,7 @@ answered consistent b before after n (Err refusal) runs cause same unasked first
 
 module _ (consistent : FileSystem → Type 0) (path : List ℕ) (unplanned : Bool) (b before after : List ℕ) where
   module _ (n : Counts) (at : (file_system : FileSystem) → consistent file_system → file_at file_system path ≡ Some b) where
-    shows : (outcome : Outcome) → IsPlanShown unplanned b before after (sink_of n) outcome → FilesKept n →
+    shows : (outcome : Outcome) → IsPlanPrinted unplanned b before after (sink_of n) outcome → FilesKept n →
         Serves consistent path unplanned true before after n outcome
     shows (outcomes.Ended end_) h kept = absurd h
     shows (outcomes.Refused refusal) h kept = ((h.0, kept), (λ file_system agrees. (b, at file_system agrees, h.1)))
@@ -51,8 +51,8 @@ module _ (consistent : FileSystem → Type 0) (path : List ℕ) (unplanned : Boo
     went outcomes.HelpUnwritten h = absurd h
     went outcomes.BadCommandLine h = absurd h
 
-    -- a plan that was shown
-    pub printed_at : (show_plan : Bool) (outcome : Outcome) → show_plan ≡ true → IsPlanShown unplanned b before after (sink_of n) outcome →
+    -- a plan that was printed
+    pub printed_at : (show_plan : Bool) (outcome : Outcome) → show_plan ≡ true → IsPlanPrinted unplanned b before after (sink_of n) outcome →
         FilesKept n
         → Serves consistent path unplanned show_plan before after n outcome
     printed_at show_plan outcome is h kept = subst (λ (s : Bool). Serves consistent path unplanned s before after n outcome) (sym is)

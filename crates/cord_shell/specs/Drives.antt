@@ -43,12 +43,12 @@ IsRun consistent b before after n (outcomes.Refused refusal) = IsQuiet before af
 IsRun consistent b before after n _ = ⊥
 
 -- what showing its plan, or its trivial plan, comes to
-abbrev pub IsPlanShown : Bool → List ℕ → List ℕ → List ℕ → SinkCounts → Outcome → Type 0
-IsPlanShown unplanned b before after n outcomes.PlanPrinted = (text : List ℕ) × IsPlanText unplanned b text × IsWritten text before after n
-IsPlanShown unplanned b before after n outcomes.PlanUnwritten = (text : List ℕ) × IsPlanText unplanned b text × IsCut text before after n
-IsPlanShown unplanned b before after n (outcomes.Refused refusal) = IsUntouched before after n × IsWrong b refusal
-IsPlanShown unplanned b before after n outcomes.NoMemory = IsUntouched before after n
-IsPlanShown unplanned b before after n _ = ⊥
+abbrev pub IsPlanPrinted : Bool → List ℕ → List ℕ → List ℕ → SinkCounts → Outcome → Type 0
+IsPlanPrinted unplanned b before after n outcomes.PlanPrinted = (text : List ℕ) × IsPlanText unplanned b text × IsWritten text before after n
+IsPlanPrinted unplanned b before after n outcomes.PlanUnwritten = (text : List ℕ) × IsPlanText unplanned b text × IsCut text before after n
+IsPlanPrinted unplanned b before after n (outcomes.Refused refusal) = IsUntouched before after n × IsWrong b refusal
+IsPlanPrinted unplanned b before after n outcomes.NoMemory = IsUntouched before after n
+IsPlanPrinted unplanned b before after n _ = ⊥
 
 -- what a help text comes to
 abbrev pub IsHelp : List ℕ → List ℕ → SinkCounts → Outcome → Type 0
@@ -58,7 +58,7 @@ IsHelp before after n _ = ⊥
 
 -- the script of these bytes is run, or its plan is printed and nothing is run
 abbrev pub Does : (FileSystem → Type 0) → Bool → Bool → List ℕ → List ℕ → List ℕ → Counts → Outcome → Type 0
-Does consistent unplanned true b before after n outcome = IsPlanShown unplanned b before after (sink_of n) outcome × FilesKept n
+Does consistent unplanned true b before after n outcome = IsPlanPrinted unplanned b before after (sink_of n) outcome × FilesKept n
 Does consistent unplanned false b before after n outcome = IsRun consistent b before after n outcome
 
 -- what the script at a path comes to; its bytes are those at the path, in each file system that is consistent with the files

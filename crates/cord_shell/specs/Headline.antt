@@ -98,7 +98,7 @@ IsOut text a Done = IsWritten text [] a.out.taken (sink_of (counts_answered a))
 IsOut text a (WriteFailed line) = (line ≡ 0) × IsCut text [] a.out.taken (sink_of (counts_answered a))
 IsOut text a _ = ⊥
 
--- the plan of the script of these bytes was shown and nothing was run; or it was stopped before
+-- the plan of the script of these bytes was printed and nothing was run; or it was stopped before
 pub record ShowsOver (unplanned : Bool) (b : List ℕ) (statements : List Statement) (a : Answer) : Type 0 where
   pub reported : End
   pub answers : AnswersEnd a reported

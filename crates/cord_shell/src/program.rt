@@ -6,7 +6,7 @@ ghost use Rattle.cord_io.specs.SinkCounts.{sink_counts};
 ghost use Rattle.cord_plan.specs.PlanText.{text_of_plan};
 ghost use Rattle.cord_plan.specs.Views.{operation_view};
 ghost use Rattle.cord_run.specs.Runs.{counts_over};
-ghost use Rattle.cord_shell.specs.Drives.{ComesTo, IsHelp, IsPlan, IsRun, IsPlanShown, Serves};
+ghost use Rattle.cord_shell.specs.Drives.{ComesTo, IsHelp, IsPlan, IsRun, IsPlanPrinted, Serves};
 ghost use Rattle.cord_shell.specs.Outcomes.{message_of, status_of_outcome};
 ghost use Rattle.cord_shell.specs.Reports.{IsCut, IsWritten, Reports};
 ghost use Rattle.cord_shell.specs.declared.outcome.Outcome.{Outcome};
@@ -71,7 +71,7 @@ fn write_plan<S: Sink>(plan: &Plan, out: &mut S) -> Result<(), WriteFault>
 // Shows the plan of a script.
 fn show_script<S: Sink>(alloc: Global, unplanned: bool, script: &[u8], out: &mut S) -> Outcome
     requires out_count { S.failures out.old < 2 ^ 64 - 1 }
-    ensures { IsPlanShown unplanned script.now (S.taken out.old) (S.taken out.new)
+    ensures { IsPlanPrinted unplanned script.now (S.taken out.old) (S.taken out.new)
         (sink_counts ⟦<S as Sink>⟧ out.old out.new) result }
 {
     let read = match parse(alloc, script) {

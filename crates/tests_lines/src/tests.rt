@@ -28,14 +28,14 @@ fn expect_bytes(rt: &impl Abort, line: Option<Text>, bytes: Option<&[u8]>) {
 }
 
 // A line that is looked for: its number, the place where it begins, its bytes, and those without its end.
-struct Row(u64, u64, Option<&'static [u8]>, Option<&'static [u8]>);
+struct Case(u64, u64, Option<&'static [u8]>, Option<&'static [u8]>);
 
-const ROWS: [Row; 5] = [
-    Row(0, 0, Some(b"one\n"), Some(b"one")),
-    Row(1, 4, Some(b"\n"), Some(b"")),
-    Row(2, 5, Some(b"two\n"), Some(b"two")),
-    Row(3, 9, Some(b"last"), Some(b"last")),
-    Row(4, 13, None, None),
+const CASES: [Case; 5] = [
+    Case(0, 0, Some(b"one\n"), Some(b"one")),
+    Case(1, 4, Some(b"\n"), Some(b"")),
+    Case(2, 5, Some(b"two\n"), Some(b"two")),
+    Case(3, 9, Some(b"last"), Some(b"last")),
+    Case(4, 13, None, None),
 ];
 
 #[test]
@@ -43,12 +43,12 @@ fn short_lines(rt: HostRuntime) {
     let alloc = rt.alloc();
     let text = text_of(&rt, alloc, b"one\n\ntwo\nlast");
     let index = index_of(&rt, alloc, &text);
-    for row in &ROWS {
-        assert!(rt; index.line_start(&text, row.0) == row.1);
-        let line = index.line_with_end(alloc, &text, row.0);
-        expect_bytes(&rt, line.expect(&rt, "memory"), row.2);
-        let bare = index.line(alloc, &text, row.0);
-        expect_bytes(&rt, bare.expect(&rt, "memory"), row.3);
+    for case in &CASES {
+        assert!(rt; index.line_start(&text, case.0) == case.1);
+        let line = index.line_with_end(alloc, &text, case.0);
+        expect_bytes(&rt, line.expect(&rt, "memory"), case.2);
+        let bare = index.line(alloc, &text, case.0);
+        expect_bytes(&rt, bare.expect(&rt, "memory"), case.3);
     }
 }
 

@@ -22,7 +22,7 @@ operation_expression (Measure line x made) = made_expression made
 operation_expression (Write line e) = Some e
 operation_expression (Keep l) = None
 
--- the operation that measures, where it is to and builds what an expression makes
+-- the operation that computes the length alone, where it is to and builds what an expression makes
 abbrev pub measured : Bool → Operation → Operation
 measured true (Build line x (Joined e)) = Measure line x (Joined e)
 measured measures o = o
@@ -73,7 +73,7 @@ abbrev pub some_source : ℕ → List (Option ℕ) → Bool
 some_source p [] = false
 some_source p (a ∷ ps) = is_source p a || some_source p ps
 
--- the operations from place p on, of which those at these places only measure
+-- the operations from place p on, of which those at these places compute the length alone
 abbrev pub measured_from : ℕ → List (Option ℕ) → List Operation → List Operation
 measured_from p sources [] = []
 measured_from p sources (o ∷ os) = measured (some_source p sources) o ∷ measured_from (p + 1) sources os
@@ -86,7 +86,7 @@ module _ (s : List Statement) (later : List ℕ → ℕ → Bool) where
     pub taken : (t : plain.ChoiceTable) → Has (map operation_expression old) t →
         sources ≡ map source_of (plain.operands_chosen s later t b l (plain.defining l)).1
 
-  -- and the operations of those lines only measure from then on
+  -- and the operations of those lines compute the length alone from then on
   pub record IsStep (b : ℕ) (l : Statement) (old new : List Operation) (e : Option Expr) : Type 0 where
     pub sources : List (Option ℕ)
     pub next : IsNext b l old sources e

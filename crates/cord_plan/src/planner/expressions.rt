@@ -155,7 +155,7 @@ fn expression_over<'a>(
 }
 
 /// The expression of the next line after those that have these operations. The operations of the lines that it takes
-/// only measure from then on. Refused only with `NoMemory`.
+/// compute the length alone from then on. Refused only with `NoMemory`.
 pub(crate) fn next_expression(
     alloc: Global,
     interner: &mut Interner,

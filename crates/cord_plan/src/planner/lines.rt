@@ -13,7 +13,7 @@ use cord_syntax::{Composition, Derivation, Family, Origin};
 
 /// The operation of a line whose expression is this one.
 ///
-/// A line whose target is dead only measures. Refused only with `NoMemory`.
+/// A line whose target is dead computes the length alone. Refused only with `NoMemory`.
 pub(crate) fn operation_of(
     statement: &Statement,
     expression: Option<Expr>,
@@ -157,7 +157,7 @@ fn printed(
     Ok(Made::Printed(text, format.clone()?, arguments))
 }
 
-// The operation that gives a copy of a name what it is made of, or only measures that.
+// The operation that gives a copy of a name what it is made of, or computes the length of that alone.
 fn copied_assignment(
     measures: bool,
     line: u32,
@@ -176,7 +176,7 @@ fn copied_assignment(
     }
 }
 
-// The operation that gives a name what it is made of, or only measures that.
+// The operation that gives a name what it is made of, or computes the length of that alone.
 fn assignment(measures: bool, line: u32, target: Name, made: Made) -> Operation
     ensures { operation_view result ≡ plan.gives measures line target (made_view made) }
 {

@@ -1,4 +1,4 @@
-// Operations that only measure, since a later line takes their expression.
+// Operations that compute the length alone, since a later line takes their expression.
 ghost use Rattle.std.specs.Prelude.{◌≡◌, ◌∷◌, [], true, IfOk, map};
 ghost use Rattle.cord_plan.specs.inner.Choices.{choice_view};
 ghost use Rattle.cord_plan.specs.inner.Steps.{measured, measured_from, source_of, sources_view};
@@ -42,7 +42,7 @@ pub(crate) fn sources_of(
     Ok(sources)
 }
 
-// The operation that measures where this one builds what an expression makes.
+// The operation that computes the length alone where this one builds what an expression makes.
 fn measured(operation: Operation) -> Operation
     ensures { operation_view result ≡ measured true (operation_view operation) }
 {
@@ -58,14 +58,14 @@ fn measured(operation: Operation) -> Operation
     }
 }
 
-// Lets an operation only measure.
+// Lets an operation compute the length alone.
 fn let_measure(operation: &mut Operation)
     ensures { operation_view operation.new ≡ measured true (operation_view operation.old) }
 {
     replace_with(operation, (), |taken, unit| (measured(taken), unit));
 }
 
-// Lets the operation at a place, where there is one, only measure.
+// Lets the operation at a place, where there is one, compute the length alone.
 fn measure_at(operations: &mut [Operation], source: Option<usize>)
     ensures { map operation_view operations.new ≡ measured_from 0 (source ∷ []) (map operation_view operations.old) }
 {
@@ -79,7 +79,7 @@ fn measure_at(operations: &mut [Operation], source: Option<usize>)
     }
 }
 
-// Lets the operations at these places only measure.
+// Lets the operations at these places compute the length alone.
 fn measure_all(operations: &mut [Operation], sources: &[Option<usize>])
     ensures { map operation_view operations.new ≡ measured_from 0 sources.now (map operation_view operations.old) }
 {

@@ -1,4 +1,4 @@
--- Lengths that are known without being measured.
+-- Lengths that are known without being computed.
 use Rattle.std.specs.Prelude.{◌≡◌, ℕ, List, ⊤, true, Some, Ok, slice_get}
 use Rattle.cord_io.specs.declared.TheConstants.{MAX_LEN}
 use Rattle.cord_meaning.specs.State.{as_length}
@@ -18,7 +18,7 @@ abbrev pub IsKnownLength : List Entry → Made → ℕ → Type 0
 IsKnownLength entries (Joined e) len = extent_in entries e ≡ as_length MAX_LEN len
 IsKnownLength entries _ len = ⊥
 
--- an operation measures what has this length
+-- an operation computes the length alone of what has this length
 abbrev pub IsKnownOf : List Entry → Operation → ℕ → Type 0
 IsKnownOf entries (Measure line x made) len = IsKnownLength entries made len
 IsKnownOf entries _ len = ⊥
@@ -27,12 +27,12 @@ IsKnownOf entries _ len = ⊥
 abbrev pub IsKnownAt : List Entry → List Operation → ℕ → ℕ → Type 0
 IsKnownAt entries operations place len = (o : Operation) → slice_get operations place ≡ Some o → IsKnownOf entries o len
 
--- members that an operation measured together are still as long as what is known of its target, where they don't name that
+-- members whose length an operation computed together are still as long as what is known of its target, where they don't name that
 abbrev pub StaysKnown : List Entry → Operation → Type 0
 StaysKnown entries (Measure line x (Joined (cat es))) = lacks (names_of es) x ≡ true → extent_in entries (cat es) ≡ Ok (length_in entries x)
 StaysKnown entries _ = ⊤
 
--- these are the members that an operation measures together
+-- these are the members whose length an operation computes together
 abbrev pub Measures : Exprs → Operation → Type 0
 Measures es (Measure line x (Joined (cat others))) = others ≡ es
 Measures es _ = ⊥

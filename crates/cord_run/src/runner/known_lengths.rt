@@ -7,7 +7,7 @@ use crate::store::Store;
 use cord_plan::{Expr, Made, Members, Operation, Plan};
 use cord_script::Name;
 
-/// The length that the operation at the next place is to measure, where the one at this place was done last, and the
+/// The length that the operation at the next place is to compute, where the one at this place was done last, and the
 /// next one joins a name more: the length of this one's target, and that of the name.
 pub(crate) fn known_after(
     plan: &Plan,
@@ -33,7 +33,7 @@ pub(crate) fn known_after(
     Some(len.saturating_add(store.length_of(name)))
 }
 
-// The members that an operation measures together.
+// The members whose length an operation computes together.
 fn measured_members(operation: &Operation) -> Option<&Members>
     ensures { IfSome result (λ members. Measures (members_view members.now) (operation_view operation.now)) }
 {

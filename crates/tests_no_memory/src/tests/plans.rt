@@ -41,7 +41,7 @@ const BOTH_ASSIGN: Planned = Planned {
 };
 
 // That a plan shows a text to a new sink.
-fn expect_shown(rt: &impl Abort, alloc: Global, plan: &Plan, text: &str) {
+fn expect_printed(rt: &impl Abort, alloc: Global, plan: &Plan, text: &str) {
     let mut sink = MemSink::new(alloc);
     assert!(rt; plan.show(&mut sink) == Ok(()));
     expect_bytes(rt, sink.bytes(), text.as_bytes());
@@ -61,7 +61,7 @@ fn expect_shows(rt: &impl Abort, alloc: Global, plan: &Plan, text: &str) {
         Ok(()) => expect_bytes(rt, sink.bytes(), text.as_bytes()),
         Err(error) => {
             expect_part(rt, &sink, error, text);
-            expect_shown(rt, alloc, plan, text);
+            expect_printed(rt, alloc, plan, text);
         }
     }
 }
@@ -81,7 +81,7 @@ fn made(rt: &impl Abort, first: Result<Plan, CordError>, second: Result<Plan, Co
 fn expect_statements(rt: &impl Abort, alloc: Global, script: &Script, case: &Planned) {
     assert!(rt; script.statements().len() == case.lines);
     let unplanned = Plan::trivial(alloc, script).expect(rt, "memory");
-    expect_shown(rt, alloc, &unplanned, case.unplanned);
+    expect_printed(rt, alloc, &unplanned, case.unplanned);
 }
 
 // Makes the plan of a script.
@@ -129,7 +129,7 @@ fn jumps_of(rt: &impl Abort, alloc: Global, made: &Plan, text: &str) -> Vec<usiz
         Ok(jumps) => jumps,
         Err(error) => {
             expect_no_memory(rt, error);
-            expect_shown(rt, alloc, made, text);
+            expect_printed(rt, alloc, made, text);
             made.jumps(alloc).expect(rt, "memory")
         }
     }

@@ -27,10 +27,10 @@ fn trivial_plan_of(rt: &(impl AllocGlobal + Abort), script: &[u8]) -> Plan {
 }
 
 // What a plan shows.
-fn expect_shown(rt: &(impl AllocGlobal + Abort), name: &str, plan: &Plan, shown: &[u8]) {
+fn expect_printed(rt: &(impl AllocGlobal + Abort), name: &str, plan: &Plan, printed: &[u8]) {
     let mut sink = MemSink::new(rt.alloc());
     let end = plan.show(&mut sink);
-    assert!(rt; end == Ok(()) && sink.bytes() == shown, "{name}");
+    assert!(rt; end == Ok(()) && sink.bytes() == printed, "{name}");
 }
 
 // A name, a script, and what its plan shows.
@@ -105,15 +105,15 @@ const UNPLANNED: &[(&str, &[u8], &[u8])] = &[
 
 #[test]
 fn plans_of_cases(rt: HostRuntime) {
-    for (name, script, shown) in PLANNED {
-        expect_shown(&rt, name, &plan_of(&rt, script), shown);
+    for (name, script, printed) in PLANNED {
+        expect_printed(&rt, name, &plan_of(&rt, script), printed);
     }
 }
 
 #[test]
 fn trivial_plans_of_cases(rt: HostRuntime) {
-    for (name, script, shown) in UNPLANNED {
-        expect_shown(&rt, name, &trivial_plan_of(&rt, script), shown);
+    for (name, script, printed) in UNPLANNED {
+        expect_printed(&rt, name, &trivial_plan_of(&rt, script), printed);
     }
 }
 

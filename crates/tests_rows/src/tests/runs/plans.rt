@@ -7,10 +7,10 @@ use cord_script::{Script, parse};
 use std::process::Abort;
 
 // A plan of `hello` shows its two operations.
-fn expect_shown(rt: &(impl AllocGlobal + Abort), plan: &Plan) {
-    let mut shown = MemSink::new(rt.alloc());
-    assert!(rt; plan.show(&mut shown).is_ok());
-    assert!(rt; shown.bytes() == b"1 build x literal(5)\n2 write x\n".as_slice());
+fn expect_printed(rt: &(impl AllocGlobal + Abort), plan: &Plan) {
+    let mut printed = MemSink::new(rt.alloc());
+    assert!(rt; plan.show(&mut printed).is_ok());
+    assert!(rt; printed.bytes() == b"1 build x literal(5)\n2 write x\n".as_slice());
 }
 
 // Its run writes the text.
@@ -23,7 +23,7 @@ fn expect_run(rt: &(impl AllocGlobal + Abort), plan: &Plan) {
 }
 
 fn expect_hello(rt: &(impl AllocGlobal + Abort), plan: &Plan) {
-    expect_shown(rt, plan);
+    expect_printed(rt, plan);
     expect_run(rt, plan);
 }
 
