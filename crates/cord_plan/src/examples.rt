@@ -39,8 +39,8 @@ pub fn plans_are_computed()
         codes "1 build x literal(1)\n2 number n len(x)\n3 if n gt 1\n4 build x literal(1)\n5 end\n6 write x\n" }
 {}
 
-/// What plans do: the plan of a worked script, a plan that is stuck where it puts a name of which it only computed the length, and
-/// operations for the length alone that meet the faults of their lines.
+/// What plans do: the plan of a worked script, a plan that is stuck where it puts a name of which it only computed the
+/// length, and operations for the length alone that meet the faults of their lines.
 pub fn runs_of_plans_are_computed()
     ensures seam_puts { output (plan_after (plan_of 5 Examples.substr_over_seam) [] 6).seen ≡ codes "cde" }
     ensures seam_ends { (plan_after (plan_of 5 Examples.substr_over_seam) [] 6).ended ≡ Some Done }

@@ -1,5 +1,5 @@
-//! Each kind of definition, built and for its length alone: its length, or why there is none. A name that `len` alone reads is
-//! not built by the plan, and built without one.
+//! Each kind of definition, built and for its length alone: its length, or why there is none. A name that `len` alone
+//! reads is not built by the plan, and built without one.
 use super::{expect_end, lines, numbered, run_way};
 use cord_io::{CutFiles, MemFiles, MemSink};
 use cord_run::{End, FaultKind};
@@ -139,8 +139,8 @@ fn expect_cut(
 }
 
 // A line, so many bytes of a file, those that can be read, whether it is run by its plan, and the end. A file that is
-// there for its length alone isn't read, whatever it is; one that is built is read at once where it is eager, or has at most 131,072
-// bytes.
+// there for its length alone isn't read, whatever it is; one that is built is read at once where it is eager, or has at
+// most 131,072 bytes.
 const CUT: &[(&str, (usize, u64), bool, End)] = &[
     ("eager z \"p\"", (5, 2), false, End::ReadFailed(2)),
     ("lazy z \"p\"", (5, 2), false, End::Done),
