@@ -1,8 +1,5 @@
 use Rattle.std.proofs.Common.{rules}
 use Rattle.cord_c.proofs.edit.zc_nth_line.Goals as goal
 
-pub returns-in-Ok-Some-clause-line : goal.returns-in-Ok-Some-clause-line
-returns-in-Ok-Some-clause-line c = search rules
-
 pub returns-in-Ok-None-clause-past : goal.returns-in-Ok-None-clause-past
 returns-in-Ok-None-clause-past c = search rules
