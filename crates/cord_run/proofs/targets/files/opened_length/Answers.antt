@@ -1,0 +1,6 @@
+use Rattle.std.proofs.Common.{rules}
+use Rattle.cord_run.proofs.targets.files.opened_length.Goals as goal
+
+-- a must-fail edit breaks it
+pub returns-clause-reported : goal.returns-clause-reported
+returns-clause-reported g c = search rules
