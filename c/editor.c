@@ -4,7 +4,8 @@
  *     editor FILE < COMMANDS
  *
  * A command a line: 'i PLACE TEXT' inserts, 'd PLACE COUNT' deletes, 'f TEXT' tells where the text stands first,
- * 'u' takes the last change back, 's PATH' saves: under another name than the file's, which has to keep its bytes. */
+ * 'w PLACE' shows the lines around a place, 'u' takes the last change back, 's PATH' saves: under another name than
+ * the file's, which has to keep its bytes. */
 #define _POSIX_C_SOURCE 200809L
 #include <inttypes.h>
 #include <stdio.h>
@@ -66,6 +67,22 @@ static void find(const char *text) {
         printf("%" PRIu64 "\n", place);
 }
 
+/* The line of the place, with the one before and the one after. */
+static void show(uint64_t place) {
+    const zc_lazy *text = &versions[current];
+    uint64_t start = place, end = place, line, done;
+    for (int i = 0; i < 2 && start > 0; i++) {
+        must(zc_lazy_rchr(&files, text, i == 0 ? start : start - 1, '\n', &line));
+        start = line == ZC_NOT_FOUND ? 0 : line + 1;
+    }
+    for (int i = 0; i < 2 && end != ZC_NOT_FOUND; i++) {
+        must(zc_lazy_chr(&files, text, end, '\n', &line));
+        end = line == ZC_NOT_FOUND ? line : line + 1;
+    }
+    fflush(stdout);
+    must(zc_lazy_put_range(&files, text, start, end, fileno(stdout), &done));
+}
+
 static void save(const char *path) {
     FILE *file = fopen(path, "wb");
     if (file == NULL) must(ZC_WRITE_FAILED);
@@ -82,6 +99,8 @@ static void run(char *line) {
         delete(place, count);
     else if (strncmp(line, "f ", 2) == 0)
         find(line + 2);
+    else if (sscanf(line, "w %" SCNu64, &place) == 1)
+        show(place);
     else if (strncmp(line, "s ", 2) == 0)
         save(line + 2);
     else if (strcmp(line, "u") == 0 && current > 0)

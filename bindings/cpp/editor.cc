@@ -3,7 +3,7 @@
 //     editor FILE < COMMANDS
 //
 // A command a line: 'i PLACE TEXT' inserts, 'd PLACE COUNT' deletes, 'f TEXT' tells where the text stands first, 'u'
-// takes the last change back, 's PATH' saves under another name.
+// takes the last change back, 'w PLACE' shows the lines around a place, 's PATH' saves under another name.
 #include <fcntl.h>
 #include <iostream>
 #include <sstream>
@@ -19,6 +19,18 @@ static void save(const lazy_cord &text, const std::string &path) {
     if (close(fd) != 0) throw std::system_error(errno, std::generic_category(), path);
 }
 
+// The line of the place, with the one before and the one after.
+static void show(const lazy_cord &text, std::uint64_t place) {
+    std::uint64_t start = place, end = place;
+    for (int i = 0; i < 2 && start > 0; i++) start = text.rfind('\n', start - (i > 0)) + 1;
+    for (int i = 0; i < 2 && end < text.size(); i++) {
+        const std::uint64_t line = text.find("\n", end);
+        end = line == cord::npos ? text.size() : line + 1;
+    }
+    std::cout << std::flush;
+    text.substr(start, end - start).write_to(STDOUT_FILENO);
+}
+
 static void run(std::vector<lazy_cord> &versions, const std::string &line) {
     std::istringstream words(line);
     std::uint64_t place = 0, count = 0;
@@ -31,6 +43,8 @@ static void run(std::vector<lazy_cord> &versions, const std::string &line) {
     } else if (command == "f" && line.size() > 2) {
         const std::uint64_t found = versions.back().find(line.substr(2));
         std::cout << (found == cord::npos ? "not found" : std::to_string(found)) << '\n';
+    } else if (command == "w" && words >> place) {
+        show(versions.back(), place);
     } else if (command == "s" && line.size() > 2) {
         save(versions.back(), line.substr(2));
     } else if (command == "u" && versions.size() > 1) {

@@ -3,7 +3,7 @@
 //!     editor FILE < COMMANDS
 //!
 //! A command a line: 'i PLACE TEXT' inserts, 'd PLACE COUNT' deletes, 'f TEXT' tells where the text stands first, 'u'
-//! takes the last change back, 's PATH' saves under another name.
+//! takes the last change back, 'w PLACE' shows the lines around a place, 's PATH' saves under another name.
 use std::error::Error;
 use std::fs::File;
 use std::{env, io};
@@ -23,6 +23,17 @@ fn edited(text: &LazyCord, command: &str) -> Option<LazyCord> {
     Some(next)
 }
 
+// The line of the place, with the one before and the one after.
+fn window(text: &LazyCord, place: u64) -> io::Result<LazyCord> {
+    let (mut start, mut end) = (place.min(text.len()), place.min(text.len()));
+    start = text.rfind_byte(start, b'\n')?.map_or(0, |line| line + 1);
+    start = text.rfind_byte(start.saturating_sub(1), b'\n')?.map_or(0, |line| line + 1);
+    for _ in 0..2 {
+        end = text.find_from(end, "\n")?.map_or(text.len(), |line| line + 1);
+    }
+    Ok(text.slice(start..end))
+}
+
 fn run(versions: &mut Vec<LazyCord>, command: &str) -> Result<(), Box<dyn Error>> {
     let now = &versions[versions.len() - 1];
     if let Some(next) = edited(now, command) {
@@ -32,6 +43,8 @@ fn run(versions: &mut Vec<LazyCord>, command: &str) -> Result<(), Box<dyn Error>
             Some(place) => println!("{place}"),
             None => println!("not found"),
         }
+    } else if let Some(Ok(place)) = command.strip_prefix("w ").map(str::parse) {
+        window(now, place)?.write_to(io::stdout())?;
     } else if let Some(path) = command.strip_prefix("s ") {
         now.write_to(File::create(path)?)?;
     } else if command == "u" && versions.len() > 1 {
