@@ -9,7 +9,7 @@ ghost use Rattle.core.specs.Ptr.{as_mut_ptr};
 
 use crate::Handle;
 use crate::code::{NO_MEMORY, NOT_FOUND, NULL_POINTER, OK};
-use crate::pointer::missing;
+use crate::pointer::{any_missing, either_missing};
 use cord::{MOST_BYTES, Text};
 use std::alloc::Global;
 
@@ -28,7 +28,7 @@ pub extern "C" fn zc_str_in(
     ensures x { x.new.text ≡ x.old.text }
     ensures y { y.new.text ≡ y.old.text }
 {
-    if missing(x) || missing(y) || missing(place) {
+    if any_missing(x, y, place) {
         return NULL_POINTER;
     }
     let found = x
@@ -55,7 +55,7 @@ pub extern "C" fn zc_find_in(
     ensures short { length bytes.now ≤ MOST_BYTES → result ≢ NO_MEMORY }
     ensures x { x.new.text ≡ x.old.text }
 {
-    if missing(x) || missing(place) {
+    if either_missing(x, place) {
         return NULL_POINTER;
     }
     let Ok(found) = x.text(&Text::empty()).find_in(alloc, bytes, start, end) else {
@@ -75,7 +75,7 @@ pub extern "C" fn zc_rstr(x: &mut Handle, end: u64, y: &mut Handle, place: &mut 
     ensures x { x.new.text ≡ x.old.text }
     ensures y { y.new.text ≡ y.old.text }
 {
-    if missing(x) || missing(y) || missing(place) {
+    if any_missing(x, y, place) {
         return NULL_POINTER;
     }
     let found = x
@@ -100,7 +100,7 @@ pub extern "C" fn zc_rfind(
     ensures code { MayLackMemory result }
     ensures x { x.new.text ≡ x.old.text }
 {
-    if missing(x) || missing(place) {
+    if either_missing(x, place) {
         return NULL_POINTER;
     }
     let Ok(found) = x.text(&Text::empty()).rfind(alloc, bytes, end) else {
