@@ -79,3 +79,6 @@ returns-then-is_ok-clause-machine_found g c = search rules
 
 pub returns-in-Err-NotFound-clause-machine_not_found : goal.returns-in-Err-NotFound-clause-machine_not_found
 returns-in-Err-NotFound-clause-machine_not_found g c = search rules
+
+pub invariant_of-self : goal.invariant_of-self
+invariant_of-self g c = search rules
