@@ -1,4 +1,4 @@
-use Rattle.std.proofs.Common.{map, subst}
+use Rattle.std.proofs.Common.{map, rules, subst}
 use Rattle.std.specs.Prelude.{IfOk}
 use Rattle.cord_plan.specs.Meaning.{IsPlanOf}
 use Rattle.cord_plan.specs.Views.{operation_view}
@@ -8,26 +8,29 @@ use Rattle.cord_run.proofs.Meaning.{names_cause}
 use Rattle.cord_run.proofs.Readers.{plan_alike}
 use Rattle.cord_run.proofs.runner.run_by.Goals as goal
 
-pub returns-in-Ok-clause-cause : goal.returns-in-Ok-clause-cause
-returns-in-Ok-clause-cause g c = λ script reads.
-    let s = c.args.read.now in
-    let operations = map operation_view c.in-Ok.plan in
-    let chosen : IsPlanBy g.way s operations =
-    subst (λ made. IfOk made (λ plan. IsPlanBy g.way s (map operation_view plan))) c.in-Ok.is c.requires.1.1.0 in
-    names_cause script s reads operations (plan_alike g.way s operations chosen) _ c.run.result.0 c.run.ensures.cause c.run.ensures.finish
-
-pub returns-in-Ok-clause-run : goal.returns-in-Ok-clause-run
-returns-in-Ok-clause-run g c = λ script reads.
+pub returns-in-Ok : goal.returns-in-Ok
+returns-in-Ok g c =
     let s = c.args.read.now in
     let operations = map operation_view c.in-Ok.plan in
     let chosen : IsPlanBy g.way s operations =
     subst (λ made. IfOk made (λ plan. IsPlanBy g.way s (map operation_view plan))) c.in-Ok.is c.requires.1.1.0 in
     let means : IsPlanOf s operations =
     subst (λ made. IfOk made (λ plan. IsPlanOf s (map operation_view plan))) c.in-Ok.is c.requires.1.1.1.0 in
-    let alike = plan_alike g.way s operations chosen in (
-      s,
-      reads,
-      (λ file_system agrees. c.run.ensures.faithful s means alike whole script reads file_system agrees),
-      c.run.ensures.fails s
-          alike,
-    )
+    let alike = plan_alike g.way s operations chosen in
+    record {
+      run = λ script reads. (
+        s,
+        reads,
+        (λ file_system agrees. c.run.ensures.faithful s means alike whole script reads file_system agrees),
+        c.run.ensures.fails s alike,
+      );
+      cause = λ script reads. names_cause script s reads operations alike _ c.run.result.0 c.run.ensures.cause c.run.ensures.finish;
+      earlier = c.run.ensures.earlier;
+    }
+
+-- a must-fail edit breaks these
+pub returns-in-Err-clause-cause : goal.returns-in-Err-clause-cause
+returns-in-Err-clause-cause g c = search rules
+
+pub returns-in-Err-clause-run : goal.returns-in-Err-clause-run
+returns-in-Err-clause-run g c = search rules

@@ -11,56 +11,19 @@ use Rattle.cord_plan.specs.Planned.{Operation}
 use Rattle.cord_plan.specs.Views.{operation_view}
 use Rattle.cord_run.specs.inner.Ends.{Closes}
 use Rattle.cord_run.specs.inner.Steps.{end_of_run}
-use Rattle.cord_run.proofs.Ends.{closed_cause, closed_fails, closed_finish, closed_faithful, no_put_failed, put_failed, run_fails}
+use Rattle.cord_run.proofs.Ends.{closed_fails, closed_faithful, closed_named, no_put_failed, put_failed, run_fails}
 use Rattle.cord_run.proofs.runner.run_over.Goals as goal
 
-pub returns-clause-faithful : goal.returns-clause-faithful
-returns-clause-faithful g c = λ file_system agrees fit.
+pub returns : goal.returns
+returns g c =
     let operations : List Operation = map operation_view c.args.plan.now in
-    let before : List ℕ = g.S.Sink.taken c.args.sink.now in
-    let reported : End = c.close_output.result in
-    let n : SinkCounts = sink_counts g.S.Sink c.run_plan.new.sink c.close_output.new.sink in
-    let closes = subst (λ (e : End). Closes n e reported) c.end_of_run-own.ensures c.close_output.ensures.closes in
-    let ms = plan_trace MAX_LEN MAX_TURNS operations file_system in
-    let meant = plan_end MAX_LEN MAX_TURNS operations file_system in
-    subst (λ (after : List ℕ). FaithfulOutput ms meant before after reported) (sym c.close_output.ensures.taken)
-    (closed_faithful ms meant before (g.S.Sink.taken c.run_plan.new.sink) n (end_of_run c.run_plan.result) reported closes
-    (c.run_plan.ensures.faithful file_system agrees fit))
-
-pub returns-clause-fails : goal.returns-clause-fails
-returns-clause-fails g c =
-    let operations : List Operation = map operation_view c.args.plan.now in
-    let reported : End = c.close_output.result in
-    let n : SinkCounts = sink_counts g.S.Sink c.run_plan.new.sink c.close_output.new.sink in
-    let closes = subst (λ (e : End). Closes n e reported) c.end_of_run-own.ensures c.close_output.ensures.closes in
-    closed_fails operations n (end_of_run c.run_plan.result) reported closes
-    (run_fails operations c.run_plan.result c.run_plan.ensures.fails)
-
-pub returns-clause-cause : goal.returns-clause-cause
-returns-clause-cause g c =
+    let taken : List ℕ = g.S.Sink.taken c.args.sink.now in
     let reported : End = c.close_output.result in
     let n : SinkCounts = sink_counts g.S.Sink c.run_plan.new.sink c.close_output.new.sink in
     let closes = subst (λ (e : End). Closes n e reported) c.end_of_run-own.ensures c.close_output.ensures.closes in
     let before = g.met.S.Sink.failures_are c.args.sink.now in
     let after = g.met.S.Sink.failures_are c.run_plan.new.sink in
-    closed_cause (g.F.Files.failures (device_in c.args.sources.now)) (g.F.Files.failures (device_in c.run_plan.new.sources))
-    (g.S.Sink.failures c.args.sink.now)
-    (g.S.Sink.failures c.run_plan.new.sink) (g.S.Sink.failures c.close_output.new.sink) (g.S.Sink.finished c.args.sink.now).ended
-    (g.S.Sink.finished c.run_plan.new.sink).ended (g.S.Sink.finished c.close_output.new.sink).ended (g.S.Sink.failed_puts c.args.sink.now)
-    (g.S.Sink.failed_puts c.run_plan.new.sink) (g.S.Sink.failed_puts c.close_output.new.sink) c.requires.files_count
-    c.requires.sink_count (ap (λ (f : Finishes). f.ended) c.run_plan.ensures.finished)
-    (no_put_failed _ _ _ _ _ _ before after c.run_plan.ensures.finished c.requires.sink_count)
-    (put_failed _ _ _ _ _ _ before after c.run_plan.ensures.finished c.requires.sink_count) c.close_output.ensures.puts c.run_plan.result
-    c.run_plan.ensures.counts reported closes
-
-pub returns-clause-finish : goal.returns-clause-finish
-returns-clause-finish g c =
-    let reported : End = c.close_output.result in
-    let n : SinkCounts = sink_counts g.S.Sink c.run_plan.new.sink c.close_output.new.sink in
-    let closes = subst (λ (e : End). Closes n e reported) c.end_of_run-own.ensures c.close_output.ensures.closes in
-    let before = g.met.S.Sink.failures_are c.args.sink.now in
-    let after = g.met.S.Sink.failures_are c.run_plan.new.sink in
-    closed_finish (g.F.Files.failures (device_in c.args.sources.now)) (g.F.Files.failures (device_in c.run_plan.new.sources))
+    let named = closed_named (g.F.Files.failures (device_in c.args.sources.now)) (g.F.Files.failures (device_in c.run_plan.new.sources))
     (g.S.Sink.failures c.args.sink.now)
     (g.S.Sink.failures c.run_plan.new.sink) (g.S.Sink.failures c.close_output.new.sink) (g.S.Sink.finished c.args.sink.now).ended
     (g.S.Sink.finished c.run_plan.new.sink).ended (g.S.Sink.finished c.close_output.new.sink).ended (g.S.Sink.failed_puts c.args.sink.now)
@@ -68,4 +31,17 @@ returns-clause-finish g c =
     c.requires.sink_count (ap (λ (f : Finishes). f.ended) c.run_plan.ensures.finished)
     (no_put_failed _ _ _ _ _ _ before after c.run_plan.ensures.finished c.requires.sink_count)
     (put_failed _ _ _ _ _ _ before after c.run_plan.ensures.finished c.requires.sink_count) c.close_output.ensures.puts
-    (map operation_view c.args.plan.now) c.run_plan.result c.run_plan.ensures.counts c.run_plan.ensures.fails reported closes
+    operations c.run_plan.result c.run_plan.ensures.counts c.run_plan.ensures.fails reported closes in
+    record {
+      earlier = c.run_plan.ensures.earlier;
+      faithful = λ file_system agrees fit.
+          let ms = plan_trace MAX_LEN MAX_TURNS operations file_system in
+          let meant = plan_end MAX_LEN MAX_TURNS operations file_system in
+          subst (λ (put : List ℕ). FaithfulOutput ms meant taken put reported) (sym c.close_output.ensures.taken)
+          (closed_faithful ms meant taken (g.S.Sink.taken c.run_plan.new.sink) n (end_of_run c.run_plan.result) reported closes
+          (c.run_plan.ensures.faithful file_system agrees fit));
+      fails = closed_fails operations n (end_of_run c.run_plan.result) reported closes
+          (run_fails operations c.run_plan.result c.run_plan.ensures.fails);
+      cause = named.0;
+      finish = named.1;
+    }

@@ -50,3 +50,7 @@ returns-in-Printed-clause-refused c =
     ∙ ap (λ (pieces : List Piece). plan.Printed c.in-Printed.field-0 pieces c.in-Printed.arguments) (sym c.as_ref.ensures)
     ∙ ap (λ (list : List Argument). plan.Printed c.in-Printed.field-0 c.as_ref.result.now list)
     (sym (c.as_slice-in-Printed.ensures ∙ c.as_ref-in-Printed.ensures))) c.print_length.result c.print_length.ensures.refused
+
+-- a must-fail edit breaks it
+pub returns-in-Joined-clause-unbuilt : goal.returns-in-Joined-clause-unbuilt
+returns-in-Joined-clause-unbuilt c = search rules

@@ -10,3 +10,6 @@ returns-in-Ok-clause-closes g c = search rules
 
 pub returns-in-Err-clause-closes : goal.returns-in-Err-clause-closes
 returns-in-Err-clause-closes g c = search rules
+
+pub returns-in-WriteFailed-clause-closes : goal.returns-in-WriteFailed-clause-closes
+returns-in-WriteFailed-clause-closes g c = search rules
