@@ -1,4 +1,4 @@
-use Rattle.std.proofs.Common.{◌≡◌, ◌∙◌, ap, take, length, min, arith}
+use Rattle.std.proofs.Common.{◌≡◌, ◌∙◌, ap, length, min, arith}
 use Rattle.cord_lines.specs.Counts.{counts_of}
 use Rattle.cord_lines.proofs.Cuts.{few_by, cut_from, modest_by}
 use Rattle.cord_lines.proofs.Sums.{min_prefix}
