@@ -6,6 +6,7 @@ use Rattle.cord_node.proofs.Ranges.{take-append_right}
 use Rattle.cord_lines.specs.declared.counting.Counts.{Counts}
 use Rattle.cord_lines.specs.Counts.{begins_char, chars_in, counts_of, ends_in, is_end, plus, AreFew}
 use Rattle.cord_lines.specs.Lines.{after_ends}
+use Rattle.cord_lines.specs.inner.Blocks.{without}
 use Rattle.cord_lines.proofs.Ends.{ends-append}
 
 abbrev counts : ℕ → ℕ → ℕ → Counts
@@ -22,6 +23,9 @@ counts-append x y = same_counts (counts_of (x ++ y)) (plus (counts_of x) (counts
 
 pub plus_assoc : (a b c : Counts) → plus (plus a b) c ≡ plus a (plus b c)
 plus_assoc a b c = same_counts (plus (plus a b) c) (plus a (plus b c)) (omega arith) (omega arith) (omega arith)
+
+pub part_left : (a b : Counts) → without (plus a b) b ≡ a
+part_left a b = same_counts (without (plus a b) b) a (omega arith) (omega arith) (omega arith)
 
 -- a chunk more is counted
 pub counted_more : (all have next : Counts) (left less : ℕ) (old chunk new : List ℕ) → plus have (counts_of (take left old)) ≡ all → old ≡ chunk ++ new →

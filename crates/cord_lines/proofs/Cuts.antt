@@ -1,5 +1,5 @@
 -- Texts that are cut into pieces.
-use Rattle.std.proofs.Common.{◌≡◌, ℕ, suc, zero, ◌+◌, ◌-◌, ◌<◌, ◌≤◌, List, [], ◌∷◌, ◌++◌, length, take, drop, refl, sym, ap, ◌∙◌, arith, append_assoc, subst, min, length-take, length-append, Bool}
+use Rattle.std.proofs.Common.{◌≡◌, ℕ, suc, zero, ◌+◌, ◌-◌, ◌<◌, ◌≤◌, List, [], ◌∷◌, ◌++◌, length, take, drop, refl, sym, ap, ◌∙◌, arith, append_assoc, subst, min, length-take, Bool}
 use Rattle.std.specs.Prelude.{map}
 use Rattle.std.proofs.lemmas.List.{append-nil, take_all, drop-drop, take-append-drop}
 use Rattle.std.proofs.lemmas.List.Sums.{sum_by-take-le}
@@ -12,9 +12,9 @@ use Rattle.cord_lines.proofs.Ends.{past_all}
 use Rattle.cord_lines.specs.declared.counting.Counts.{Counts}
 use Rattle.cord_lines.specs.declared.blocks.Block.{Block}
 use Rattle.cord_lines.specs.Counts.{counts_of, ends_in, plus, AreFew, AreNarrow}
-use Rattle.cord_lines.specs.inner.Blocks.{block_counts, total}
+use Rattle.cord_lines.specs.inner.Blocks.{block_counts, total, without}
 use Rattle.cord_lines.specs.inner.Cuts.{AreBlocksOf, AreModest, AreOfSomeText, shown}
-use Rattle.cord_lines.proofs.Countings.{counts-append, ends-le, chars-le}
+use Rattle.cord_lines.proofs.Countings.{counts-append, ends-le, chars-le, part_left}
 use Rattle.cord_lines.proofs.Sums.{min_prefix, total-cons}
 
 pub total_is : (bs : List Block) (x : List ℕ) → AreBlocksOf bs x → total bs ≡ counts_of x
@@ -123,6 +123,13 @@ few_more bs i p n x m le le2 =
       chars = omega (arith, m.chars, le, here, chars-le (take (n - p) (drop p x)), sum_by-take-le (λ (b : Block). b.chars) bs i);
     }
 
+pub few_before : (bs : List Block) (i : ℕ) → AreModest bs → AreFew (total (take i bs))
+few_before bs i m = record {
+  bytes = omega (arith, m.bytes, sum_by-take-le (λ (b : Block). b.bytes) bs i);
+  ends = omega (arith, m.ends, sum_by-take-le (λ (b : Block). b.ends) bs i);
+  chars = omega (arith, m.chars, sum_by-take-le (λ (b : Block). b.chars) bs i);
+}
+
 module _ (bs : List Block) (x : List ℕ) (c : AreBlocksOf bs x) (i : ℕ) where
   abbrev s : Split i bs x
   s = split i bs x c
@@ -147,12 +154,29 @@ module _ (bs : List Block) (x : List ℕ) (c : AreBlocksOf bs x) (i : ℕ) where
       ∙ sym (counts-append s.prefix (take (end - length s.prefix) s.back))
       ∙ ap counts_of (sym (take-append_right s.prefix s.back end reach) ∙ ap (take end) (sym s.text) ∙ min_prefix x place end min-is)
 
-  pub start_at : (from n : ℕ) → from ≡ min (total (take i bs)).bytes (length x) → (total (take i bs)).ends < n →
-      from + after_ends (n - (total (take i bs)).ends) (drop from x) ≡ after_ends n x
-  start_at from n e lt =
-      let ends : (total (take i bs)).ends ≡ ends_in s.prefix = ap (λ (a : Counts). a.ends) before in
-      let len : length x ≡ length s.prefix + length s.back = ap (λ (y : List ℕ). length y) s.text ∙ length-append s.prefix s.back in
-      let from-is : from ≡ length s.prefix = omega (arith, e, starts, len) in
-      ap (λ (y : List ℕ). from + after_ends (n - (total (take i bs)).ends) y) (rest from from-is)
-      ∙ ap (λ (k : ℕ). from + after_ends (n - k) s.back) ends ∙ ap (λ (k : ℕ). k + after_ends (n - ends_in s.prefix) s.back) from-is
-      ∙ sym (past_all n s.prefix s.back (omega (arith, lt, ends))) ∙ ap (after_ends n) (sym s.text)
+  pub counts_at : (p : ℕ) → p ≡ (total (take i bs)).bytes → total (take i bs) ≡ counts_of (take p x)
+  counts_at p e = before ∙ ap counts_of (sym (ap (λ (n : ℕ). take n x) (e ∙ starts) ∙ ap (take (length s.prefix)) s.text
+      ∙ take-append_seam s.prefix s.back))
+
+  -- the same, counted back from a block
+  pub counts_back : (place end : ℕ) → end ≡ (total (take i bs)).bytes → place ≤ end →
+      without (total (take i bs)) (counts_of (take (end - place) (drop place x))) ≡ counts_of (take place x)
+  counts_back place end e le =
+      let whole : end ≡ place + (end - place) = omega (arith, le) in
+      let piece = take (end - place) (drop place x) in
+      ap (λ (a : Counts). without a (counts_of piece)) (counts_at end e
+      ∙ ap counts_of (ap (λ (n : ℕ). take n x) whole ∙ take-add place (end - place) x) ∙ counts-append (take place x) piece)
+      ∙ part_left (counts_of (take place x)) (counts_of piece)
+
+-- a search that goes on where some ends are passed
+pub past_counts : (x : List ℕ) (c : Counts) (from n : ℕ) → c ≡ counts_of (take c.bytes x) → from ≡ min c.bytes (length x) → c.ends < n →
+    from + after_ends (n - c.ends) (drop from x) ≡ after_ends n x
+past_counts x c from n is e lt =
+    let len : c.bytes ≡ length (take c.bytes x) = ap (λ (a : Counts). a.bytes) is in
+    let ends : c.ends ≡ ends_in (take c.bytes x) = ap (λ (a : Counts). a.ends) is in
+    let here : from ≡ c.bytes = omega (arith, e, len, length-take c.bytes x) in
+    ap (λ (k : ℕ). k + after_ends (n - c.ends) (drop k x)) here
+    ∙ ap (λ (k : ℕ). k + after_ends (n - c.ends) (drop c.bytes x)) len
+    ∙ ap (λ (k : ℕ). length (take c.bytes x) + after_ends (n - k) (drop c.bytes x)) ends
+    ∙ sym (past_all n (take c.bytes x) (drop c.bytes x) (omega (arith, lt, ends)))
+    ∙ ap (after_ends n) (take-append-drop c.bytes x)

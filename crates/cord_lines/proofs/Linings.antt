@@ -1,11 +1,12 @@
 -- Lines begin after the ends of those before them.
-use Rattle.std.proofs.Common.{◌≡◌, ℕ, suc, zero, ◌+◌, ◌-◌, ◌<◌, ◌≤◌, Bool, true, false, cond, Some, None, List, [], ◌∷◌, length, get_or, take, drop, refl, sym, ap, ◌∙◌, arith, min, map, subst, true≢false}
+use Rattle.std.proofs.Common.{◌≡◌, ℕ, suc, zero, ◌+◌, ◌-◌, ◌<◌, ◌≤◌, Bool, true, false, cond, Some, None, List, [], ◌∷◌, ◌++◌, length, length-append, length-drop, get_or, take, drop, refl, sym, ap, ◌∙◌, arith, min, map, subst, true≢false}
 use Rattle.std.specs.Prelude.{◌||◌, if◌then◌else◌, not, slice_get, option_map}
-use Rattle.std.proofs.lemmas.List.{drop_all, drop-map, length-map}
+use Rattle.std.proofs.lemmas.List.{drop_all, drop-map, length-map, take-append-drop}
 use Rattle.std.proofs.lemmas.Option.{slice_get_past, slice_get-get_or, slice_get-map}
+use Rattle.std.proofs.Math.Seq.{drop-append_seam}
 use Rattle.cord.specs.Lines.{lines, led_by, bare, bare_lines, lines_as}
 use Rattle.cord_lines.specs.Counts.{is_end, ends_in}
-use Rattle.cord_lines.specs.Lines.{after_ends, lacks_end, is_inside_line}
+use Rattle.cord_lines.specs.Lines.{after_ends, lacks_end, is_inside_line, IsEditOf}
 use Rattle.cord_lines.proofs.Ends.{ends-cons, none_passed, one_more}
 
 -- the last byte is no end
@@ -191,6 +192,21 @@ pub get_drop : (n i : ℕ) (x : List ℕ) → slice_get (drop n x) i ≡ slice_g
 get_drop zero i x = ap (λ (k : ℕ). slice_get x k) (let e : i ≡ 0 + i = omega arith in e)
 get_drop (suc n) i [] = slice_get_past [] i (omega arith) ∙ sym (slice_get_past [] (suc n + i) (omega arith))
 get_drop (suc n) i (b ∷ x) = get_drop n i x ∙ ap (λ (k : ℕ). slice_get (b ∷ x) k) (let e : suc (n + i) ≡ suc n + i = omega arith in e)
+
+lacks_last : (x z : List ℕ) → 0 < length z → lacks_end (x ++ z) ≡ lacks_end z
+lacks_last x z some =
+    let last : length (x ++ z) - 1 ≡ length x + (length z - 1) = omega (arith, some, length-append x z) in
+    ap (λ (n : ℕ). is_inside_line (slice_get (x ++ z) n)) last
+    ∙ ap is_inside_line (sym (get_drop (length x) (length z - 1) (x ++ z)) ∙ ap (λ (y : List ℕ). slice_get y (length z - 1)) (drop-append_seam x z))
+
+-- an edit before the last byte
+pub keeps_end : (before after : List ℕ) (start removed inserted : ℕ) (e : IsEditOf before after start removed inserted) →
+    start + removed < length before → lacks_end before ≡ lacks_end after
+keeps_end before after start removed inserted e lt =
+    let z = drop (start + removed) before in
+    let some : 0 < length z = omega (arith, lt, length-drop (start + removed) before) in
+    ap lacks_end (sym (take-append-drop (start + removed) before)) ∙ lacks_last (take (start + removed) before) z some
+    ∙ sym (ap lacks_end e.text ∙ lacks_last (take start before ++ e.fresh) z some)
 
 -- the line of a place begins there or before it
 begins_later : (ends m b : ℕ) (x : List ℕ) → is_end b ≡ false → after_ends ends x ≤ m → after_ends ends (b ∷ x) ≤ 1 + m

@@ -2,7 +2,7 @@
 ghost use Rattle.std.specs.Prelude.{◌≡◌, ◌↔◌, ◌+◌, ◌<◌, ◌≤◌, ◌^◌, IsTrue, length, true, if◌then◌else◌, ◌||◌, nat_lt, nat_le};
 ghost use Rattle.cord.specs.Chunks.{chunk_bytes};
 ghost use Rattle.cord_lines.specs.Counts.{begins_char, chars_in, counts_of, ends_in, plus, AreFew};
-ghost use Rattle.cord_lines.specs.inner.Blocks.{exchanged, AreWithin};
+ghost use Rattle.cord_lines.specs.inner.Blocks.{exchanged, without, AreWithin};
 
 use cord::Chunk;
 
@@ -34,6 +34,17 @@ impl Counts {
             bytes: self.bytes + other.bytes,
             ends: self.ends + other.ends,
             chars: self.chars + other.chars,
+        }
+    }
+
+    /// The counts of what is left without the last bytes, which have these counts.
+    pub(crate) fn without(self, last: Counts) -> Counts
+        ensures { result ≡ without self last }
+    {
+        Counts {
+            bytes: self.bytes.saturating_sub(last.bytes),
+            ends: self.ends.saturating_sub(last.ends),
+            chars: self.chars.saturating_sub(last.chars),
         }
     }
 

@@ -6,9 +6,11 @@ ghost use Rattle.cord.specs.Lines.{lines, bare_lines, lines_as};
 ghost use Rattle.cord_lines.specs.Counts.{chars_in, counts_of, ends_in};
 ghost use Rattle.cord_lines.specs.Lines.{after_ends, is_inside_line, lacks_end, IsEditOf};
 ghost use Rattle.cord_lines.specs.Index.{FollowsEdit, IsIndexOf, of_no_bytes};
+ghost use Rattle.cord_lines.specs.inner.Blocks.{total};
+ghost use Rattle.cord_lines.specs.inner.Cuts.{AreBlocksOf, AreModest};
 ghost use Rattle.cord_lines.specs.inner.Edits.{AreRemoved};
 
-use crate::blocks::{Blocks, Measure};
+use crate::blocks::{Blocks, Found, Measure};
 use crate::counting::Counts;
 use crate::cutting::{BLOCK, cut};
 use crate::reading::{count_range, end_from};
@@ -16,6 +18,9 @@ use crate::renewing::{Edit, renew};
 use cord::{CordError, Text};
 use std::alloc::Global;
 use std::marker::Model;
+
+/// How far before the place where the end of a line is guessed the search begins.
+const MARGIN: u64 = 256;
 
 /// How many lines end, and how many characters begin, in each block of a text, so that a line is found by its number
 /// and by a place in it without a walk through the text. It belongs to one text and doesn't keep it: each call is given
@@ -80,9 +85,9 @@ impl LineIndex {
         if n == 0 {
             return 0;
         }
-        let found = self.blocks.find(Measure::Ends, n - 1);
-        let from = found.before.bytes.min(text.len());
-        end_from(text, from, n - found.before.ends)
+        let before = before_line(&self.blocks, text, n);
+        let from = before.bytes.min(text.len());
+        end_from(text, from, n - before.ends)
     }
 
     /// The number of the line that holds the byte at `place`: how many lines end before it. At or past the end of the
@@ -217,12 +222,15 @@ impl LineIndex {
         ensures unchanged { IsErr result → self.new ≡ self.old }
         ensures refused { IsOkUnless result NoMemory }
     {
-        if !edit.fits(self.blocks.counts().bytes, after.len()) {
+        let len = self.blocks.counts().bytes;
+        if !edit.fits(len, after.len()) {
             *self = LineIndex::of(alloc, after)?;
             return Ok(());
         }
         renew(&mut self.blocks, alloc, after, edit, removed)?;
-        self.lacks_end = lacks_end_of(after);
+        if edit.start + edit.removed == len {
+            self.lacks_end = lacks_end_of(after);
+        }
         Ok(())
     }
 
@@ -232,9 +240,61 @@ impl LineIndex {
     {
         let end = place.min(text.len());
         let found = self.blocks.find(Measure::Bytes, end);
-        found
-            .before
-            .plus(count_range(text, found.before.bytes, end))
+        counts_within(&self.blocks, text, found, end)
+    }
+}
+
+// The counts of the bytes before a place of a block, counted from the nearer end of the block.
+fn counts_within(blocks: &Blocks, text: &Text, found: Found, place: u64) -> Counts
+    requires modest { AreModest blocks.now }
+    requires before { found.before ≡ total (take found.index blocks.now) }
+    requires from { found.before.bytes ≤ place }
+    requires inside { place ≤ length text.now }
+    ensures { AreBlocksOf blocks.now text.now → result ≡ counts_of (take place text.now) }
+{
+    let before = found.before;
+    let len = text.len();
+    if found.index < blocks.len() {
+        let after = before.plus(blocks.get(found.index));
+        let end = after.bytes;
+        if place <= end && end <= len && end - place < place - before.bytes {
+            return after.without(count_range(text, place, end));
+        }
+    }
+    before.plus(count_range(text, before.bytes, place))
+}
+
+// The counts of the bytes before a place that fewer than `n` ends of lines precede: near the `n`th one, where that stands
+// in the second half of its block, as far as its lines are of one length, and else where the block begins.
+fn before_line(blocks: &Blocks, text: &Text, n: u64) -> Counts
+    requires modest { AreModest blocks.now }
+    requires some { 0 < n }
+    ensures few { result.ends < n }
+    ensures counts { AreBlocksOf blocks.now text.now → result ≡ counts_of (take result.bytes text.now) }
+{
+    let found = blocks.find(Measure::Ends, n - 1);
+    if found.index < blocks.len() {
+        let place = found.before.bytes.saturating_add(offset_of(
+            blocks.get(found.index),
+            n - 1 - found.before.ends,
+        ));
+        if place <= text.len() {
+            let counts = counts_within(blocks, text, found, place);
+            if counts.ends < n {
+                return counts;
+            }
+        }
+    }
+    found.before
+}
+
+// How far behind the beginning of a block so many of its ends of lines are passed, if in its second half and lines are of
+// one length, less a margin: else 0.
+fn offset_of(block: Counts, passed: u64) -> u64 {
+    if passed < block.ends && block.ends - passed < passed {
+        (block.bytes.saturating_mul(passed) / block.ends).saturating_sub(MARGIN)
+    } else {
+        0
     }
 }
 

@@ -46,3 +46,7 @@ pub record AreWithin (part all : Counts) : Type 0 where
 -- a part of some counts is replaced
 abbrev pub exchanged : Counts → Counts → Counts → Counts
 exchanged all old new = record { bytes = all.bytes - old.bytes + new.bytes; ends = all.ends - old.ends + new.ends; chars = all.chars - old.chars + new.chars }
+
+-- what some counts are without a part
+abbrev pub without : Counts → Counts → Counts
+without all part = record { bytes = all.bytes - part.bytes; ends = all.ends - part.ends; chars = all.chars - part.chars }
