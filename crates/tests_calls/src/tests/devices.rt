@@ -6,7 +6,6 @@ mod fuse_files;
 mod fuse_sink;
 mod memory;
 mod memory_sink;
-mod sources;
 mod standard;
 
 ghost use Rattle.std.specs.Prelude.{◌≡◌, ◌<◌, ◌≤◌, ℕ, length, IsSome, IsSomeAnd};
@@ -70,11 +69,14 @@ fn expect_answer<F: Files>(rt: &impl Abort, files: &mut F, no: FileNo, ask: Ask)
         Ask::Read(start, count, bytes) => {
             let mut room = [0; 8];
             assert!(rt; start < 10 && 0 < count && count <= 8);
-            expect_read(rt, files, no, start, &mut room[..count], bytes);
+            let read = files.read_at(no, start, &mut room[..count]);
+            expect_case(rt, read == Ok(bytes.len()), "the count from", start);
+            expect_case(rt, room.starts_with(bytes), "the bytes from", start);
         }
         Ask::Fault(start) => {
             assert!(rt; start < 10);
-            expect_fault(rt, files, no, start);
+            let read = files.read_at(no, start, &mut [0; 6]);
+            expect_case(rt, read == Err(ReadFault), "a fault from", start);
         }
         Ask::Failures(count) => expect_case(rt, files.failures() == count, "failures", count),
     }
@@ -95,35 +97,7 @@ fn expect_all<F: Files>(rt: &impl Abort, files: &mut F, path: &str, asks: &[Ask]
     expect_answers(rt, files, no, asks);
 }
 
-// Reads an opened file from a place on: these bytes come, which may be fewer than there is room for.
-fn expect_read<F: Files>(
-    rt: &impl Abort,
-    files: &mut F,
-    no: FileNo,
-    start: u64,
-    room: &mut [u8],
-    bytes: &[u8],
-)
-    requires inside { IsSomeAnd (F.opened files.old no.0) (λ reported. start < reported.1) }
-    requires room { 0 < length room.old }
-    ensures { (n : ℕ) → F.opened files.new n ≡ F.opened files.old n }
-{
-    let count = files.read_at(no, start, room);
-    expect_case(rt, count == Ok(bytes.len()), "the count from", start);
-    expect_case(rt, room.starts_with(bytes), "the bytes from", start);
-}
-
-// Reads an opened file from a place on, which fails.
-fn expect_fault<F: Files>(rt: &impl Abort, files: &mut F, no: FileNo, start: u64)
-    requires { IsSomeAnd (F.opened files.old no.0) (λ reported. start < reported.1) }
-    ensures { (n : ℕ) → F.opened files.new n ≡ F.opened files.old n }
-{
-    let count = files.read_at(no, start, &mut [0; 6]);
-    expect_case(rt, count == Err(ReadFault), "a fault from", start);
-}
-
 // What is asked of a sink, and what it answers.
-#[derive(Clone, Copy)]
 enum Offer {
     // Of these bytes it takes so many.
     Taken(&'static [u8], usize),
@@ -135,30 +109,31 @@ enum Offer {
     Failed(u64),
 }
 
-fn expect_put<S: Sink>(
-    rt: &impl Abort,
-    sink: &mut S,
-    bytes: &[u8],
-    answer: Result<usize, WriteFault>,
-) {
-    assert!(rt; !bytes.is_empty());
-    let taken = sink.put(bytes);
-    expect_case(rt, taken == answer, "bytes", bytes.len() as u64);
-}
-
-fn expect_offer<S: Sink>(rt: &impl Abort, sink: &mut S, offer: Offer) {
-    match offer {
-        Offer::Taken(bytes, count) => expect_put(rt, sink, bytes, Ok(count)),
-        Offer::Refused(bytes) => expect_put(rt, sink, bytes, Err(WriteFault)),
-        Offer::Finished => assert!(rt; sink.finish() == Ok(())),
-        Offer::Unfinished => assert!(rt; sink.finish() == Err(WriteFault)),
-        Offer::Failed(count) => expect_case(rt, sink.failures() == count, "failures", count),
-    }
-}
-
 // Offers one after another.
 fn expect_offers<S: Sink>(rt: &impl Abort, sink: &mut S, offers: &[Offer]) {
     for offer in offers {
-        expect_offer(rt, sink, *offer);
+        match offer {
+            Offer::Taken(bytes, count) => {
+                assert!(rt; !bytes.is_empty());
+                expect_case(
+                    rt,
+                    sink.put(bytes) == Ok(*count),
+                    "bytes",
+                    bytes.len() as u64,
+                );
+            }
+            Offer::Refused(bytes) => {
+                assert!(rt; !bytes.is_empty());
+                expect_case(
+                    rt,
+                    sink.put(bytes) == Err(WriteFault),
+                    "none",
+                    bytes.len() as u64,
+                );
+            }
+            Offer::Finished => assert!(rt; sink.finish() == Ok(())),
+            Offer::Unfinished => assert!(rt; sink.finish() == Err(WriteFault)),
+            Offer::Failed(count) => expect_case(rt, sink.failures() == *count, "failures", *count),
+        }
     }
 }

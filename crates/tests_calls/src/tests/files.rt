@@ -155,11 +155,18 @@ fn sixty_five_paths(rt: HostRuntime) {
 #[test]
 fn functions_are_read(rt: HostRuntime) {
     let mut sources = table(&rt, rt.alloc(), MemFiles::new(rt.alloc()));
-    expect_len(&rt, &sources, 0, Some(1_099_511_627_775));
-    expect_len(&rt, &sources, 1, Some(1_099_511_627_775));
-    let mut out = [0u8; 3];
-    assert!(rt; sources.read(SourceId(0), 8, &mut out) == Ok(()));
-    assert!(rt; out.as_slice() == b"890".as_slice());
+    assert!(rt; sources.entry_len(SourceId(0)) == Some(1_099_511_627_775));
+    assert!(rt; sources.entry_len(SourceId(1)) == Some(1_099_511_627_775));
+    assert!(rt; sources.entry_len(SourceId(2)) == None);
+    let mut out = [0u8; 4];
+    assert!(rt; sources.read(SourceId(0), 8, &mut out[..3]) == Ok(()));
+    assert!(rt; out.starts_with(b"890"));
+    assert!(rt; sources.read(SourceId(0), 1_099_511_627_771, &mut out) == Ok(()));
+    assert!(rt; out.as_slice() == b"1234".as_slice());
+    assert!(rt; sources.read(SourceId(1), 254, &mut out) == Ok(()));
+    assert!(rt; out == [254, 255, 0, 1]);
+    assert!(rt; sources.read(SourceId(1), 1_099_511_627_775, &mut out[..0]) == Ok(()));
+    assert!(rt; sources.failures() == 0);
 }
 
 // A thousand bytes in the file "p", of which the first 600 alone are read.

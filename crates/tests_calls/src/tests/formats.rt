@@ -283,31 +283,24 @@ fn format_of(rt: &impl Abort, alloc: Global, format: &[u8]) -> Format {
     Format::parse(alloc, format).expect(rt, "no format")
 }
 
-fn arg_of(rt: &impl Abort, alloc: Global, argument: Argument) -> Arg {
-    match argument {
-        Num(number) => Arg::Num(number),
-        Text(bytes) => Arg::Cord(cord_of(rt, alloc, bytes)),
-        Longest => Arg::Cord(run_of(rt, alloc, 65, MAX_LEN)),
-    }
-}
-
 fn args_of(rt: &impl Abort, alloc: Global, arguments: &[Argument]) -> Vec<Arg> {
     let mut args = Vec::new(alloc);
     for it in arguments {
-        args.push(arg_of(rt, alloc, *it)).expect(rt, "no memory");
+        let arg = match it {
+            Num(number) => Arg::Num(*number),
+            Text(bytes) => Arg::Cord(cord_of(rt, alloc, bytes)),
+            Longest => Arg::Cord(run_of(rt, alloc, 65, MAX_LEN)),
+        };
+        args.push(arg).expect(rt, "no memory");
     }
     args
-}
-
-fn print_of(rt: &impl Abort, alloc: Global, format: &Format, args: &[Arg]) -> Cord {
-    sprintf(alloc, format, args).expect(rt, "no print")
 }
 
 // The print of a format with its arguments, whose length is reported alike.
 fn printed(rt: &impl Abort, alloc: Global, format: &[u8], arguments: &[Argument]) -> Cord {
     let parsed = format_of(rt, alloc, format);
     let args = args_of(rt, alloc, arguments);
-    let cord = print_of(rt, alloc, &parsed, &args);
+    let cord = sprintf(alloc, &parsed, &args).expect(rt, "no print");
     let reported = sprintf_len(&parsed, &args);
     expect_format(rt, reported == Ok(cord.len()), "the length", format);
     cord
@@ -345,65 +338,35 @@ fn expect_refused(
     expect_format(rt, refused == Some(error), name, format);
 }
 
-// That numbers print as in C.
-fn expect_numbers(rt: &impl Abort, alloc: Global, numbers: &[Number]) {
-    for &(format, number, want) in numbers {
-        expect_printed(
-            rt,
-            alloc,
-            "numbers_print_as_in_c",
-            (format, &[Num(number)], want),
-        );
-    }
-}
-
 #[test]
-fn numbers_print_as_in_c(rt: HostRuntime) {
+fn prints_are_as_in_c(rt: HostRuntime) {
+    let alloc = rt.alloc();
     for numbers in NUMBERS {
-        expect_numbers(&rt, rt.alloc(), numbers);
+        for &(format, number, want) in *numbers {
+            expect_printed(&rt, alloc, "a number", (format, &[Num(number)], want));
+        }
     }
-}
-
-#[test]
-fn texts_print_as_in_c(rt: HostRuntime) {
     for &(format, text, want) in TEXTS {
-        let arguments = [Text(text)];
-        expect_printed(
-            &rt,
-            rt.alloc(),
-            "texts_print_as_in_c",
-            (format, &arguments, want),
-        );
+        expect_printed(&rt, alloc, "a text", (format, &[Text(text)], want));
     }
-}
-
-#[test]
-fn prints_of_several_arguments(rt: HostRuntime) {
     for &(name, print) in SEVERAL {
-        expect_printed(&rt, rt.alloc(), name, print);
+        expect_printed(&rt, alloc, name, print);
     }
-}
-
-#[test]
-fn every_byte_is_printed(rt: HostRuntime) {
     for byte in 0..=255u8 {
         let arguments = [Num(i64::from(byte))];
-        expect_printed(&rt, rt.alloc(), "every_byte", (b"%c", &arguments, &[byte]));
+        expect_printed(&rt, alloc, "every_byte", (b"%c", &arguments, &[byte]));
     }
 }
 
 #[test]
-fn prints_of_some_length(rt: HostRuntime) {
+fn lengths_of_prints(rt: HostRuntime) {
+    let alloc = rt.alloc();
     for &(name, format, arguments, length) in LENGTHS {
-        let cord = printed(&rt, rt.alloc(), format, arguments);
+        let cord = printed(&rt, alloc, format, arguments);
         expect_format(&rt, cord.len() == length, name, format);
     }
-}
-
-#[test]
-fn wide_numbers_and_texts_print_as_in_c(rt: HostRuntime) {
     for &(format, arguments, length, start, end) in WIDE {
-        let shown = print_bytes(&rt, rt.alloc(), format, arguments);
+        let shown = print_bytes(&rt, alloc, format, arguments);
         expect_format(&rt, shown.len() == length, "the length", format);
         expect_format(&rt, shown.starts_with(start), "the start", format);
         expect_format(&rt, shown.ends_with(end), "the end", format);
@@ -411,48 +374,31 @@ fn wide_numbers_and_texts_print_as_in_c(rt: HostRuntime) {
 }
 
 #[test]
-fn refused_for_one_reason(rt: HostRuntime) {
+fn refused_prints(rt: HostRuntime) {
+    let alloc = rt.alloc();
     for &(name, format, arguments, error) in REFUSALS {
-        expect_refused(&rt, rt.alloc(), name, (format, arguments, error));
+        expect_refused(&rt, alloc, name, (format, arguments, error));
     }
-}
-
-#[test]
-fn refusals_in_order(rt: HostRuntime) {
     let arguments = [Longest, Num(-1), Num(300)];
     for &(format, error) in REFUSALS_IN_ORDER {
-        expect_refused(
-            &rt,
-            rt.alloc(),
-            "refusals_in_order",
-            (format, &arguments, error),
-        );
+        expect_refused(&rt, alloc, "in order", (format, &arguments, error));
     }
-}
-
-fn expect_bad(rt: &impl Abort, alloc: Global, format: &str, place: usize) {
-    let bytes = format.as_bytes();
-    let error = Format::parse(alloc, bytes).err();
-    expect_format(
-        rt,
-        error == Some(FormatError::BadFormat(place)),
-        format,
-        bytes,
-    );
-    expect_format(rt, Format::bad_offset(bytes) == Some(place), format, bytes);
 }
 
 #[test]
 fn bad_formats(rt: HostRuntime) {
+    let alloc = rt.alloc();
     for &(format, place) in BAD_FORMATS {
-        expect_bad(&rt, rt.alloc(), format, place);
+        let bytes = format.as_bytes();
+        let error = Format::parse(alloc, bytes).err();
+        expect_format(
+            &rt,
+            error == Some(FormatError::BadFormat(place)),
+            format,
+            bytes,
+        );
+        expect_format(&rt, Format::bad_offset(bytes) == Some(place), format, bytes);
     }
-}
-
-// A cord before a comma and a padded byte.
-fn wrapped(rt: &impl Abort, alloc: Global, format: &Format, cord: Cord) -> Cord {
-    let args = [Arg::Cord(cord), arg_of(rt, alloc, Text(b"x"))];
-    print_of(rt, alloc, format, &args)
 }
 
 // Flat texts would take 300 gigabytes.
@@ -463,25 +409,21 @@ fn prints_share_their_cords(rt: HostRuntime) {
     let run = run_of(&rt, alloc, 65, 1 << 30);
     let mut cord = joined(&rt, alloc, &run, &cord_of(&rt, alloc, b"end"));
     for _ in 0..300 {
-        cord = wrapped(&rt, alloc, &format, cord);
+        let args = [Arg::Cord(cord), Arg::Cord(cord_of(&rt, alloc, b"x"))];
+        cord = sprintf(alloc, &format, &args).expect(&rt, "no print");
     }
     assert!(rt; cord.len() == (1 << 30) + 3 + 300 * 4);
     let first = format_of(&rt, alloc, b"%.9999s");
-    let start = print_of(&rt, alloc, &first, &[Arg::Cord(cord)]);
+    let start = sprintf(alloc, &first, &[Arg::Cord(cord)]).expect(&rt, "no print");
     assert!(rt; start.len() == 9999);
-}
-
-// Appends so many times a text.
-fn repeat(rt: &impl Abort, bytes: &mut Vec<u8>, text: &[u8], count: usize) {
-    for _ in 0..count {
-        bytes.extend_from_slice(text).expect(rt, "no memory");
-    }
 }
 
 fn assembled(rt: &impl Abort, alloc: Global, pieces: Pieces) -> Vec<u8> {
     let mut bytes = Vec::new(alloc);
     for &(text, count) in pieces {
-        repeat(rt, &mut bytes, text, count);
+        for _ in 0..count {
+            bytes.extend_from_slice(text).expect(rt, "no memory");
+        }
     }
     bytes
 }
@@ -504,10 +446,6 @@ fn texts_of_a_format(rt: HostRuntime) {
     };
     assert!(rt; first.as_slice() == b"ab".as_slice());
     assert!(rt; second.as_slice() == b"c".as_slice());
-}
-
-#[test]
-fn a_literal_gives_its_bytes_back(rt: HostRuntime) {
     let kept = Vec::from_slice(rt.alloc(), b"kept").expect(&rt, "no memory");
     assert!(rt; Literal::of(kept).into_vec().as_slice() == b"kept".as_slice());
 }

@@ -6,14 +6,6 @@ use std::alloc::Global;
 use std::process::Abort;
 use std::rt::HostRuntime;
 
-fn new_buffer(rt: &impl Abort, alloc: Global) -> RawBuf {
-    RawBuf::new(alloc).expect(rt, "no memory")
-}
-
-fn text_of(rt: &impl Abort, alloc: Global, length: u64) -> Vec<u8> {
-    pattern(alloc, length).expect(rt, "no memory")
-}
-
 // Pushes a byte, for which there is room.
 fn push(rt: &impl Abort, alloc: Global, buffer: &mut RawBuf, byte: u8) {
     assert!(rt; buffer.len() < RawBuf::CAP);
@@ -45,7 +37,7 @@ fn expect_at(rt: &impl Abort, alloc: Global, buffer: &RawBuf, start: u64, text: 
 #[test]
 fn raw_buf_calls(rt: HostRuntime) {
     let alloc = rt.alloc();
-    let mut buffer = new_buffer(&rt, alloc);
+    let mut buffer = RawBuf::new(alloc).expect(&rt, "no memory");
     assert!(rt; buffer.len() == 0);
     push(&rt, alloc, &mut buffer, 97);
     extend(&rt, alloc, &mut buffer, b"bc");
@@ -63,47 +55,35 @@ fn expect_full_chain(rt: &impl Abort, alloc: Global, buffer: &RawBuf, text: &[u8
     expect_at(rt, alloc, buffer, 127, &[127, 128]);
 }
 
+// By runs, and by one byte after another.
 #[test]
 fn raw_buf_full_chain(rt: HostRuntime) {
     let alloc = rt.alloc();
-    let text = text_of(&rt, alloc, RawBuf::CAP);
-    let mut buffer = new_buffer(&rt, alloc);
+    let text = pattern(alloc, RawBuf::CAP).expect(&rt, "no memory");
+    let mut buffer = RawBuf::new(alloc).expect(&rt, "no memory");
     for run in text.chunks(100) {
         extend(&rt, alloc, &mut buffer, run);
     }
     expect_full_chain(&rt, alloc, &buffer, &text);
-}
-
-#[test]
-fn bytes_pushed_one_by_one_fill_the_chain(rt: HostRuntime) {
-    let alloc = rt.alloc();
-    let text = text_of(&rt, alloc, RawBuf::CAP);
-    let mut buffer = new_buffer(&rt, alloc);
+    buffer.clear();
     for byte in &text {
         push(&rt, alloc, &mut buffer, *byte);
     }
     expect_full_chain(&rt, alloc, &buffer, &text);
 }
 
+// A buffer of several blocks is copied from each start, and serves again once it is cleared.
 #[test]
-fn cleared_buffer_serves_again(rt: HostRuntime) {
+fn ranges_of_a_buffer_that_is_cleared(rt: HostRuntime) {
     let alloc = rt.alloc();
-    let text = text_of(&rt, alloc, 300);
-    let mut buffer = new_buffer(&rt, alloc);
+    let text = pattern(alloc, 400).expect(&rt, "no memory");
+    let mut buffer = RawBuf::new(alloc).expect(&rt, "no memory");
     extend(&rt, alloc, &mut buffer, &text);
     expect_text(&rt, alloc, &buffer, &text);
-    buffer.clear();
-    extend(&rt, alloc, &mut buffer, b"xyz");
-    expect_text(&rt, alloc, &buffer, b"xyz");
-}
-
-#[test]
-fn ranges_are_copied_from_each_start(rt: HostRuntime) {
-    let alloc = rt.alloc();
-    let text = text_of(&rt, alloc, 400);
-    let mut buffer = new_buffer(&rt, alloc);
-    extend(&rt, alloc, &mut buffer, &text);
     for (start, range) in text.windows(130).enumerate() {
         expect_at(&rt, alloc, &buffer, start as u64, range);
     }
+    buffer.clear();
+    extend(&rt, alloc, &mut buffer, b"xyz");
+    expect_text(&rt, alloc, &buffer, b"xyz");
 }

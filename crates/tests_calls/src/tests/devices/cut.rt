@@ -23,10 +23,6 @@ fn reads_up_to_the_cut(rt: HostRuntime) {
     let mut files = CutFiles::new(digits_file(&rt, rt.alloc()), 6);
     expect_no_file(&rt, &mut files, "letters", OpenFault::NotFound);
     expect_all(&rt, &mut files, "digits", SIX_BYTES);
-}
-
-#[test]
-fn failures_of_the_whole_files_are_counted(rt: HostRuntime) {
-    let mut files = CutFiles::new(FuseFiles::new(digits_file(&rt, rt.alloc()), 1), 6);
-    expect_all(&rt, &mut files, "digits", ONE_CALL);
+    let whole = FuseFiles::new(digits_file(&rt, rt.alloc()), 1);
+    expect_all(&rt, &mut CutFiles::new(whole, 6), "digits", ONE_CALL);
 }

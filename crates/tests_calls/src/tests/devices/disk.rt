@@ -7,7 +7,7 @@ ghost use Rattle.cord_io.specs.Reported.{Agrees};
 use super::super::cases::expect_case;
 use super::Ask::{self, Failures, Fault, Open, Read as Reads};
 use super::{expect_all, expect_answer, expect_answers, expect_no_file, opened};
-use cord_io::{DiskFiles, FileNo, Files, OpenFault, ReadFault};
+use cord_io::{DiskFiles, Files, OpenFault, ReadFault};
 use std::alloc::{Allocator, Global};
 use std::cell::Cell;
 use std::fs::{self, Metadata, OpenFile};
@@ -254,79 +254,45 @@ const ASKED: &[(&str, Trouble, u8, &[Ask])] = &[
     ),
 ];
 
-// Asks a file of a machine.
-fn expect_asked(rt: &impl Abort, alloc: Global, path: &str, machine: Machine, asks: &[Ask]) {
-    expect_all(rt, &mut DiskFiles::new(machine, alloc), path, asks);
-}
+// The trouble of a machine whose paths can't be opened, why, and how often a call has failed then.
+const UNOPENED: &[(Trouble, OpenFault, u64)] = &[
+    (Trouble::Missing, OpenFault::NotFound, 0),
+    (Trouble::Forbidden, OpenFault::Failed, 1),
+    (Trouble::Directory, OpenFault::Failed, 1),
+    (Trouble::NoSeek, OpenFault::Failed, 1),
+];
 
-#[test]
-fn cases_of_machines(rt: HostRuntime) {
-    for &(path, trouble, reads, asks) in ASKED {
-        expect_asked(&rt, rt.alloc(), path, Machine { trouble, reads }, asks);
-    }
-}
-
-// Opens two files of ten bytes.
-fn opened_both<F: Files>(rt: &impl Abort, files: &mut F, one: &str, other: &str) -> (FileNo, FileNo)
-    ensures one { IsSomeAnd (F.opened files.new result.0.0) (λ reported. 10 ≤ reported.1) }
-    ensures other { IsSomeAnd (F.opened files.new result.1.0) (λ reported. 10 ≤ reported.1) }
-{
-    let first = opened(rt, files, one);
-    let second = opened(rt, files, other);
-    (first, second)
-}
-
-// Asks both of two opened files the same.
-fn expect_both<F: Files>(rt: &impl Abort, files: &mut F, one: FileNo, other: FileNo, ask: Ask)
-    requires one { IsSomeAnd (F.opened files.old one.0) (λ reported. 10 ≤ reported.1) }
-    requires other { IsSomeAnd (F.opened files.old other.0) (λ reported. 10 ≤ reported.1) }
-    ensures { (n : ℕ) → F.opened files.new n ≡ F.opened files.old n }
-{
-    expect_answer(rt, files, one, ask);
-    expect_answer(rt, files, other, ask);
-}
-
+// Two files that are read on in turn are each read ahead.
 fn read_in_turn<F: Files>(rt: &impl Abort, files: &mut F) {
-    let (one, other) = opened_both(rt, files, "one", "other");
-    expect_both(rt, files, one, other, Reads(0, 4, b"0123"));
-    expect_both(rt, files, one, other, Reads(4, 4, b"4567"));
-    expect_both(rt, files, one, other, Reads(8, 4, b"89"));
+    let one = opened(rt, files, "one");
+    let other = opened(rt, files, "other");
+    expect_answer(rt, files, one, Reads(0, 4, b"0123"));
+    expect_answer(rt, files, other, Reads(0, 4, b"0123"));
+    expect_answer(rt, files, one, Reads(4, 4, b"4567"));
+    expect_answer(rt, files, other, Reads(4, 4, b"4567"));
+    expect_answer(rt, files, one, Reads(8, 4, b"89"));
+    expect_answer(rt, files, other, Reads(8, 4, b"89"));
     assert!(rt; files.failures() == 0);
 }
 
-// Two files that are read on in turn are each read ahead, by two reads each.
+// Only a missing path is not found. Each of two files takes two reads.
 #[test]
-fn reads_two_files_ahead(rt: HostRuntime) {
+fn cases_of_machines(rt: HostRuntime) {
+    let alloc = rt.alloc();
+    for &(path, trouble, reads, asks) in ASKED {
+        let mut files = DiskFiles::new(Machine { trouble, reads }, alloc);
+        expect_all(&rt, &mut files, path, asks);
+    }
+    for &(trouble, fault, failures) in UNOPENED {
+        let mut files = DiskFiles::new(Machine { trouble, reads: 0 }, alloc);
+        expect_no_file(&rt, &mut files, "digits", fault);
+        assert!(rt; files.failures() == failures);
+    }
     let machine = Machine {
         trouble: Trouble::Nothing,
         reads: 2,
     };
-    read_in_turn(&rt, &mut DiskFiles::new(machine, rt.alloc()));
-}
-
-#[test]
-fn only_a_missing_path_is_not_found(rt: HostRuntime) {
-    let cases = [
-        (Trouble::Missing, OpenFault::NotFound, 0),
-        (Trouble::Forbidden, OpenFault::Failed, 1),
-        (Trouble::Directory, OpenFault::Failed, 1),
-        (Trouble::NoSeek, OpenFault::Failed, 1),
-    ];
-    for (trouble, fault, failures) in cases {
-        let machine = Machine { trouble, reads: 0 };
-        let mut files = DiskFiles::new(machine, rt.alloc());
-        assert!(rt; files.open("digits") == Err(fault));
-        assert!(rt; files.failures() == failures);
-    }
-}
-
-// Writes the ten digits to a file of the machine that runs the test.
-fn write_digits(rt: &(impl rt::Files + Abort), path: &str) {
-    fs::write(rt, path, DIGITS.as_slice()).expect(rt, "not written");
-}
-
-fn remove(rt: &(impl rt::Files + Abort), path: &str) {
-    fs::remove_file(rt, path).expect(rt, "not removed");
+    read_in_turn(&rt, &mut DiskFiles::new(machine, alloc));
 }
 
 // The files of the machine that runs the test.
@@ -345,35 +311,21 @@ const REMOVED: &[Ask] = &[
     Reads(1, 4, b"1234"),
     Open(REAL_PATH, OpenFault::NotFound),
     Failures(0),
+    Open(".", OpenFault::Failed),
+    Open("out\0side", OpenFault::Failed),
+    Failures(2),
 ];
 
-// Opens a real file, which is removed before it is read.
+// Opens a real file, which is removed before it is read. Directories and bad paths are no files.
 fn read_removed<R: rt::Files + AllocGlobal + Abort + Clone>(rt: &R)
 where
     R::File: FileExt,
 {
-    write_digits(rt, REAL_PATH);
+    fs::write(rt, REAL_PATH, DIGITS.as_slice()).expect(rt, "not written");
     let mut files = real(rt);
     let no = opened(rt, &mut files, REAL_PATH);
-    remove(rt, REAL_PATH);
+    fs::remove_file(rt, REAL_PATH).expect(rt, "not removed");
     expect_answers(rt, &mut files, no, REMOVED);
-}
-
-#[test]
-fn real_files(rt: HostRuntime) {
-    read_removed(&rt);
-}
-
-// That two paths of real files can't be opened.
-fn expect_unopened<F: Files>(rt: &impl Abort, files: &mut F, one: &str, other: &str) {
-    expect_no_file(rt, files, one, OpenFault::Failed);
-    expect_no_file(rt, files, other, OpenFault::Failed);
-    expect_case(rt, files.failures() == 2, one, 2);
-}
-
-#[test]
-fn directories_and_bad_paths_are_no_files(rt: HostRuntime) {
-    expect_unopened(&rt, &mut real(&rt), ".", "out\0side");
 }
 
 // Reads from a place of a file on. A file system that agrees with all that was reported has these bytes there.
@@ -398,37 +350,24 @@ where
     files.read_at(no, start, out)
 }
 
-// What is read of a path from a place on, where there is something.
+// That these bytes are read of a path from a place on, or nothing.
 fn expect_reported<R: rt::Files>(
     rt: &impl Abort,
     files: &mut DiskFiles<R>,
     path: &str,
     start: u64,
-    bytes: &[u8],
+    bytes: Option<&[u8]>,
 )
 where
     R::File: FileExt,
 {
     let mut out = [0u8; 4];
-    assert!(rt; read_reported(files, path, start, &mut out) == Ok(bytes.len()));
-    expect_case(rt, out.starts_with(bytes), "from", start);
-}
-
-// That nothing is read of a path from a place on.
-fn expect_unreported<R: rt::Files>(
-    rt: &impl Abort,
-    files: &mut DiskFiles<R>,
-    path: &str,
-    start: u64,
-)
-where
-    R::File: FileExt,
-{
-    let mut out = [0u8; 4];
-    assert!(rt;
-        read_reported(files, path, start, &mut out) == Err(ReadFault),
-        "from {start}"
-    );
+    let read = read_reported(files, path, start, &mut out);
+    let is_read = match bytes {
+        None => read == Err(ReadFault),
+        Some(bytes) => read == Ok(bytes.len()) && out.starts_with(bytes),
+    };
+    expect_case(rt, is_read, "from", start);
 }
 
 // What was reported of a real file agrees with what was written there.
@@ -436,17 +375,18 @@ fn read_written<R: rt::Files + AllocGlobal + Abort + Clone>(rt: &R, path: &str)
 where
     R::File: FileExt,
 {
-    write_digits(rt, path);
+    fs::write(rt, path, DIGITS.as_slice()).expect(rt, "not written");
     let mut files = real(rt);
-    expect_reported(rt, &mut files, path, 3, b"3456");
-    expect_reported(rt, &mut files, path, 8, b"89");
-    expect_unreported(rt, &mut files, path, 10);
-    remove(rt, path);
-    expect_unreported(rt, &mut files, path, 0);
+    expect_reported(rt, &mut files, path, 3, Some(b"3456"));
+    expect_reported(rt, &mut files, path, 8, Some(b"89"));
+    expect_reported(rt, &mut files, path, 10, None);
+    fs::remove_file(rt, path).expect(rt, "not removed");
+    expect_reported(rt, &mut files, path, 0, None);
     expect_case(rt, files.failures() == 0, path, 0);
 }
 
 #[test]
-fn reported_bytes_of_a_real_file(rt: HostRuntime) {
+fn real_files(rt: HostRuntime) {
+    read_removed(&rt);
     read_written(&rt, "tests_calls_reported");
 }

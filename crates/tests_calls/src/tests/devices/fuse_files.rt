@@ -27,39 +27,18 @@ fn expect_fused<F: Files>(rt: &impl Abort, files: &mut FuseFiles<F>, asks: &[Ask
     expect_case(rt, files.inner().failures() == inside, "inside", inside);
 }
 
-// That a path can't be opened, and how many calls have failed then.
-fn expect_unopened<F: Files>(
-    rt: &impl Abort,
-    files: &mut FuseFiles<F>,
-    path: &str,
-    fault: OpenFault,
-    failures: u64,
-) {
-    expect_no_file(rt, files, path, fault);
-    expect_case(rt, files.failures() == failures, path, failures);
-}
-
+// Files that aren't opened have failed so often.
 #[test]
 fn files_pass_so_many_calls(rt: HostRuntime) {
     let mut files = FuseFiles::new(digits_file(&rt, rt.alloc()), 3);
-    expect_unopened(&rt, &mut files, "letters", OpenFault::NotFound, 0);
+    expect_no_file(&rt, &mut files, "letters", OpenFault::NotFound);
+    assert!(rt; files.failures() == 0);
     expect_fused(&rt, &mut files, THREE_CALLS, 0);
-}
-
-#[test]
-fn failures_of_the_files_inside_are_counted(rt: HostRuntime) {
+    let mut spent = FuseFiles::new(digits_file(&rt, rt.alloc()), 0);
+    expect_no_file(&rt, &mut spent, "digits", OpenFault::Failed);
+    assert!(rt; spent.failures() == 1);
+    let mut once = FuseFiles::new(digits_file(&rt, rt.alloc()), 1);
+    expect_fused(&rt, &mut once, ONE_CALL, 0);
     let cut = CutFiles::new(digits_file(&rt, rt.alloc()), 4);
     expect_fused(&rt, &mut FuseFiles::new(cut, 4), CUT_INSIDE, 1);
-}
-
-#[test]
-fn a_spent_fuse_opens_nothing(rt: HostRuntime) {
-    let mut files = FuseFiles::new(digits_file(&rt, rt.alloc()), 0);
-    expect_unopened(&rt, &mut files, "digits", OpenFault::Failed, 1);
-}
-
-#[test]
-fn a_fuse_of_one_call_opens_once(rt: HostRuntime) {
-    let mut files = FuseFiles::new(digits_file(&rt, rt.alloc()), 1);
-    expect_fused(&rt, &mut files, ONE_CALL, 0);
 }

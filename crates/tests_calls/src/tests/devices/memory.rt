@@ -1,21 +1,23 @@
 // What files in memory answer.
-use super::Ask::{Failures, Read};
-use super::{digits_file, expect_all, expect_read};
+use super::Ask::{Failures, Open, Read};
+use super::{digits_file, expect_all};
 use cord_io::{CordError, Files, MemFiles, OpenFault};
 
 #[test]
 fn reads_what_lies_inside(rt: HostRuntime) {
     let mut files = digits_file(&rt, rt.alloc());
-    let asks = [Read(3, 4, b"3456"), Read(8, 4, b"89"), Failures(0)];
+    let asks = [
+        Read(3, 4, b"3456"),
+        Read(8, 4, b"89"),
+        Open("letters", OpenFault::NotFound),
+        Failures(0),
+    ];
     expect_all(&rt, &mut files, "digits", &asks);
-}
-
-#[test]
-fn a_missing_path_is_no_failure(rt: HostRuntime) {
-    let mut files = digits_file(&rt, rt.alloc());
-    assert!(rt; files.open("letters") == Err(OpenFault::NotFound));
     let empty = files.open("empty");
     assert!(rt; empty.is_ok());
+    let first = files.open("digits");
+    assert!(rt; first.is_ok());
+    assert!(rt; first == files.open("digits"));
     assert!(rt; files.failures() == 0);
 }
 
@@ -30,16 +32,9 @@ fn a_path_that_is_there_gets_the_new_bytes(rt: HostRuntime) {
         panic!(rt; "not opened");
     };
     assert!(rt; len == 5);
-    expect_read(&rt, &mut files, no, 0, &mut [0; 8], b"newer");
-}
-
-#[test]
-fn the_same_path_keeps_its_number(rt: HostRuntime) {
-    let mut files = digits_file(&rt, rt.alloc());
-    let first = files.open("digits");
-    let second = files.open("digits");
-    assert!(rt; first.is_ok());
-    assert!(rt; first == second);
+    let mut room = [0; 8];
+    assert!(rt; files.read_at(no, 0, &mut room) == Ok(5));
+    assert!(rt; room.starts_with(b"newer"));
 }
 
 // Each file that was added is whole, also where memory was refused on the way.

@@ -3,7 +3,6 @@ use super::Offer::{self, Failed, Finished, Refused, Taken, Unfinished};
 use super::expect_offers;
 use cord_io::StdSink;
 use std::io::{self, Write};
-use std::process::Abort;
 
 // A writer that takes at most two bytes a call for so many calls, and then answers its last word.
 #[derive(Drop)]
@@ -42,18 +41,6 @@ impl Write for Narrow {
 
 const HELLO: &[Offer] = &[Taken(b"hel", 3), Taken(b"lo", 2), Finished, Failed(0)];
 
-// That a sink over a writer answers so.
-fn expect_all<W: Write + Drop>(rt: &impl Abort, writer: W, offers: &[Offer]) {
-    expect_offers(rt, &mut StdSink::new(writer), offers);
-}
-
-#[test]
-fn takes_all_bytes(rt: HostRuntime) {
-    let mut bytes: Vec<u8> = Vec::new(rt.alloc());
-    expect_all(&rt, &mut bytes, HELLO);
-    assert!(rt; bytes.as_slice() == b"hello".as_slice());
-}
-
 // Over a writer that takes one part.
 const ONE_PART: &[Offer] = &[
     Finished,
@@ -65,14 +52,13 @@ const ONE_PART: &[Offer] = &[
     Failed(3),
 ];
 
-// A writer that takes one part, and then answers its last word.
-fn one_part(last: Last) -> Narrow {
-    Narrow { calls: 1, last }
-}
-
+// Each way to fail is counted.
 #[test]
-fn each_way_to_fail_is_counted(rt: HostRuntime) {
-    expect_all(&rt, one_part(Last::TakesNothing), ONE_PART);
-    expect_all(&rt, one_part(Last::Interrupted), ONE_PART);
-    expect_all(&rt, one_part(Last::Full), ONE_PART);
+fn takes_all_bytes(rt: HostRuntime) {
+    let mut bytes: Vec<u8> = Vec::new(rt.alloc());
+    expect_offers(&rt, &mut StdSink::new(&mut bytes), HELLO);
+    assert!(rt; bytes.as_slice() == b"hello".as_slice());
+    for last in [Last::TakesNothing, Last::Interrupted, Last::Full] {
+        expect_offers(&rt, &mut StdSink::new(Narrow { calls: 1, last }), ONE_PART);
+    }
 }
