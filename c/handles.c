@@ -5,8 +5,8 @@
  *   for a second handle that is read, a share of the first.
  *
  * Searches for a cord in itself, and comparisons with itself, take no memory: they are answered here. One place as
- * handles of two kinds is ZC_BAD_ARGUMENT. No proof speaks of this file. tools/c-library joins it to the proved calls,
- * where that of zc_cat is named proved_zc_cat. */
+ * handles of two kinds is ZC_BAD_ARGUMENT. tools/handles-proof proves this file over the contracts of the proved calls.
+ * tools/c-library joins it to these, where that of zc_cat is named proved_zc_cat. */
 #include "zomtsje.h"
 
 #define share_cord zc_share
