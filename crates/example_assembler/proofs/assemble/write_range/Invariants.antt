@@ -1,6 +1,0 @@
-use Rattle.cord.proofs.Meanings.{Joined}
-use Rattle.example_assembler.specs.Meaning.{segment_bytes}
-use Rattle.example_assembler.proofs.assemble.write_range.Given as goal
-
-abbrev pub invariant-loop-segment : goal.invariant-loop-segment
-invariant-loop-segment g l = Joined (g.S.Source.lengths l.src) segment_bytes l.segments l.segment-index l.text

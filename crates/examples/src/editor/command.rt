@@ -1,0 +1,63 @@
+//! The commands, one a line.
+use super::edit::Edit;
+use super::refusal::Refusal;
+
+/// What a line of input asks for.
+#[derive(Clone, Copy)]
+pub enum Command<'a> {
+    Edit(Edit<'a>),
+    Find(&'a str),
+    Window(u64),
+    Print,
+    Undo,
+    Redo,
+    Quit,
+}
+
+impl<'a> Command<'a> {
+    /// Reads a line.
+    pub fn parse(line: &'a str) -> Result<Command<'a>, Refusal> {
+        let (name, rest) = line.split_once(' ').unwrap_or((line, ""));
+        let command = match name {
+            "find" => Command::Find(rest),
+            "window" => Command::Window(number(rest)?),
+            "print" => Command::Print,
+            "undo" => Command::Undo,
+            "redo" => Command::Redo,
+            "quit" => Command::Quit,
+            _ => Command::Edit(edit_of(name, rest)?),
+        };
+        Ok(command)
+    }
+}
+
+/// Reads what follows the name of an edit.
+fn edit_of<'a>(name: &str, rest: &'a str) -> Result<Edit<'a>, Refusal> {
+    let edit = match name {
+        "append" => Edit::Append(rest),
+        "insert" => {
+            let (place, text) = split_number(rest)?;
+            Edit::Insert(place, text)
+        }
+        "delete" => {
+            let (place, count) = split_number(rest)?;
+            Edit::Delete(place, number(count)?)
+        }
+        "replace" => {
+            let (old, new) = rest.split_once('/').ok_or(Refusal::NoSlash)?;
+            Edit::Replace(old, new)
+        }
+        _ => return Err(Refusal::NoSuchCommand),
+    };
+    Ok(edit)
+}
+
+/// The number that a text begins with, and what follows the space after it.
+fn split_number(text: &str) -> Result<(u64, &str), Refusal> {
+    let (word, rest) = text.split_once(' ').unwrap_or((text, ""));
+    Ok((number(word)?, rest))
+}
+
+fn number(word: &str) -> Result<u64, Refusal> {
+    word.parse().map_err(|_| Refusal::NoNumber)
+}
