@@ -1,4 +1,4 @@
-use Rattle.std.proofs.Common.{◌≡◌, arith, ap, subst, ◌∙◌}
+use Rattle.std.proofs.Common.{◌≡◌, arith, ap, subst, ◌∙◌, rules}
 use Rattle.std.specs.Prelude.{IfOk}
 use Rattle.std.specs.Rc.{rc_with_value}
 use Rattle.std.proofs.lemmas.Grind.{common_steps}
@@ -69,3 +69,9 @@ splice_both-returns-clause-splice t c =
     c.requires.left_sound c.requires.right_sound c.requires.both c.in_ok-splice_node.ensures.splice
     c.in_ok-rest.ensures.sound c.in_ok-rest.ensures.text c.in_ok-rest.ensures.len
     c.in_ok-rest.ensures.depth c.in_ok-rest.ensures.parts_from
+
+pub splice_in_place-returns-clause-splice : goal.splice_in_place-returns-clause-splice
+splice_in_place-returns-clause-splice t c = search rules
+
+pub splice_sides-splice_node-requires : goal.splice_sides-splice_node-requires
+splice_sides-splice_node-requires t c = search rules

@@ -77,3 +77,9 @@ returns-in_ok-right-in-Cat-clause-few t c =
 
 pub returns-in-Run-clause-few : goal.returns-in-Run-clause-few
 returns-in-Run-clause-few t c = search rules
+
+pub returns-in-Run-clause-depth : goal.returns-in-Run-clause-depth
+returns-in-Run-clause-depth t c = search rules
+
+pub returns-in-Run-clause-parts_from : goal.returns-in-Run-clause-parts_from
+returns-in-Run-clause-parts_from t c = search rules
