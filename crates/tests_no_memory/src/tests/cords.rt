@@ -1,56 +1,258 @@
 //! Cords: what makes them, joins them, takes their parts and balances them.
-use super::texts::{cord_of, expect_bytes, expect_text, made, pattern, run_of, shared_of};
+use super::texts::{cord_of, expect_bytes, expect_text, made, pattern, shared_of};
 use cord_core::{Cord, Node};
 use cord_io::{CordError, MAX_LEN, SourceId};
 use std::alloc::Global;
 use std::process::Abort;
-use std::rc::RcSlice;
 
-// A cord with bytes after it.
-fn longer_by(rt: &impl Abort, alloc: Global, cord: &Cord, bytes: &[u8]) -> Cord {
-    again!(rt, Cord::cat_bytes(alloc, cord, bytes))
+// What a cord is made of, from left to right.
+#[derive(Clone, Copy)]
+enum Part {
+    // One leaf.
+    Leaf(&'static [u8]),
+    // So many times a byte.
+    Run(u8, u64),
+    // The pattern in so many leaves of 65 bytes, each of which is one step deeper than the one after it.
+    Leaves(usize),
 }
 
-// Two cords, one after the other.
-fn joined(rt: &impl Abort, alloc: Global, left: &Cord, right: &Cord) -> Cord {
-    again!(rt, Cord::cat(alloc, left, right))
+use Part::{Leaf, Leaves, Run};
+
+// What a cord is.
+#[derive(Clone, Copy)]
+enum Shape {
+    // Leaves and runs of this text.
+    Text(&'static [u8]),
+    // Leaves of so many bytes of the pattern.
+    Pattern(usize),
+    // One run.
+    Same(u8, u64),
+    // So many bytes of source 0 from a place on.
+    Func(u64, u64),
+    // So many bytes of this leaf from a place on.
+    Within(&'static [u8], u64, u64),
 }
 
-// A leaf "ab" and a run "cc".
-fn abcc(rt: &impl Abort, alloc: Global) -> Cord {
-    let leaf = cord_of(rt, alloc, b"ab");
-    joined(rt, alloc, &leaf, &run_of(rt, alloc, 99, 2))
-}
+use Shape::{Func, Pattern, Same, Text, Within};
 
-// A text in leaves of 65 bytes, each of which is one step deeper than the one after it: of 61 leaves, 60 deep.
-fn deep(rt: &impl Abort, alloc: Global, text: &[u8]) -> Cord {
+fn leaves_of(rt: &impl Abort, alloc: Global, count: usize) -> Cord {
+    let text = pattern(rt, alloc, count.saturating_mul(65));
     let mut cord = Cord::empty();
     for leaf in text.chunks(65) {
-        cord = longer_by(rt, alloc, &cord, leaf);
+        cord = again!(rt, Cord::cat_bytes(alloc, &cord, leaf));
     }
     cord
 }
 
+fn part_of(rt: &impl Abort, alloc: Global, part: Part) -> Result<Cord, CordError> {
+    match part {
+        Leaf(text) => Cord::from_bytes(alloc, text),
+        Run(byte, len) => Cord::chars(alloc, byte, len),
+        Leaves(count) => Ok(leaves_of(rt, alloc, count)),
+    }
+}
+
+fn made_of(rt: &impl Abort, alloc: Global, parts: &[Part]) -> Cord {
+    let mut cord = Cord::empty();
+    for part in parts {
+        let more = again!(rt, part_of(rt, alloc, *part));
+        cord = again!(rt, Cord::cat(alloc, &cord, &more));
+    }
+    cord
+}
+
+// Whether a cord is one node of this shape.
+fn is_node(cord: &Cord, shape: Shape) -> bool {
+    let Some(node) = cord.root() else {
+        return false;
+    };
+    match (node.as_ref(), shape) {
+        (Node::Run { byte, len }, Same(same, count)) => *byte == same && *len == count,
+        (Node::Func { id, start, len }, Func(from, count)) => {
+            *id == SourceId(0) && *start == from && *len == count
+        }
+        (
+            Node::Leaf {
+                bytes,
+                start,
+                len,
+                ..
+            },
+            Within(whole, from, count),
+        ) => bytes.as_slice() == whole && *start == from && *len == count,
+        _ => false,
+    }
+}
+
+fn expect_shape(rt: &impl Abort, alloc: Global, cord: &Cord, shape: Shape) {
+    match shape {
+        Text(text) => expect_text(rt, cord, text),
+        Pattern(count) => expect_text(rt, cord, &pattern(rt, alloc, count)),
+        _ => assert!(rt; is_node(cord, shape)),
+    }
+}
+
+// A call that makes a cord, of three cords at most.
+#[derive(Clone, Copy)]
+enum Call {
+    FromBytes(&'static [u8]),
+    FromShared(&'static [u8]),
+    Chars(u8, u64),
+    // Three bytes of source 0 from 8 on.
+    FromFn,
+    Cat,
+    Catn,
+    CatChar(u8),
+    CatBytes(&'static [u8]),
+    Substr(u64, u64),
+    Share,
+    Balance,
+}
+
 // A cord of a slice that is shared on.
-fn from_shared(rt: &impl Abort, alloc: Global, shared: &RcSlice<u8>) -> Result<Cord, CordError> {
-    Cord::from_shared(alloc, again!(rt, shared.clone()))
+fn from_shared(rt: &impl Abort, alloc: Global, bytes: &[u8]) -> Result<Cord, CordError> {
+    let shared = shared_of(rt, alloc, bytes);
+    let answer = Cord::from_shared(alloc, again!(rt, shared.clone()));
+    expect_bytes(rt, shared.as_slice(), bytes);
+    answer
 }
 
-// Calls of which nothing but the answer is known here.
-fn cat(alloc: Global, left: &Cord, right: &Cord) -> Result<Cord, CordError> {
-    Cord::cat(alloc, left, right)
+fn answer_of(
+    rt: &impl Abort,
+    alloc: Global,
+    cords: &[Cord; 3],
+    call: Call,
+) -> Result<Cord, CordError> {
+    let [first, second, _] = cords;
+    match call {
+        Call::FromBytes(bytes) => Cord::from_bytes(alloc, bytes),
+        Call::FromShared(bytes) => from_shared(rt, alloc, bytes),
+        Call::Chars(byte, len) => Cord::chars(alloc, byte, len),
+        Call::FromFn => Cord::from_fn(alloc, SourceId(0), 8, 3),
+        Call::Cat => Cord::cat(alloc, first, second),
+        Call::Catn => Cord::catn(alloc, cords),
+        Call::CatChar(byte) => Cord::cat_char(alloc, first, byte),
+        Call::CatBytes(bytes) => Cord::cat_bytes(alloc, first, bytes),
+        Call::Substr(start, count) => first.substr(alloc, start, count),
+        Call::Share => first.share(alloc),
+        Call::Balance => first.balance(alloc),
+    }
 }
 
-fn part_of(alloc: Global, cord: &Cord, from: u64, count: u64) -> Result<Cord, CordError> {
-    cord.substr(alloc, from, count)
+// What a cord is made of, and what it is.
+type Given = (&'static [Part], Shape);
+
+// A call of cords, the first of which is so deep: what it makes, and how deep that is at most.
+type Case = (Call, &'static [Given; 3], u32, Shape, u32);
+
+// Makes a call, after which the cords are what they were.
+fn expect_case(rt: &impl Abort, alloc: Global, case: &Case) {
+    let (call, [first, second, third], depth, shape, most) = case;
+    let cords = [
+        made_of(rt, alloc, first.0),
+        made_of(rt, alloc, second.0),
+        made_of(rt, alloc, third.0),
+    ];
+    let answer = answer_of(rt, alloc, &cords, *call);
+    assert!(rt; cords[0].depth() == *depth);
+    expect_shape(rt, alloc, &cords[0], first.1);
+    expect_shape(rt, alloc, &cords[1], second.1);
+    expect_shape(rt, alloc, &cords[2], third.1);
+    let cord = made(rt, answer, answer_of(rt, alloc, &cords, *call));
+    expect_shape(rt, alloc, &cord, *shape);
+    assert!(rt; cord.depth() <= *most);
 }
 
-fn catn(alloc: Global, cords: &[Cord]) -> Result<Cord, CordError> {
-    Cord::catn(alloc, cords)
-}
+const NONE: Given = (&[], Text(b""));
 
-fn balanced(alloc: Global, cord: &Cord) -> Result<Cord, CordError> {
-    cord.balance(alloc)
+const ABCC: Given = (&[Leaf(b"ab"), Run(99, 2)], Text(b"abcc"));
+
+const DEF: Given = (&[Leaf(b"def")], Text(b"def"));
+
+const ABCCDEF: Given = (&[Leaf(b"ab"), Run(99, 2), Leaf(b"def")], Text(b"abccdef"));
+
+const WHOLE: &[u8] =
+    b"0123456789abcdefghijklmnopqrstuvwxyzABCDEFGHIJKLMNOPQRSTUVWXYZ<+/0123456789abcdefghijklmnopqrstuvwxyz";
+
+const LEAF: Given = (&[Leaf(WHOLE)], Text(WHOLE));
+
+const LONGEST: Given = (&[Run(0, MAX_LEN)], Same(0, MAX_LEN));
+
+const ABC_AND_RUN: &[Given; 3] = &[
+    (&[Leaf(b"abc")], Text(b"abc")),
+    (&[Run(100, 4)], Text(b"dddd")),
+    NONE,
+];
+
+// The bytes of the pattern after 3,965.
+const LAST: &[u8] = &[
+    200, 201, 202, 203, 204, 205, 206, 207, 208, 209, 210, 211, 212, 213, 214, 215, 216, 217, 218,
+    219, 220, 221, 222, 223, 224, 225, 226, 227, 228, 229, 230, 231, 232, 233, 234, 235, 236, 237,
+    238, 239, 240, 241, 242, 243, 244, 245, 246, 247, 248, 249, 250, 0, 1, 2, 3, 4, 5, 6, 7, 8, 9,
+    10, 11, 12, 13,
+];
+
+const DEEP_AND_LAST: &[Given; 3] = &[
+    (&[Leaves(61)], Pattern(3_965)),
+    (&[Leaf(LAST)], Text(LAST)),
+    NONE,
+];
+
+const DEEP: Given = (&[Leaves(30)], Pattern(1_950));
+
+// 18 is the slot of 4,030 bytes, between the Fibonacci numbers 2,584 and 4,181, and 17 that of 1,950.
+const CASES: &[Case] = &[
+    (Call::FromBytes(b"ab"), &[NONE; 3], 0, Text(b"ab"), 0),
+    (Call::FromShared(b"abc"), &[NONE; 3], 0, Text(b"abc"), 0),
+    (Call::Chars(99, 2), &[NONE; 3], 0, Same(99, 2), 0),
+    (Call::FromFn, &[NONE; 3], 0, Func(8, 3), 0),
+    (Call::Cat, ABC_AND_RUN, 0, Text(b"abcdddd"), 1),
+    (Call::Cat, DEEP_AND_LAST, 60, Pattern(4_030), 18),
+    (Call::Catn, &[ABCC, DEF, ABCC], 1, Text(b"abccdefabcc"), 10),
+    (
+        Call::CatChar(100),
+        &[ABCC, NONE, NONE],
+        1,
+        Text(b"abccd"),
+        2,
+    ),
+    (
+        Call::CatBytes(b"def"),
+        &[ABCC, NONE, NONE],
+        1,
+        Text(b"abccdef"),
+        2,
+    ),
+    (
+        Call::Substr(1, 3),
+        &[ABCCDEF, NONE, NONE],
+        2,
+        Text(b"bcc"),
+        2,
+    ),
+    (
+        Call::Substr(10, 80),
+        &[LEAF, NONE, NONE],
+        0,
+        Within(WHOLE, 10, 80),
+        0,
+    ),
+    (
+        Call::Substr(5, 1_000),
+        &[LONGEST, NONE, NONE],
+        0,
+        Same(0, 1_000),
+        0,
+    ),
+    (Call::Share, &[ABCC, NONE, NONE], 1, Text(b"abcc"), 1),
+    (Call::Balance, &[DEEP, NONE, NONE], 29, Pattern(1_950), 17),
+];
+
+#[test]
+fn refused_cords(rt: HostRuntime) {
+    for case in CASES {
+        expect_case(&rt, rt.alloc(), case);
+    }
 }
 
 fn splice(alloc: Global, cord: &mut Cord, at: u64, middle: &Cord) -> Result<(), CordError> {
@@ -67,222 +269,18 @@ fn expect_spliced(rt: &impl Abort, alloc: Global, cord: &mut Cord, at: u64, afte
     expect_text(rt, cord, after);
 }
 
-// That a cord is so deep.
-fn expect_depth(rt: &impl Abort, cord: &Cord, depth: u32) {
-    assert!(rt; cord.depth() == depth);
-}
-
-// That a cord is at most so deep.
-fn expect_balanced(rt: &impl Abort, cord: &Cord, depth: u32) {
-    assert!(rt; cord.depth() <= depth);
-}
-
-// The source, the start and the length of a cord that is one function part.
-fn func_fields(cord: &Cord) -> Option<(SourceId, u64, u64)> {
-    match cord.root()?.as_ref() {
-        Node::Func { id, start, len } => Some((*id, *start, *len)),
-        _ => None,
-    }
-}
-
-// The byte and the length of a cord that is one run.
-fn run_fields(cord: &Cord) -> Option<(u8, u64)> {
-    match cord.root()?.as_ref() {
-        Node::Run { byte, len } => Some((*byte, *len)),
-        _ => None,
-    }
-}
-
-// The bytes, the start and the length of a cord that is one leaf.
-fn leaf_fields(cord: &Cord) -> Option<(&[u8], u64, u64)> {
-    match cord.root()?.as_ref() {
-        Node::Leaf {
-            bytes,
-            start,
-            len,
-            ..
-        } => Some((bytes.as_slice(), *start, *len)),
-        _ => None,
-    }
-}
-
-#[test]
-fn refused_from_bytes(rt: HostRuntime) {
-    let alloc = rt.alloc();
-    let bytes = b"ab";
-    let first = Cord::from_bytes(alloc, bytes);
-    expect_bytes(&rt, bytes, b"ab");
-    let cord = made(&rt, first, Cord::from_bytes(alloc, bytes));
-    expect_text(&rt, &cord, b"ab");
-}
-
-#[test]
-fn refused_from_shared(rt: HostRuntime) {
-    let alloc = rt.alloc();
-    let shared = shared_of(&rt, alloc, b"abc");
-    let first = from_shared(&rt, alloc, &shared);
-    expect_bytes(&rt, shared.as_slice(), b"abc");
-    let cord = made(&rt, first, from_shared(&rt, alloc, &shared));
-    expect_text(&rt, &cord, b"abc");
-}
-
-#[test]
-fn refused_chars(rt: HostRuntime) {
-    let first = Cord::chars(rt.alloc(), 99, 2);
-    let cord = made(&rt, first, Cord::chars(rt.alloc(), 99, 2));
-    expect_text(&rt, &cord, b"cc");
-}
-
-#[test]
-fn refused_from_fn(rt: HostRuntime) {
-    let id = SourceId(0);
-    let first = Cord::from_fn(rt.alloc(), id, 8, 3);
-    let cord = made(&rt, first, Cord::from_fn(rt.alloc(), id, 8, 3));
-    assert!(rt; func_fields(&cord) == Some((SourceId(0), 8, 3)));
-}
-
-#[test]
-fn refused_cat(rt: HostRuntime) {
-    let alloc = rt.alloc();
-    let left = cord_of(&rt, alloc, b"abc");
-    let right = run_of(&rt, alloc, 100, 4);
-    let first = cat(alloc, &left, &right);
-    expect_text(&rt, &left, b"abc");
-    expect_text(&rt, &right, b"dddd");
-    let whole = made(&rt, first, cat(alloc, &left, &right));
-    expect_text(&rt, &whole, b"abcdddd");
-}
-
-// Joins cords of these texts, of which the first is 60 deep. 18 is the slot of 4,030 bytes, between the Fibonacci
-// numbers 2,584 and 4,181.
-fn cat_that_balances(rt: &impl Abort, alloc: Global, prefix: &[u8], last: &[u8]) -> Cord {
-    let left = deep(rt, alloc, prefix);
-    let right = cord_of(rt, alloc, last);
-    let first = cat(alloc, &left, &right);
-    expect_depth(rt, &left, 60);
-    expect_text(rt, &left, prefix);
-    expect_text(rt, &right, last);
-    made(rt, first, cat(alloc, &left, &right))
-}
-
-#[test]
-fn refused_cat_that_balances(rt: HostRuntime) {
-    let text = pattern(&rt, rt.alloc(), 62 * 65);
-    let (prefix, last) = text.split_at(61 * 65);
-    let whole = cat_that_balances(&rt, rt.alloc(), prefix, last);
-    expect_text(&rt, &whole, &text);
-    expect_balanced(&rt, &whole, 18);
-}
-
-// Joins the cords "abcc", "def" and "abcc".
-fn join_three(rt: &impl Abort, alloc: Global, cords: &[Cord; 3]) -> Cord {
-    let first = catn(alloc, cords);
-    expect_text(rt, &cords[0], b"abcc");
-    expect_text(rt, &cords[1], b"def");
-    expect_text(rt, &cords[2], b"abcc");
-    made(rt, first, catn(alloc, cords))
-}
-
-#[test]
-fn refused_catn(rt: HostRuntime) {
-    let alloc = rt.alloc();
-    let middle = cord_of(&rt, alloc, b"def");
-    let cords = [abcc(&rt, alloc), middle, abcc(&rt, alloc)];
-    let whole = join_three(&rt, alloc, &cords);
-    expect_text(&rt, &whole, b"abccdefabcc");
-}
-
-#[test]
-fn refused_cat_char(rt: HostRuntime) {
-    let alloc = rt.alloc();
-    let cord = abcc(&rt, alloc);
-    let first = Cord::cat_char(alloc, &cord, 100);
-    expect_text(&rt, &cord, b"abcc");
-    let longer = made(&rt, first, Cord::cat_char(alloc, &cord, 100));
-    expect_text(&rt, &longer, b"abccd");
-}
-
-#[test]
-fn refused_cat_bytes(rt: HostRuntime) {
-    let alloc = rt.alloc();
-    let cord = abcc(&rt, alloc);
-    let bytes = b"def";
-    let first = Cord::cat_bytes(alloc, &cord, bytes);
-    expect_text(&rt, &cord, b"abcc");
-    expect_bytes(&rt, bytes, b"def");
-    let longer = made(&rt, first, Cord::cat_bytes(alloc, &cord, bytes));
-    expect_text(&rt, &longer, b"abccdef");
-}
-
-#[test]
-fn refused_substr_over_a_seam(rt: HostRuntime) {
-    let alloc = rt.alloc();
-    let cord = longer_by(&rt, alloc, &abcc(&rt, alloc), b"def");
-    let first = part_of(alloc, &cord, 1, 3);
-    expect_text(&rt, &cord, b"abccdef");
-    let part = made(&rt, first, part_of(alloc, &cord, 1, 3));
-    expect_text(&rt, &part, b"bcc");
-}
-
-#[test]
-fn refused_substr_of_a_leaf(rt: HostRuntime) {
-    let alloc = rt.alloc();
-    let text = pattern(&rt, alloc, 100);
-    let cord = cord_of(&rt, alloc, &text);
-    let first = part_of(alloc, &cord, 10, 80);
-    expect_text(&rt, &cord, &text);
-    let part = made(&rt, first, part_of(alloc, &cord, 10, 80));
-    assert!(rt; leaf_fields(&part) == Some((text.as_slice(), 10, 80)));
-}
-
-#[test]
-fn refused_substr_of_a_run(rt: HostRuntime) {
-    let alloc = rt.alloc();
-    let cord = run_of(&rt, alloc, 0, MAX_LEN);
-    let first = part_of(alloc, &cord, 5, 1_000);
-    assert!(rt; run_fields(&cord) == Some((0, MAX_LEN)));
-    let part = made(&rt, first, part_of(alloc, &cord, 5, 1_000));
-    assert!(rt; run_fields(&part) == Some((0, 1_000)));
-}
-
-#[test]
-fn refused_share(rt: HostRuntime) {
-    let alloc = rt.alloc();
-    let cord = abcc(&rt, alloc);
-    let first = cord.share(alloc);
-    expect_text(&rt, &cord, b"abcc");
-    let shared = made(&rt, first, cord.share(alloc));
-    expect_text(&rt, &shared, b"abcc");
-}
-
-// 17 is the slot of 1,950 bytes, between the Fibonacci numbers 1,597 and 2,584.
-#[test]
-fn refused_balance(rt: HostRuntime) {
-    let alloc = rt.alloc();
-    let text = pattern(&rt, alloc, 30 * 65);
-    let cord = deep(&rt, alloc, &text);
-    let first = balanced(alloc, &cord);
-    expect_depth(&rt, &cord, 29);
-    expect_text(&rt, &cord, &text);
-    let balanced = made(&rt, first, balanced(alloc, &cord));
-    expect_text(&rt, &balanced, &text);
-    expect_balanced(&rt, &balanced, 17);
-}
-
 #[test]
 fn refused_splice_in_place(rt: HostRuntime) {
-    let alloc = rt.alloc();
-    let mut cord = longer_by(&rt, alloc, &abcc(&rt, alloc), b"def");
-    expect_spliced(&rt, alloc, &mut cord, 1, b"axyzef");
-    let mut cord = longer_by(&rt, alloc, &abcc(&rt, alloc), b"def");
-    expect_spliced(&rt, alloc, &mut cord, 3, b"abcxyz");
+    for (at, after) in [(1, b"axyzef".as_slice()), (3, b"abcxyz")] {
+        let mut cord = made_of(&rt, rt.alloc(), ABCCDEF.0);
+        expect_spliced(&rt, rt.alloc(), &mut cord, at, after);
+    }
 }
 
 #[test]
 fn refused_splice_of_a_shared_cord(rt: HostRuntime) {
-    let alloc = rt.alloc();
-    let other = longer_by(&rt, alloc, &abcc(&rt, alloc), b"def");
-    let mut cord = again!(&rt, other.share(alloc));
-    expect_spliced(&rt, alloc, &mut cord, 1, b"axyzef");
+    let other = made_of(&rt, rt.alloc(), ABCCDEF.0);
+    let mut cord = again!(&rt, other.share(rt.alloc()));
+    expect_spliced(&rt, rt.alloc(), &mut cord, 1, b"axyzef");
     expect_text(&rt, &other, b"abccdef");
 }

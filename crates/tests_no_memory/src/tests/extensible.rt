@@ -2,21 +2,19 @@
 use super::texts::{cord_of, expect_bytes, expect_no_memory, expect_text, is_refused, pattern};
 use cord_core::Cord;
 use cord_ec::ExtCord;
+use cord_io::CordError;
 use std::alloc::Global;
 use std::process::Abort;
 
-fn empty_ext(rt: &impl Abort, alloc: Global) -> ExtCord {
-    match ExtCord::new(alloc) {
+fn ext_of(rt: &impl Abort, alloc: Global, text: &[u8]) -> ExtCord {
+    let mut ext = match ExtCord::new(alloc) {
         Ok(ext) => ext,
         Err(error) => {
             expect_no_memory(rt, error);
             ExtCord::new(alloc).expect(rt, "memory")
         }
-    }
-}
-
-fn ext_of(rt: &impl Abort, alloc: Global, text: &[u8]) -> ExtCord {
-    let mut ext = empty_ext(rt, alloc);
+    };
+    assert!(rt; ext.len() == 0);
     again!(rt, ext.append_bytes(alloc, text));
     ext
 }
@@ -29,155 +27,94 @@ fn expect_ext(rt: &impl Abort, alloc: Global, ext: &mut ExtCord, text: &[u8], is
     }
 }
 
-// What an extensible cord has before it grows, and whether it is read where that is refused.
-#[derive(Drop)]
-struct Contents<'a> {
-    text: &'a [u8],
+// Ways to append bytes: one alone, all at once, and a cord of them.
+#[derive(Clone, Copy)]
+enum Way {
+    Byte,
+    Bytes,
+    Cord,
+}
+
+fn append_cord(
+    rt: &impl Abort,
+    alloc: Global,
+    ext: &mut ExtCord,
+    text: &[u8],
+) -> Result<(), CordError> {
+    let cord = cord_of(rt, alloc, text);
+    let answer = ext.append_cord(alloc, &cord);
+    expect_text(rt, &cord, text);
+    answer
+}
+
+fn append(
+    rt: &impl Abort,
+    alloc: Global,
+    ext: &mut ExtCord,
+    bytes: &[u8],
+    way: Way,
+) -> Result<(), CordError> {
+    match (way, bytes) {
+        (Way::Byte, [byte]) => ext.append(alloc, *byte),
+        (Way::Cord, _) => append_cord(rt, alloc, ext, bytes),
+        _ => ext.append_bytes(alloc, bytes),
+    }
+}
+
+// Appends what follows the first bytes of a text; where that is refused the text is read before it is tried again, or
+// not.
+fn expect_grown(
+    rt: &impl Abort,
+    alloc: Global,
+    text: &[u8],
+    first: usize,
+    way: Way,
     is_read: bool,
-}
-
-// Appends a byte.
-fn add_byte(rt: &impl Abort, alloc: Global, ext: &mut ExtCord, before: &Contents, byte: u8) {
-    if is_refused(rt, ext.append(alloc, byte)) {
-        expect_ext(rt, alloc, ext, before.text, before.is_read);
-        ext.append(alloc, byte).expect(rt, "memory");
+) {
+    let Some((before, bytes)) = text.split_at_checked(first) else {
+        panic!(rt; "too short");
+    };
+    let mut ext = ext_of(rt, alloc, before);
+    if is_refused(rt, append(rt, alloc, &mut ext, bytes, way)) {
+        expect_ext(rt, alloc, &mut ext, before, is_read);
+        append(rt, alloc, &mut ext, bytes, way).expect(rt, "memory");
     }
+    expect_ext(rt, alloc, &mut ext, text, true);
 }
 
-// Appends bytes.
-fn add_bytes(rt: &impl Abort, alloc: Global, ext: &mut ExtCord, before: &Contents, bytes: &[u8]) {
-    if is_refused(rt, ext.append_bytes(alloc, bytes)) {
-        expect_ext(rt, alloc, ext, before.text, before.is_read);
-        ext.append_bytes(alloc, bytes).expect(rt, "memory");
-    }
-}
+// How long the whole text is, how much of it is there before, and how the rest is appended: to few bytes, after a full
+// buffer, bytes that fit it, bytes that take leaves of their own, and a cord.
+const GROWTH: &[(usize, usize, Way)] = &[
+    (1, 0, Way::Byte),
+    (3, 1, Way::Bytes),
+    (4_097, 4_096, Way::Byte),
+    (500, 100, Way::Bytes),
+    (10_100, 100, Way::Bytes),
+    (5, 3, Way::Cord),
+];
 
-// Appends the cord "de".
-fn add_cord(rt: &impl Abort, alloc: Global, ext: &mut ExtCord, before: &Contents, cord: &Cord) {
-    if is_refused(rt, ext.append_cord(alloc, cord)) {
-        expect_ext(rt, alloc, ext, before.text, before.is_read);
-        expect_text(rt, cord, b"de");
-        ext.append_cord(alloc, cord).expect(rt, "memory");
+#[test]
+fn refused_appends(rt: HostRuntime) {
+    for &(count, first, way) in GROWTH {
+        let text = pattern(&rt, rt.alloc(), count);
+        expect_grown(&rt, rt.alloc(), &text, first, way, false);
+        expect_grown(&rt, rt.alloc(), &text, first, way, true);
+        expect_bytes(&rt, &text, &pattern(&rt, rt.alloc(), count));
     }
 }
 
 // The cord of an extensible cord, whose length alone is compared where that is refused.
 fn cord_in(rt: &impl Abort, alloc: Global, ext: &mut ExtCord, text: &[u8]) -> Cord {
-    match ext.to_cord(alloc) {
+    let cord = match ext.to_cord(alloc) {
         Ok(cord) => cord,
         Err(error) => {
             expect_no_memory(rt, error);
             expect_ext(rt, alloc, ext, text, false);
             ext.to_cord(alloc).expect(rt, "memory")
         }
-    }
-}
-
-#[test]
-fn refused_ext_cord_calls(rt: HostRuntime) {
-    let alloc = rt.alloc();
-    let mut ext = empty_ext(&rt, alloc);
-    assert!(rt; ext.len() == 0);
-    add_byte(
-        &rt,
-        alloc,
-        &mut ext,
-        &Contents {
-            text: b"",
-            is_read: true,
-        },
-        97,
-    );
-    let bytes = b"bc";
-    add_bytes(
-        &rt,
-        alloc,
-        &mut ext,
-        &Contents {
-            text: b"a",
-            is_read: true,
-        },
-        bytes,
-    );
-    expect_bytes(&rt, bytes, b"bc");
-    expect_ext(&rt, alloc, &mut ext, b"abc", true);
-}
-
-// A byte after a full buffer.
-fn outgrow(rt: &impl Abort, alloc: Global, full: &[u8], whole: &[u8], is_read: bool) {
-    let mut ext = ext_of(rt, alloc, full);
-    add_byte(
-        rt,
-        alloc,
-        &mut ext,
-        &Contents {
-            text: full,
-            is_read,
-        },
-        (4_096 % 251) as u8,
-    );
-    expect_ext(rt, alloc, &mut ext, whole, true);
-}
-
-#[test]
-fn refused_append_after_a_full_buffer(rt: HostRuntime) {
-    let text = pattern(&rt, rt.alloc(), 4_097);
-    let (full, _) = text.split_at(4_096);
-    outgrow(&rt, rt.alloc(), full, &text, false);
-    outgrow(&rt, rt.alloc(), full, &text, true);
-}
-
-// Many bytes after the first 100 of a text.
-fn grow(rt: &impl Abort, alloc: Global, text: &[u8], is_read: bool) {
-    let Some((few, many)) = text.split_at_checked(100) else {
-        panic!(rt; "too short");
     };
-    let mut ext = ext_of(rt, alloc, few);
-    add_bytes(rt, alloc, &mut ext, &Contents { text: few, is_read }, many);
-    expect_ext(rt, alloc, &mut ext, text, true);
-}
-
-#[test]
-fn refused_append_bytes_that_fit(rt: HostRuntime) {
-    let text = pattern(&rt, rt.alloc(), 500);
-    grow(&rt, rt.alloc(), &text, false);
-    grow(&rt, rt.alloc(), &text, true);
-}
-
-// 10,000 bytes after 100, which take leaves of their own.
-#[test]
-fn refused_append_bytes_in_the_middle(rt: HostRuntime) {
-    let text = pattern(&rt, rt.alloc(), 10_100);
-    grow(&rt, rt.alloc(), &text, false);
-    grow(&rt, rt.alloc(), &text, true);
-}
-
-// A cord after "abc".
-fn add_de(rt: &impl Abort, alloc: Global, cord: &Cord, is_read: bool) {
-    let mut ext = ext_of(rt, alloc, b"abc");
-    add_cord(
-        rt,
-        alloc,
-        &mut ext,
-        &Contents {
-            text: b"abc",
-            is_read,
-        },
-        cord,
-    );
-    expect_ext(rt, alloc, &mut ext, b"abcde", true);
-}
-
-#[test]
-fn refused_append_cord(rt: HostRuntime) {
-    let cord = cord_of(&rt, rt.alloc(), b"de");
-    add_de(&rt, rt.alloc(), &cord, false);
-    add_de(&rt, rt.alloc(), &cord, true);
-}
-
-// A byte after "abcde".
-fn add_f(rt: &impl Abort, alloc: Global, ext: &mut ExtCord) {
-    again!(rt, ext.append(alloc, 102));
+    expect_text(rt, &cord, text);
+    cord
 }
 
 #[test]
@@ -185,9 +122,7 @@ fn refused_to_cord(rt: HostRuntime) {
     let alloc = rt.alloc();
     let mut ext = ext_of(&rt, alloc, b"abcde");
     let cord = cord_in(&rt, alloc, &mut ext, b"abcde");
-    expect_text(&rt, &cord, b"abcde");
-    add_f(&rt, alloc, &mut ext);
-    let longer = cord_in(&rt, alloc, &mut ext, b"abcdef");
-    expect_text(&rt, &longer, b"abcdef");
+    again!(&rt, ext.append(alloc, 102));
+    let _ = cord_in(&rt, alloc, &mut ext, b"abcdef");
     expect_text(&rt, &cord, b"abcde");
 }

@@ -7,7 +7,7 @@ use std::alloc::Global;
 use std::process::Abort;
 
 // Paths, and the bytes of the file at each, or none where there is no file.
-type FileSystem<'a> = [(&'a str, Option<&'a [u8]>); 3];
+type FileSystem<'a> = &'a [(&'a str, Option<&'a [u8]>)];
 
 /// Whether the file at a path has these bytes, which are 8 at most; or none where there is no such file.
 pub fn holds(files: &mut MemFiles, path: &str, bytes: Option<&[u8]>) -> bool {
@@ -25,32 +25,35 @@ pub fn holds(files: &mut MemFiles, path: &str, bytes: Option<&[u8]>) -> bool {
 }
 
 // Whether these are the files.
-fn are(files: &mut MemFiles, file_system: &FileSystem) -> bool {
+fn are(files: &mut MemFiles, file_system: FileSystem) -> bool {
     file_system
         .iter()
         .all(|(path, bytes)| holds(files, path, *bytes))
 }
 
-// The files "a" and "b".
-fn two_files(rt: &impl Abort, alloc: Global) -> MemFiles
+/// These files in memory, which nobody has opened.
+pub fn two_files(rt: &impl Abort, alloc: Global, added: [(&str, &[u8]); 2]) -> MemFiles
     ensures unopened { (n : ℕ) → ⟦<MemFiles as Files>⟧.opened result n ≡ None }
     ensures few { length (file_system_in result) ≤ 4 }
 {
+    let [(first, first_bytes), (second, second_bytes)] = added;
     let mut files = MemFiles::new(alloc);
-    again!(rt, files.add(alloc, "a", b"old"));
-    again!(rt, files.add(alloc, "b", b"other"));
+    again!(rt, files.add(alloc, first, first_bytes));
+    again!(rt, files.add(alloc, second, second_bytes));
     files
 }
 
+const BEFORE: [(&str, &[u8]); 2] = [("a", b"old"), ("b", b"other")];
+
 // Adds `newer` at a path; the files are these then, and "a" and "b" as they were after a refusal. Files are added only
 // before any is read: so one run looks at what a refusal left, and one makes the call again.
-fn add(rt: &impl Abort, alloc: Global, path: &str, after: &FileSystem) {
+fn add(rt: &impl Abort, alloc: Global, path: &str, after: FileSystem) {
     let before = [
-        ("a", Some(b"old".as_slice())),
-        ("b", Some(b"other".as_slice())),
+        ("a", Some(BEFORE[0].1)),
+        ("b", Some(BEFORE[1].1)),
         ("c", None),
     ];
-    let mut files = two_files(rt, alloc);
+    let mut files = two_files(rt, alloc, BEFORE);
     match files.add(alloc, path, b"newer") {
         Ok(()) => assert!(rt; are(&mut files, after)),
         Err(error) => {
@@ -58,27 +61,30 @@ fn add(rt: &impl Abort, alloc: Global, path: &str, after: &FileSystem) {
             assert!(rt; are(&mut files, &before), "a file has changed");
         }
     }
-    let mut files = two_files(rt, alloc);
+    let mut files = two_files(rt, alloc, BEFORE);
     again!(rt, files.add(alloc, path, b"newer"));
     assert!(rt; are(&mut files, after));
 }
 
-#[test]
-fn refused_add_at_a_new_path(rt: HostRuntime) {
-    let after = [
-        ("a", Some(b"old".as_slice())),
-        ("b", Some(b"other".as_slice())),
-        ("c", Some(b"newer".as_slice())),
-    ];
-    add(&rt, rt.alloc(), "c", &after);
-}
+// A path where there is no file, and one where there is.
+const ADDED: &[(&str, FileSystem)] = &[
+    (
+        "c",
+        &[
+            ("a", Some(b"old")),
+            ("b", Some(b"other")),
+            ("c", Some(b"newer")),
+        ],
+    ),
+    (
+        "a",
+        &[("a", Some(b"newer")), ("b", Some(b"other")), ("c", None)],
+    ),
+];
 
 #[test]
-fn refused_add_at_a_path_that_is_there(rt: HostRuntime) {
-    let after = [
-        ("a", Some(b"newer".as_slice())),
-        ("b", Some(b"other".as_slice())),
-        ("c", None),
-    ];
-    add(&rt, rt.alloc(), "a", &after);
+fn refused_add(rt: HostRuntime) {
+    for (path, after) in ADDED {
+        add(&rt, rt.alloc(), path, after);
+    }
 }

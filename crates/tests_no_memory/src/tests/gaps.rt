@@ -2,13 +2,19 @@
 use super::texts::{cord_of, expect_text, is_refused, made, pattern};
 use cord_core::Cord;
 use cord_edit::EditBuffer;
+use cord_io::CordError;
 use std::alloc::Global;
 use std::process::Abort;
 
-fn buffer_of(rt: &impl Abort, alloc: Global, text: &[u8]) -> EditBuffer {
-    let cord = cord_of(rt, alloc, text);
-    again!(rt, EditBuffer::of(alloc, &cord))
+// One edit of a text.
+#[derive(Clone, Copy)]
+enum Edit<'a> {
+    Insert(u64, &'a [u8]),
+    Remove(u64, u64),
+    Splice(u64, u64, &'a [u8]),
 }
+
+use Edit::{Insert, Remove, Splice};
 
 // That a buffer has this text.
 fn expect_buffer(rt: &impl Abort, alloc: Global, buffer: &mut EditBuffer, text: &[u8]) {
@@ -19,69 +25,88 @@ fn expect_buffer(rt: &impl Abort, alloc: Global, buffer: &mut EditBuffer, text: 
     expect_text(rt, &made(rt, first, second), text);
 }
 
-// Puts bytes into a buffer, whose text before is this one.
-fn insert(
+fn splice(
     rt: &impl Abort,
     alloc: Global,
     buffer: &mut EditBuffer,
-    before: &[u8],
     at: u64,
-    bytes: &[u8],
-) {
-    if is_refused(rt, buffer.insert(alloc, at, bytes)) {
-        expect_buffer(rt, alloc, buffer, before);
-        buffer.insert(alloc, at, bytes).expect(rt, "memory");
+    count: u64,
+    text: &[u8],
+) -> Result<(), CordError> {
+    let middle = cord_of(rt, alloc, text);
+    let answer = buffer.splice(alloc, at, count, &middle);
+    expect_text(rt, &middle, text);
+    answer
+}
+
+fn make_edit(
+    rt: &impl Abort,
+    alloc: Global,
+    buffer: &mut EditBuffer,
+    edit: Edit,
+) -> Result<(), CordError> {
+    match edit {
+        Insert(at, bytes) => buffer.insert(alloc, at, bytes),
+        Remove(at, count) => buffer.remove(alloc, at, count),
+        Splice(at, count, text) => splice(rt, alloc, buffer, at, count, text),
     }
 }
 
-#[test]
-fn refused_buffer_of_a_cord(rt: HostRuntime) {
-    let alloc = rt.alloc();
-    let mut buffer = buffer_of(&rt, alloc, b"abc");
-    expect_buffer(&rt, alloc, &mut buffer, b"abc");
+// Edits a text: each edit stands with the text before it, which is there still where the edit is refused.
+fn expect_edits(
+    rt: &impl Abort,
+    alloc: Global,
+    edits: &[(&[u8], Edit)],
+    text: &[u8],
+    after: &[u8],
+) {
+    let cord = cord_of(rt, alloc, text);
+    let mut buffer = again!(rt, EditBuffer::of(alloc, &cord));
+    for (before, each) in edits {
+        if is_refused(rt, make_edit(rt, alloc, &mut buffer, *each)) {
+            expect_buffer(rt, alloc, &mut buffer, before);
+            make_edit(rt, alloc, &mut buffer, *each).expect(rt, "memory");
+        }
+    }
+    expect_buffer(rt, alloc, &mut buffer, after);
 }
 
+// Edits, each with the text before it, and the text after all.
+const EDITS: &[(&[(&[u8], Edit)], &[u8], &[u8])] = &[
+    (&[], b"abc", b"abc"),
+    (
+        &[
+            (b"abcdef", Insert(3, b"x")),
+            (b"abcxdef", Insert(1, b"y")),
+            (b"aybcxdef", Insert(6, b"z")),
+        ],
+        b"abcdef",
+        b"aybcxdzef",
+    ),
+    (
+        &[(b"abcdef", Insert(6, b"xyz")), (b"abcdefxyz", Remove(1, 2))],
+        b"abcdef",
+        b"adefxyz",
+    ),
+    (
+        &[
+            (b"abcdef", Insert(6, b"xyz")),
+            (b"abcdefxyz", Splice(1, 2, b"uvw")),
+        ],
+        b"abcdef",
+        b"auvwdefxyz",
+    ),
+];
+
 #[test]
-fn refused_insert_elsewhere(rt: HostRuntime) {
-    let alloc = rt.alloc();
-    let mut buffer = buffer_of(&rt, alloc, b"abcdef");
-    insert(&rt, alloc, &mut buffer, b"abcdef", 3, b"x");
-    insert(&rt, alloc, &mut buffer, b"abcxdef", 1, b"y");
-    insert(&rt, alloc, &mut buffer, b"aybcxdef", 6, b"z");
-    expect_buffer(&rt, alloc, &mut buffer, b"aybcxdzef");
+fn refused_edits_of_a_buffer(rt: HostRuntime) {
+    for (edits, text, after) in EDITS {
+        expect_edits(&rt, rt.alloc(), edits, text, after);
+    }
 }
 
 #[test]
 fn refused_insert_of_many_bytes(rt: HostRuntime) {
-    let alloc = rt.alloc();
-    let text = pattern(&rt, alloc, 10_000);
-    let mut buffer = buffer_of(&rt, alloc, b"");
-    insert(&rt, alloc, &mut buffer, b"", 0, &text);
-    expect_buffer(&rt, alloc, &mut buffer, &text);
-}
-
-#[test]
-fn refused_remove_elsewhere(rt: HostRuntime) {
-    let alloc = rt.alloc();
-    let mut buffer = buffer_of(&rt, alloc, b"abcdef");
-    insert(&rt, alloc, &mut buffer, b"abcdef", 6, b"xyz");
-    if is_refused(&rt, buffer.remove(alloc, 1, 2)) {
-        expect_buffer(&rt, alloc, &mut buffer, b"abcdefxyz");
-        buffer.remove(alloc, 1, 2).expect(&rt, "memory");
-    }
-    expect_buffer(&rt, alloc, &mut buffer, b"adefxyz");
-}
-
-#[test]
-fn refused_splice_of_a_buffer(rt: HostRuntime) {
-    let alloc = rt.alloc();
-    let middle = cord_of(&rt, alloc, b"uvw");
-    let mut buffer = buffer_of(&rt, alloc, b"abcdef");
-    insert(&rt, alloc, &mut buffer, b"abcdef", 6, b"xyz");
-    if is_refused(&rt, buffer.splice(alloc, 1, 2, &middle)) {
-        expect_buffer(&rt, alloc, &mut buffer, b"abcdefxyz");
-        buffer.splice(alloc, 1, 2, &middle).expect(&rt, "memory");
-    }
-    expect_buffer(&rt, alloc, &mut buffer, b"auvwdefxyz");
-    expect_text(&rt, &middle, b"uvw");
+    let text = pattern(&rt, rt.alloc(), 10_000);
+    expect_edits(&rt, rt.alloc(), &[(b"", Insert(0, &text))], b"", &text);
 }

@@ -36,11 +36,21 @@ fn leaf_over(rt: &impl Abort, alloc: Global, shared: &RcSlice<u8>) -> Result<Rc<
     leaf(alloc, bytes)
 }
 
+// A leaf or a run of a text.
+#[derive(Clone, Copy)]
+enum Part {
+    Leaf(&'static [u8]),
+    Run(&'static [u8]),
+}
+
+use Part::{Leaf, Run};
+
 fn leaf_of(rt: &impl Abort, alloc: Global, bytes: &[u8]) -> Rc<Node>
     ensures { IsSound result.value }
 {
     let shared = shared_of(rt, alloc, bytes);
     let first = leaf_over(rt, alloc, &shared);
+    expect_bytes(rt, shared.as_slice(), bytes);
     made(rt, first, leaf_over(rt, alloc, &shared))
 }
 
@@ -51,6 +61,21 @@ fn run_of(rt: &impl Abort, alloc: Global, byte: u8, len: u64) -> Rc<Node>
     assert!(rt; len > 0 && len <= 1_000);
     let first = run(alloc, byte, len);
     made(rt, first, run(alloc, byte, len))
+}
+
+// A leaf or a run, and its text.
+fn part_of(rt: &impl Abort, alloc: Global, part: Part) -> (Rc<Node>, &'static [u8])
+    ensures { IsSound result.0.value }
+{
+    match part {
+        Leaf(text) => (leaf_of(rt, alloc, text), text),
+        Run(text) => {
+            assert!(rt; text.len() > 0);
+            let node = run_of(rt, alloc, text[0], text.len() as u64);
+            assert!(rt; matches!(node.as_ref(), Node::Run { .. }));
+            (node, text)
+        }
+    }
 }
 
 // Two nodes, one after the other, both short and shallow.
@@ -92,27 +117,15 @@ fn expect_node(rt: &impl Abort, node: &Rc<Node>, text: &[u8])
 }
 
 #[test]
-fn refused_leaf(rt: HostRuntime) {
-    let shared = shared_of(&rt, rt.alloc(), b"ab");
-    let first = leaf_over(&rt, rt.alloc(), &shared);
-    expect_bytes(&rt, shared.as_slice(), b"ab");
-    let node = made(&rt, first, leaf_over(&rt, rt.alloc(), &shared));
-    expect_node(&rt, &node, b"ab");
-    assert!(rt; node.depth() == 0);
-}
-
-#[test]
-fn refused_run(rt: HostRuntime) {
-    let node = run_of(&rt, rt.alloc(), 97, 3);
-    assert!(rt; matches!(node.as_ref(), Node::Run { byte: 97, len: 3 }));
-}
-
-#[test]
-fn refused_func(rt: HostRuntime) {
+fn refused_leaf_run_and_func(rt: HostRuntime) {
+    for part in [Leaf(b"ab"), Run(b"aaa")] {
+        let (node, text) = part_of(&rt, rt.alloc(), part);
+        expect_node(&rt, &node, text);
+        assert!(rt; node.depth() == 0);
+    }
     let first = func(rt.alloc(), SourceId(0), 8, 3);
     let node = made(&rt, first, func(rt.alloc(), SourceId(0), 8, 3));
-    assert!(rt; node.len() == 3);
-    assert!(rt; node.depth() == 0);
+    assert!(rt; node.len() == 3 && node.depth() == 0);
     assert!(rt;
         matches!(
             node.as_ref(),
@@ -125,64 +138,77 @@ fn refused_func(rt: HostRuntime) {
     );
 }
 
-#[test]
-fn refused_join_to_one_leaf(rt: HostRuntime) {
-    let alloc = rt.alloc();
-    let left = leaf_of(&rt, alloc, b"ab");
-    let right = leaf_of(&rt, alloc, b"cd");
-    let first = joined(&rt, alloc, &left, &right);
-    expect_node(&rt, &left, b"ab");
-    expect_node(&rt, &right, b"cd");
-    let node = made(&rt, first, joined(&rt, alloc, &left, &right));
-    expect_node(&rt, &node, b"abcd");
-    assert!(rt; node.len() == 4);
-    assert!(rt; node.depth() == 0);
+// The join of two parts.
+fn join_of(rt: &impl Abort, alloc: Global, left: Part, right: Part) -> Rc<Node>
+    ensures { IsSound result.value }
+{
+    let (left, left_text) = part_of(rt, alloc, left);
+    let (right, right_text) = part_of(rt, alloc, right);
+    let first = joined(rt, alloc, &left, &right);
+    expect_node(rt, &left, left_text);
+    expect_node(rt, &right, right_text);
+    made(rt, first, joined(rt, alloc, &left, &right))
+}
+
+// The range of a node, whose text is this one before and after.
+fn range_in(
+    rt: &impl Abort,
+    alloc: Global,
+    node: &Rc<Node>,
+    from: u64,
+    count: u64,
+    text: &[u8],
+) -> Rc<Node>
+    requires { IsSound node.now.value }
+    ensures { IsSound result.value }
+{
+    let first = range_of(rt, alloc, node, from, count);
+    expect_node(rt, node, text);
+    made(rt, first, range_of(rt, alloc, node, from, count))
+}
+
+// Two parts, the text and the depth of their join, and where a range of it begins, its text and its depth.
+type Case = (Part, Part, &'static [u8], u32, u64, &'static [u8], u32);
+
+// In the last one the two ends become one leaf.
+const JOINS: &[Case] = &[
+    (Leaf(b"ab"), Leaf(b"cd"), b"abcd", 0, 1, b"bc", 0),
+    (Run(b"\0"), Leaf(b"ab"), b"\0ab", 1, 1, b"ab", 0),
+    (
+        Leaf(b"abcdefgh"),
+        Run(b"..."),
+        b"abcdefgh...",
+        1,
+        6,
+        b"gh..",
+        1,
+    ),
+    (
+        Leaf(b"aaaaaaaaaabbbbbbbbbbccccccccccdddddddddd"),
+        Leaf(b"eeeeeeeeeeffffffffffgggggggggghhhhhhhhhh"),
+        b"aaaaaaaaaabbbbbbbbbbccccccccccddddddddddeeeeeeeeeeffffffffffgggggggggghhhhhhhhhh",
+        1,
+        38,
+        b"ddee",
+        0,
+    ),
+];
+
+fn expect_join(rt: &impl Abort, alloc: Global, case: &Case) {
+    let (left, right, text, depth, from, part, part_depth) = case;
+    let node = join_of(rt, alloc, *left, *right);
+    expect_node(rt, &node, text);
+    assert!(rt; node.len() == text.len() as u64 && node.depth() == *depth);
+    let range = range_in(rt, alloc, &node, *from, part.len() as u64, text);
+    expect_node(rt, &range, part);
+    assert!(rt; range.depth() == *part_depth);
 }
 
 #[test]
-fn refused_join_of_a_run(rt: HostRuntime) {
-    let alloc = rt.alloc();
-    let left = run_of(&rt, alloc, 0, 1);
-    let right = leaf_of(&rt, alloc, b"ab");
-    let first = joined(&rt, alloc, &left, &right);
-    expect_node(&rt, &left, b"\0");
-    expect_node(&rt, &right, b"ab");
-    let node = made(&rt, first, joined(&rt, alloc, &left, &right));
-    expect_node(&rt, &node, b"\0ab");
-    assert!(rt; node.len() == 3);
-    assert!(rt; node.depth() == 1);
-}
-
-// The leaf "abcdefgh" and a run of three points, joined, and the four bytes around their seam.
-#[test]
-fn refused_sub_node_over_a_seam(rt: HostRuntime) {
-    let alloc = rt.alloc();
-    let letters = leaf_of(&rt, alloc, b"abcdefgh");
-    let points = run_of(&rt, alloc, 46, 3);
-    let both = again!(&rt, joined(&rt, alloc, &letters, &points));
-    let first = range_of(&rt, alloc, &both, 6, 4);
-    expect_node(&rt, &both, b"abcdefgh...");
-    expect_node(&rt, &letters, b"abcdefgh");
-    expect_node(&rt, &points, b"...");
-    let seam = made(&rt, first, range_of(&rt, alloc, &both, 6, 4));
-    expect_node(&rt, &seam, b"gh..");
-    assert!(rt; seam.depth() == 1);
-}
-
-// The two ends become one leaf.
-#[test]
-fn refused_sub_node_over_a_seam_of_leaves(rt: HostRuntime) {
-    let alloc = rt.alloc();
-    let left = leaf_of(&rt, alloc, &[1; 40]);
-    let right = leaf_of(&rt, alloc, &[2; 40]);
-    let both = again!(&rt, joined(&rt, alloc, &left, &right));
-    let first = range_of(&rt, alloc, &both, 38, 4);
-    expect_node(&rt, &left, &[1; 40]);
-    expect_node(&rt, &right, &[2; 40]);
-    assert!(rt; both.len() == 80);
-    let seam = made(&rt, first, range_of(&rt, alloc, &both, 38, 4));
-    expect_node(&rt, &seam, &[1, 1, 2, 2]);
-    assert!(rt; seam.depth() == 0);
+fn refused_joins_and_ranges(rt: HostRuntime) {
+    for case in JOINS {
+        expect_join(&rt, rt.alloc(), case);
+    }
 }
 
 // A leaf of a hundred times a byte.

@@ -1,13 +1,9 @@
 //! Raw buffers: what makes and fills them, and their shared slice.
 use super::texts::{expect_bytes, pattern};
 use cord_raw::RawBuf;
-use std::alloc::Global;
+use std::alloc::{AllocError, Global};
 use std::process::Abort;
 use std::rc::RcSlice;
-
-fn empty_buffer(rt: &impl Abort, alloc: Global) -> RawBuf {
-    again!(rt, RawBuf::new(alloc))
-}
 
 // Whether a buffer is this list.
 fn holds(buffer: &RawBuf, bytes: &[u8]) -> bool {
@@ -25,29 +21,28 @@ fn expect_buffer(rt: &impl Abort, buffer: &RawBuf, bytes: &[u8]) {
     assert!(rt; holds(buffer, bytes), "the buffer is not {bytes:?}");
 }
 
-// Pushes a byte after these, for which there is room.
-fn push(rt: &impl Abort, alloc: Global, buffer: &mut RawBuf, before: &[u8], byte: u8) {
-    assert!(rt; buffer.len() < RawBuf::CAP);
-    if buffer.push(alloc, byte).is_err() {
-        expect_buffer(rt, buffer, before);
-        buffer.push(alloc, byte).expect(rt, "memory");
-    }
-}
-
-// Adds bytes after these, for which there is room.
-fn extend(rt: &impl Abort, alloc: Global, buffer: &mut RawBuf, before: &[u8], bytes: &[u8]) {
+// Adds bytes, for which there is room: one alone by a push.
+fn add(
+    rt: &impl Abort,
+    alloc: Global,
+    buffer: &mut RawBuf,
+    bytes: &[u8],
+) -> Result<(), AllocError> {
     assert!(rt; bytes.len() as u64 <= RawBuf::CAP - buffer.len());
-    if buffer.extend(alloc, bytes).is_err() {
-        expect_buffer(rt, buffer, before);
-        buffer.extend(alloc, bytes).expect(rt, "memory");
+    match bytes {
+        [byte] => buffer.push(alloc, *byte),
+        _ => buffer.extend(alloc, bytes),
     }
 }
 
-// A buffer of these bytes.
-fn buffer_of(rt: &impl Abort, alloc: Global, bytes: &[u8]) -> RawBuf {
-    let mut buffer = empty_buffer(rt, alloc);
-    extend(rt, alloc, &mut buffer, b"", bytes);
-    buffer
+// Adds so many bytes of a text after those before this place.
+fn grow(rt: &impl Abort, alloc: Global, buffer: &mut RawBuf, text: &[u8], at: usize, count: usize) {
+    assert!(rt; at <= text.len() && count <= text.len() - at);
+    let bytes = &text[at..at + count];
+    if add(rt, alloc, buffer, bytes).is_err() {
+        expect_buffer(rt, buffer, &text[..at]);
+        add(rt, alloc, buffer, bytes).expect(rt, "memory");
+    }
 }
 
 // The shared slice of a buffer of these bytes, which are some.
@@ -62,46 +57,34 @@ fn shared_in(rt: &impl Abort, alloc: Global, buffer: &RawBuf, bytes: &[u8]) -> R
     }
 }
 
-#[test]
-fn refused_raw_buf_calls(rt: HostRuntime) {
-    let alloc = rt.alloc();
-    let mut buffer = empty_buffer(&rt, alloc);
-    push(&rt, alloc, &mut buffer, b"", 97);
-    let bytes = b"bc";
-    extend(&rt, alloc, &mut buffer, b"a", bytes);
-    expect_bytes(&rt, bytes, b"bc");
-    let shared = shared_in(&rt, alloc, &buffer, b"abc");
-    expect_bytes(&rt, shared.as_slice(), b"abc");
+// Fills a buffer with so many bytes of the pattern each time, takes its shared slice, and empties it.
+fn expect_calls(rt: &impl Abort, alloc: Global, counts: &[usize], sum: usize) {
+    let text = pattern(rt, alloc, sum);
+    let mut buffer = again!(rt, RawBuf::new(alloc));
+    let mut at = 0;
+    for count in counts {
+        grow(rt, alloc, &mut buffer, &text, at, *count);
+        at = at.saturating_add(*count);
+    }
+    expect_buffer(rt, &buffer, &text);
+    let shared = shared_in(rt, alloc, &buffer, &text);
+    expect_bytes(rt, shared.as_slice(), &text);
     buffer.clear();
     assert!(rt; buffer.len() == 0);
 }
 
-#[test]
-fn refused_push_after_a_full_block(rt: HostRuntime) {
-    let alloc = rt.alloc();
-    let text = pattern(&rt, alloc, 129);
-    let (block, _) = text.split_at(128);
-    let mut buffer = buffer_of(&rt, alloc, block);
-    push(&rt, alloc, &mut buffer, block, 128);
-    expect_buffer(&rt, &buffer, &text);
-}
-
-// 28 bytes fill the first block, and 372 more take three.
-#[test]
-fn refused_extend_over_blocks(rt: HostRuntime) {
-    let alloc = rt.alloc();
-    let text = pattern(&rt, alloc, 500);
-    let (few, many) = text.split_at(100);
-    let mut buffer = buffer_of(&rt, alloc, few);
-    extend(&rt, alloc, &mut buffer, few, many);
-    expect_buffer(&rt, &buffer, &text);
-}
+// How many bytes are added, one time after another, and their sum: some; one after a full block; 28 that fill the first
+// block and 372 more that take three; and three blocks at once.
+const COUNTS: &[(&[usize], usize)] = &[
+    (&[1, 2], 3),
+    (&[128, 1], 129),
+    (&[100, 400], 500),
+    (&[300], 300),
+];
 
 #[test]
-fn refused_to_shared_of_blocks(rt: HostRuntime) {
-    let alloc = rt.alloc();
-    let text = pattern(&rt, alloc, 300);
-    let buffer = buffer_of(&rt, alloc, &text);
-    let shared = shared_in(&rt, alloc, &buffer, &text);
-    expect_bytes(&rt, shared.as_slice(), &text);
+fn refused_raw_buf_calls(rt: HostRuntime) {
+    for &(counts, sum) in COUNTS {
+        expect_calls(&rt, rt.alloc(), counts, sum);
+    }
 }

@@ -1,20 +1,14 @@
 //! Tables of files: made, paths opened, and files read.
-use super::files::holds;
+use super::files::{holds, two_files};
 use super::texts::{expect_bytes, expect_text, pattern};
 use cord_core::{Cord, Node};
 use cord_file::{FileError, Sources};
-use cord_io::{CordError, Files, MemFiles, MemSink, Sink, Source, SourceId};
+use cord_io::{CordError, MemFiles, MemSink, Sink, Source, SourceId};
 use cord_iter::put;
 use std::alloc::Global;
 use std::process::Abort;
 
-// The files "p" of `hello` and "q" of `other`.
-fn two_files(rt: &impl Abort, alloc: Global) -> MemFiles {
-    let mut files = MemFiles::new(alloc);
-    again!(rt, files.add(alloc, "p", b"hello"));
-    again!(rt, files.add(alloc, "q", b"other"));
-    files
-}
+const TWO: [(&str, &[u8]); 2] = [("p", b"hello"), ("q", b"other")];
 
 /// A table over files.
 pub fn table(rt: &impl Abort, alloc: Global, files: MemFiles) -> Sources<MemFiles> {
@@ -29,7 +23,7 @@ pub fn table(rt: &impl Abort, alloc: Global, files: MemFiles) -> Sources<MemFile
 
 // A table over the two files in which "q" is open, as source 2.
 fn table_of_two(rt: &impl Abort, alloc: Global) -> Sources<MemFiles> {
-    let mut sources = table(rt, alloc, two_files(rt, alloc));
+    let mut sources = table(rt, alloc, two_files(rt, alloc, TWO));
     let opened = again!(rt, sources.open(alloc, "q"));
     assert!(rt; opened == (SourceId(2), 5));
     sources
@@ -44,19 +38,56 @@ fn reads(sources: &mut Sources<MemFiles>, id: u32, bytes: &[u8]) -> bool {
     sources.read(SourceId(id), 0, &mut out).is_ok() && out.as_slice() == bytes
 }
 
-// Whether "q" is source 2, and none follows.
-fn is_one(sources: &mut Sources<MemFiles>) -> bool {
-    reads(sources, 2, b"other")
-        && sources.entry_len(SourceId(3)).is_none()
-        && sources.failures() == 0
+// Whether the sources from 2 on are files of these five bytes, and none follows.
+fn are(sources: &mut Sources<MemFiles>, files: &[&[u8]]) -> bool {
+    let mut id = 2;
+    for bytes in files {
+        if !reads(sources, id, bytes) {
+            return false;
+        }
+        id = id.saturating_add(1);
+    }
+    sources.entry_len(SourceId(id)).is_none() && sources.failures() == 0
 }
 
-// Whether "q" is source 2 and "p" source 3, and none follows.
-fn is_two(sources: &mut Sources<MemFiles>) -> bool {
-    reads(sources, 2, b"other")
-        && reads(sources, 3, b"hello")
-        && sources.entry_len(SourceId(4)).is_none()
-        && sources.failures() == 0
+// The sources where "q" is open, and where "p" is, too.
+const ONE_OPEN: &[&[u8]] = &[b"other"];
+
+const BOTH_OPEN: &[&[u8]] = &[b"other", b"hello"];
+
+// Makes a table over the two files, which come back where that is refused.
+#[test]
+fn refused_new(rt: HostRuntime) {
+    let alloc = rt.alloc();
+    let mut sources = match Sources::new(alloc, two_files(&rt, alloc, TWO)) {
+        Ok(sources) => sources,
+        Err((error, mut files)) => {
+            assert!(rt; error == CordError::NoMemory);
+            assert!(rt; holds(&mut files, "p", Some(b"hello")));
+            assert!(rt; holds(&mut files, "q", Some(b"other")));
+            table(&rt, alloc, files)
+        }
+    };
+    assert!(rt; sources.entry_len(SourceId(2)).is_none());
+    let opened = again!(&rt, sources.open(alloc, "p"));
+    assert!(rt; opened == (SourceId(2), 5));
+    assert!(rt; reads(&mut sources, 2, b"hello"));
+}
+
+#[test]
+fn refused_open(rt: HostRuntime) {
+    let alloc = rt.alloc();
+    let mut sources = table_of_two(&rt, alloc);
+    let opened = match sources.open(alloc, "p") {
+        Ok(opened) => opened,
+        Err(error) => {
+            assert!(rt; error == FileError::NoMemory);
+            assert!(rt; are(&mut sources, ONE_OPEN), "a source has changed");
+            sources.open(alloc, "p").expect(&rt, "memory")
+        }
+    };
+    assert!(rt; opened == (SourceId(3), 5));
+    assert!(rt; are(&mut sources, BOTH_OPEN));
 }
 
 // The source, the start and the length of a cord that is one function part.
@@ -67,102 +98,49 @@ fn func_fields(cord: &Cord) -> Option<(SourceId, u64, u64)> {
     }
 }
 
-// That "p" was opened, as source 3.
-fn expect_two(rt: &impl Abort, sources: &mut Sources<MemFiles>) {
-    assert!(rt; is_two(sources));
+// Ways to the cord of a file.
+#[derive(Clone, Copy)]
+enum Way {
+    Eager,
+    Lazy,
+    FromFile,
 }
 
-// That a cord of "p" was refused when out of memory, when "p" was open or not.
-fn expect_refused(rt: &impl Abort, sources: &mut Sources<MemFiles>, error: FileError) {
-    assert!(rt; error == FileError::NoMemory, "another error");
-    assert!(rt; is_one(sources) || is_two(sources), "another source");
+// The cord of "p".
+fn cord_by(alloc: Global, sources: &mut Sources<MemFiles>, way: Way) -> Result<Cord, FileError> {
+    match way {
+        Way::Eager => sources.eager(alloc, "p"),
+        Way::Lazy => sources.lazy(alloc, "p"),
+        Way::FromFile => sources.from_file(alloc, "p"),
+    }
 }
 
-// Makes a table over the two files, which come back where that is refused.
-fn table_over_two(rt: &impl Abort, alloc: Global) -> Sources<MemFiles> {
-    match Sources::new(alloc, two_files(rt, alloc)) {
-        Ok(sources) => sources,
-        Err((error, mut files)) => {
-            assert!(rt; error == CordError::NoMemory);
-            assert!(rt; holds(&mut files, "p", Some(b"hello")));
-            assert!(rt; holds(&mut files, "q", Some(b"other")));
-            table(rt, alloc, files)
+// The cord of "p": where it was refused when out of memory, "p" was open or not.
+fn made_by(rt: &impl Abort, alloc: Global, sources: &mut Sources<MemFiles>, way: Way) -> Cord {
+    match cord_by(alloc, sources, way) {
+        Ok(cord) => cord,
+        Err(error) => {
+            assert!(rt; error == FileError::NoMemory, "another error");
+            assert!(rt;
+                are(sources, ONE_OPEN) || are(sources, BOTH_OPEN),
+                "another source"
+            );
+            cord_by(alloc, sources, way).expect(rt, "memory")
         }
     }
 }
 
 #[test]
-fn refused_new(rt: HostRuntime) {
-    let mut sources = table_over_two(&rt, rt.alloc());
-    assert!(rt; sources.entry_len(SourceId(2)).is_none());
-    let opened = again!(&rt, sources.open(rt.alloc(), "p"));
-    assert!(rt; opened == (SourceId(2), 5));
-    assert!(rt; reads(&mut sources, 2, b"hello"));
-}
-
-// Opens "p" where "q" alone is open.
-fn open_second(rt: &impl Abort, alloc: Global, sources: &mut Sources<MemFiles>) -> (SourceId, u64) {
-    match sources.open(alloc, "p") {
-        Ok(opened) => opened,
-        Err(error) => {
-            assert!(rt; error == FileError::NoMemory);
-            assert!(rt; is_one(sources), "a source has changed");
-            sources.open(alloc, "p").expect(rt, "memory")
+fn refused_cords_of_a_file(rt: HostRuntime) {
+    for way in [Way::Eager, Way::Lazy, Way::FromFile] {
+        let mut sources = table_of_two(&rt, rt.alloc());
+        let cord = made_by(&rt, rt.alloc(), &mut sources, way);
+        match way {
+            Way::Lazy => assert!(rt; func_fields(&cord) == Some((SourceId(3), 0, 5))),
+            _ => expect_text(&rt, &cord, b"hello"),
         }
+        assert!(rt; are(&mut sources, BOTH_OPEN));
     }
-}
-
-#[test]
-fn refused_open(rt: HostRuntime) {
-    let mut sources = table_of_two(&rt, rt.alloc());
-    let opened = open_second(&rt, rt.alloc(), &mut sources);
-    assert!(rt; opened == (SourceId(3), 5));
-    expect_two(&rt, &mut sources);
-}
-
-#[test]
-fn refused_eager(rt: HostRuntime) {
-    let alloc = rt.alloc();
-    let mut sources = table_of_two(&rt, alloc);
-    let cord = match sources.eager(alloc, "p") {
-        Ok(cord) => cord,
-        Err(error) => {
-            expect_refused(&rt, &mut sources, error);
-            sources.eager(alloc, "p").expect(&rt, "memory")
-        }
-    };
-    expect_text(&rt, &cord, b"hello");
-    expect_two(&rt, &mut sources);
-}
-
-#[test]
-fn refused_lazy(rt: HostRuntime) {
-    let alloc = rt.alloc();
-    let mut sources = table_of_two(&rt, alloc);
-    let cord = match sources.lazy(alloc, "p") {
-        Ok(cord) => cord,
-        Err(error) => {
-            expect_refused(&rt, &mut sources, error);
-            sources.lazy(alloc, "p").expect(&rt, "memory")
-        }
-    };
-    assert!(rt; func_fields(&cord) == Some((SourceId(3), 0, 5)));
-    expect_two(&rt, &mut sources);
-}
-
-#[test]
-fn refused_from_file(rt: HostRuntime) {
-    let alloc = rt.alloc();
-    let mut sources = table_of_two(&rt, alloc);
-    let cord = match sources.from_file(alloc, "p") {
-        Ok(cord) => cord,
-        Err(error) => {
-            expect_refused(&rt, &mut sources, error);
-            sources.from_file(alloc, "p").expect(&rt, "memory")
-        }
-    };
-    expect_text(&rt, &cord, b"hello");
-    expect_two(&rt, &mut sources);
 }
 
 // Puts the file "f", of which a read keeps each block for which it finds memory.
@@ -204,17 +182,12 @@ fn expect_put(rt: &impl Abort, alloc: Global, sources: &mut Sources<MemFiles>, b
     assert!(rt; sources.failures() == 0);
 }
 
-// A table over the file "f" of these bytes.
-fn table_of(rt: &impl Abort, alloc: Global, bytes: &[u8]) -> Sources<MemFiles> {
-    let mut files = MemFiles::new(alloc);
-    again!(rt, files.add(alloc, "f", bytes));
-    table(rt, alloc, files)
-}
-
 #[test]
 fn refused_blocks(rt: HostRuntime) {
-    let bytes = pattern(&rt, rt.alloc(), 1_500);
-    let mut sources = table_of(&rt, rt.alloc(), &bytes);
-    expect_put(&rt, rt.alloc(), &mut sources, &bytes);
-    expect_put(&rt, rt.alloc(), &mut sources, &bytes);
+    let alloc = rt.alloc();
+    let bytes = pattern(&rt, alloc, 1_500);
+    let files = two_files(&rt, alloc, [("f", &bytes), ("q", b"other")]);
+    let mut sources = table(&rt, alloc, files);
+    expect_put(&rt, alloc, &mut sources, &bytes);
+    expect_put(&rt, alloc, &mut sources, &bytes);
 }

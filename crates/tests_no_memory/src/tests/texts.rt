@@ -25,11 +25,6 @@ pub fn cord_of(rt: &impl Abort, alloc: Global, text: &[u8]) -> Cord {
     again!(rt, Cord::from_bytes(alloc, text))
 }
 
-/// A cord of so many times a byte.
-pub fn run_of(rt: &impl Abort, alloc: Global, byte: u8, len: u64) -> Cord {
-    again!(rt, Cord::chars(alloc, byte, len))
-}
-
 /// The cord that one of two equal calls made: at most one of them was refused, and that when out of memory.
 pub fn made(
     rt: &impl Abort,
