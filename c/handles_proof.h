@@ -98,6 +98,8 @@
       lemma first_itself: \forall content x, integer start, integer end, integer place;
           0 <= start && is_first(x, start, end, x, place)
           ==> place == (start == 0 && length(x) <= end ? 0 : ZC_NOT_FOUND);
+      lemma last_itself: \forall content x, integer end, integer place;
+          is_last(x, end, x, place) ==> place == (length(x) <= end ? 0 : ZC_NOT_FOUND);
       logic meaning zc_str_of(content x, integer start, content y);
       axiom str: \forall content x, integer start, content y;
           code(zc_str_of(x, start, y)) == ZC_OK
