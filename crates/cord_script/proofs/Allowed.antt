@@ -1,8 +1,9 @@
 -- Terms without an error are allowed.
-use Rattle.std.proofs.Common.{inl, inr, None, ◌≡◌, ◌<◌, ℕ, List, [], ◌∷◌, true, refl, ◌∙◌, ap, length, map}
+use Rattle.std.proofs.Common.{inl, inr, Some, None, ◌≡◌, ◌<◌, ℕ, suc, List, [], ◌∷◌, true, refl, ◌∙◌, ap, length, map}
 use Rattle.std.specs.Prelude.{Option, ◌⊎◌, ◌||◌, nat_lt, if◌then◌else◌}
-use Rattle.std.proofs.lemmas.Bool.{ltb-true}
-use Rattle.cord_script.specs.declared.TheConstants.{MAX_PATHS, MAX_BLOCKS}
+use Rattle.std.proofs.lemmas.Bool.{le-leb, ltb-true}
+use Rattle.cord_script.specs.declared.TheConstants.{MAX_NAMES, MAX_PATHS, MAX_BLOCKS}
+use Rattle.cord_script.specs.declared.kinds.Kind.{Kind}
 use Rattle.cord_script.specs.declared.kinds.Kind.TheVariants as kinds
 use Rattle.cord_script.specs.declared.kinds.Want.{Want}
 use Rattle.cord_script.specs.declared.kinds.Want.TheVariants as wants
@@ -10,53 +11,36 @@ use Rattle.cord_operands.specs.declared.operands.Number.TheVariants.{Numeral, Na
 use Rattle.cord_script.specs.declared.table.Known.{Known}
 use Rattle.cord_script.specs.declared.words.Word.{Word}
 use Rattle.cord_script.specs.declared.refusals.RefusalKind.{RefusalKind}
-use Rattle.cord_script.specs.declared.refusals.RefusalKind.TheVariants.{TooMany, TooDeep}
+use Rattle.cord_script.specs.declared.refusals.RefusalKind.TheVariants.{WrongKind, TooMany, TooDeep}
 use Rattle.cord_script.specs.Forms.{Term, Effect}
 use Rattle.cord_script.specs.Forms.Effect.{Stays, OpensRepeat, OpensIf, Turns, Closes}
-use Rattle.cord_script.specs.Forms.Term.{Target, Operand, Value, Literal, FilePath, Applies, Compares, Formats}
+use Rattle.cord_script.specs.Forms.Term.{Target, Operand, Value, FilePath}
 use Rattle.cord_script.specs.Script.{Scope, Block, kind_of, is_among, IsTerm, AreTerms, IsAllowed, AreAllowed, FitsBlocks}
-use Rattle.cord_script.specs.Script.Block.{InRepeat, InIf, InElse}
-use Rattle.cord_script.specs.FirstErrors.{first_of, unless, first_pair, kind_error}
+use Rattle.cord_script.specs.Script.Block.{InIf}
+use Rattle.cord_script.specs.FirstErrors.{first_of, unless, first_pair, kind_error, assigned_error}
 use Rattle.cord_script.specs.FirstErrors.{operand_error, word_target_error, word_path_error, names_error, block_error}
 use Rattle.cord_script.specs.inner.Fields.{want_of}
 use Rattle.cord_script.specs.inner.ContextViews.{operand_term_error, target_term_error, path_term_error, first_term, terms_error}
 use Rattle.cord_script.proofs.Checked.{neither, holds, kind_right, target_right}
-use Rattle.cord_script.proofs.Terms.{either, name_begins, numeral_known}
+use Rattle.cord_script.proofs.Terms.{either, either_left, either_right, name_begins, numeral_known, same_kinds}
 
 -- a word is wrong as an operand where its term is
 operand_same : (names : List Known) (w : Word) (t : Term) → IsTerm w t → operand_error names (want_of t) w ≡ operand_term_error names t
-operand_same names w (Target kind name) h = refl
 operand_same names w (Operand kind name) h = ap (operand_error names (wants.Operand kind)) h.0
 operand_same names w (Value (Numeral v)) h = ap (operand_error names wants.Number) h.1 ∙ numeral_known names h.0 v h.2
 operand_same names w (Value (Named name)) h = ap (operand_error names wants.Number) h.0
     ∙ ap (λ b. if b then None else kind_error (kind_of names name) kinds.Number) (name_begins name h.1)
-operand_same names w (Literal text) h = refl
-operand_same names w (FilePath path) h = refl
-operand_same names w (Applies function) h = refl
-operand_same names w (Compares relation) h = refl
-operand_same names w (Formats text) h = refl
+operand_same names w _ h = refl
 
 -- a word is wrong as the target where its term is
 target_same : (names : List Known) (w : Word) (t : Term) → IsTerm w t → word_target_error names (want_of t) w ≡ target_term_error names t
 target_same names w (Target kind name) h = ap (word_target_error names (wants.Target kind)) h.0
-target_same names w (Operand kind name) h = refl
-target_same names w (Value number) h = refl
-target_same names w (Literal text) h = refl
-target_same names w (FilePath path) h = refl
-target_same names w (Applies function) h = refl
-target_same names w (Compares relation) h = refl
-target_same names w (Formats text) h = refl
+target_same names w _ h = refl
 
 -- a word is wrong as a path where its term is
 path_same : (paths : List (List ℕ)) (w : Word) (t : Term) → IsTerm w t → word_path_error paths (want_of t) w ≡ path_term_error paths t
-path_same paths w (Target kind name) h = refl
-path_same paths w (Operand kind name) h = refl
-path_same paths w (Value number) h = refl
-path_same paths w (Literal text) h = refl
 path_same paths w (FilePath path) h = ap (word_path_error paths wants.Path) h.0
-path_same paths w (Applies function) h = refl
-path_same paths w (Compares relation) h = refl
-path_same paths w (Formats text) h = refl
+path_same paths w _ h = refl
 
 -- the first word that is wrong is the first term that is
 first_same : (test : Want → Word → Option RefusalKind) (other : Term → Option RefusalKind) (ws : List Word) (ts : List Term) →
@@ -95,13 +79,9 @@ term_allowed : (scope : Scope) (t : Term) → operand_term_error scope.names t �
     path_term_error scope.paths t ≡ None → IsAllowed scope t
 term_allowed scope (Target kind name) o t p = target_right (kind_of scope.names name) kind (length scope.names) t
 term_allowed scope (Operand kind name) o t p = kind_right (kind_of scope.names name) kind o
-term_allowed scope (Value (Numeral v)) o t p = tt
 term_allowed scope (Value (Named name)) o t p = kind_right (kind_of scope.names name) kinds.Number o
-term_allowed scope (Literal text) o t p = tt
 term_allowed scope (FilePath path) o t p = path_right scope.paths path p
-term_allowed scope (Applies function) o t p = tt
-term_allowed scope (Compares relation) o t p = tt
-term_allowed scope (Formats text) o t p = tt
+term_allowed scope _ o t p = tt
 
 terms_allowed : (scope : Scope) (ts : List Term) → first_term (operand_term_error scope.names) ts ≡ None →
     first_term (target_term_error scope.names) ts ≡ None → first_term (path_term_error scope.paths) ts ≡ None → AreAllowed scope ts
@@ -122,14 +102,51 @@ all_allowed scope ts h =
     let b = neither t p a.1 in
     terms_allowed scope ts a.0 b.0 b.1
 
+-- a name of the kind
+right_kind : (has : Option Kind) (kind : Kind) → has ≡ Some kind → kind_error has kind ≡ None
+right_kind has kind h = ap (λ k. kind_error k kind) h ∙ ap (λ b. unless b WrongKind) (same_kinds kind)
+
+-- a term that is allowed has no error: as an operand, as the target, as a path
+operand_fine : (scope : Scope) (t : Term) → IsAllowed scope t → operand_term_error scope.names t ≡ None
+operand_fine scope (Operand kind name) a = right_kind (kind_of scope.names name) kind a
+operand_fine scope (Value (Named name)) a = right_kind (kind_of scope.names name) kinds.Number a
+operand_fine scope _ a = refl
+
+target_fine : (scope : Scope) (t : Term) → IsAllowed scope t → target_term_error scope.names t ≡ None
+target_fine scope (Target kind name) (inl h) =
+    ap (λ k. assigned_error k kind (length scope.names)) h ∙ ap (λ b. unless b WrongKind) (same_kinds kind)
+target_fine scope (Target kind name) (inr h) = ap (λ k. assigned_error k kind (length scope.names)) h.0
+    ∙ ap (λ b. unless b TooMany) (le-leb (suc (length scope.names)) MAX_NAMES h.1)
+target_fine scope _ a = refl
+
+path_fine : (scope : Scope) (t : Term) → IsAllowed scope t → path_term_error scope.paths t ≡ None
+path_fine scope (FilePath path) (inl h) =
+    ap (λ b. unless b TooMany) (either_left (is_among scope.paths path) (nat_lt (length scope.paths) MAX_PATHS) h)
+path_fine scope (FilePath path) (inr h) =
+    ap (λ b. unless b TooMany) (either_right (is_among scope.paths path) (nat_lt (length scope.paths) MAX_PATHS)
+    (le-leb (suc (length scope.paths)) MAX_PATHS h))
+path_fine scope _ a = refl
+
+first_fine : (test : Term → Option RefusalKind) (scope : Scope) (ts : List Term) → ((t : Term) → IsAllowed scope t → test t ≡ None) →
+    AreAllowed scope ts → first_term test ts ≡ None
+first_fine test scope [] f a = refl
+first_fine test scope (t ∷ ts) f a = ap (λ k. first_of k (first_term test ts)) (f t a.0) ∙ first_fine test scope ts f a.1
+
+-- terms that are allowed have no error
+pub none_wrong : (scope : Scope) (ts : List Term) → AreAllowed scope ts → terms_error scope ts ≡ None
+none_wrong scope ts a =
+    let target = first_term (target_term_error scope.names) ts in
+    let path = first_term (path_term_error scope.paths) ts in
+    ap (λ k. first_of k (first_of target path)) (first_fine (operand_term_error scope.names) scope ts (λ t. operand_fine scope t) a)
+    ∙ ap (λ k. first_of k path) (first_fine (target_term_error scope.names) scope ts (λ t. target_fine scope t) a)
+    ∙ first_fine (path_term_error scope.paths) scope ts (λ t. path_fine scope t) a
+
 -- a statement without an error fits the open blocks
 pub block_right : (effect : Effect) (blocks : List Block) → block_error effect blocks ≡ None → FitsBlocks effect blocks
 block_right Stays blocks h = tt
 block_right OpensRepeat blocks h = ltb-true (length blocks) MAX_BLOCKS (holds (nat_lt (length blocks) MAX_BLOCKS) TooDeep h)
 block_right OpensIf blocks h = ltb-true (length blocks) MAX_BLOCKS (holds (nat_lt (length blocks) MAX_BLOCKS) TooDeep h)
-block_right Turns [] h = cc
 block_right Turns (InIf line ∷ blocks) h = (line, blocks, refl)
-block_right Turns (InRepeat line ∷ blocks) h = cc
-block_right Turns (InElse line ∷ blocks) h = cc
+block_right Turns _ h = cc
 block_right Closes [] h = cc
 block_right Closes (block ∷ blocks) h = λ e. cc

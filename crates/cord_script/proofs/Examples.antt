@@ -39,13 +39,11 @@ abbrev plain : ℕ → List ℕ → List (List ℕ) → List Chunk
 plain c cs ws = Bare [] (c ∷ cs) ∷ suffix ws
 
 -- a line that begins with a plain word says something
-record IsLine (c : ℕ) (cs : List ℕ) (others : List Chunk) : Type 0 where
-  shows : blank c ≡ false
-  no_note : (c == 35) ≡ false
-  words : well (Bare [] (c ∷ cs) ∷ others) ≡ true
+abbrev IsLine : ℕ → List ℕ → List Chunk → Type 0
+IsLine c cs others = (blank c ≡ false) × ((c == 35) ≡ false) × (well (Bare [] (c ∷ cs) ∷ others) ≡ true)
 
 says_something : (c : ℕ) (cs : List ℕ) (others : List Chunk) → IsLine c cs others → ¬ IsIdle (spelled (Bare [] (c ∷ cs) ∷ others))
-says_something c cs others h = not_idle c (cs ++ spelled others) h.shows h.no_note
+says_something c cs others h = not_idle c (cs ++ spelled others) h.0 h.1
 
 -- a line of which the words are wrong
 bad_line : (n : ℕ) (scope : Scope) (c : ℕ) (cs : List ℕ) (others : List Chunk) (kind : RefusalKind) → n ≤ MAX_LINES →
@@ -54,7 +52,7 @@ bad_line : (n : ℕ) (scope : Scope) (c : ℕ) (cs : List ℕ) (others : List Ch
 bad_line n scope c cs others kind few h bad = inr (
   few,
   says_something c cs others h,
-  inr (chunk_words (Bare [] (c ∷ cs) ∷ others), words_well (Bare [] (c ∷ cs) ∷ others) h.words, bad),
+  inr (chunk_words (Bare [] (c ∷ cs) ∷ others), words_well (Bare [] (c ∷ cs) ∷ others) h.2, bad),
 )
 
 -- the first line is wrong
@@ -97,41 +95,38 @@ one_bad c cs ws kind small l h bad = first_bad (spelled (plain c cs ws)) (spelle
 
 unknown_name : FirstErrorBy whole (codes "put x") 1 UnknownName
 unfolding form_of
-unknown_name = one_bad 112 (codes "ut") (codes "x" ∷ []) UnknownName (lit≤ tt) refl (record { shows = refl; no_note = refl; words = refl })
+unknown_name = one_bad 112 (codes "ut") (codes "x" ∷ []) UnknownName (lit≤ tt) refl (refl, refl, refl)
     (None, refl, refl)
 
 cat_one_operand : FirstErrorBy whole (codes "cat z x") 1 WrongCount
 unfolding form_of
-cat_one_operand = one_bad 99 (codes "at") (codes "z" ∷ codes "x" ∷ []) WrongCount (lit≤ tt) refl
-    (record { shows = refl; no_note = refl; words = refl }) (None, refl, refl)
+cat_one_operand = one_bad 99 (codes "at") (codes "z" ∷ codes "x" ∷ []) WrongCount (lit≤ tt) refl (refl, refl, refl) (None, refl, refl)
 
 put_two_words : FirstErrorBy whole (codes "put x y") 1 WrongCount
 unfolding form_of
-put_two_words = one_bad 112 (codes "ut") (codes "x" ∷ codes "y" ∷ []) WrongCount (lit≤ tt) refl
-    (record { shows = refl; no_note = refl; words = refl }) (None, refl, refl)
+put_two_words = one_bad 112 (codes "ut") (codes "x" ∷ codes "y" ∷ []) WrongCount (lit≤ tt) refl (refl, refl, refl) (None, refl, refl)
 
 let_plain_word : FirstErrorBy whole (codes "let x a") 1 WrongKind
 unfolding form_of
-let_plain_word = one_bad 108 (codes "et") (codes "x" ∷ codes "a" ∷ []) WrongKind (lit≤ tt) refl
-    (record { shows = refl; no_note = refl; words = refl }) (None, refl, refl)
+let_plain_word = one_bad 108 (codes "et") (codes "x" ∷ codes "a" ∷ []) WrongKind (lit≤ tt) refl (refl, refl, refl) (None, refl, refl)
 
 cat_of_itself_unknown : FirstErrorBy whole (codes "cat x x x") 1 UnknownName
 unfolding form_of
 cat_of_itself_unknown = one_bad 99 (codes "at") (codes "x" ∷ codes "x" ∷ codes "x" ∷ []) UnknownName (lit≤ tt) refl
-    (record { shows = refl; no_note = refl; words = refl }) (None, refl, refl)
+    (refl, refl, refl) (None, refl, refl)
 
 chars_numeral_too_great : FirstErrorBy whole (codes "chars a 0 99999999999999999999") 1 BadNumber
 unfolding form_of
 chars_numeral_too_great = one_bad 99 (codes "hars") (codes "a" ∷ codes "0" ∷ codes "99999999999999999999" ∷ []) BadNumber (lit≤ tt) refl
-    (record { shows = refl; no_note = refl; words = refl }) (None, refl, refl)
+    (refl, refl, refl) (None, refl, refl)
 
 end_alone : FirstErrorBy whole (codes "end") 1 EndAlone
 unfolding form_of
-end_alone = one_bad 101 (codes "nd") [] EndAlone (lit≤ tt) refl (record { shows = refl; no_note = refl; words = refl }) (None, refl, refl)
+end_alone = one_bad 101 (codes "nd") [] EndAlone (lit≤ tt) refl (refl, refl, refl) (None, refl, refl)
 
 else_alone : FirstErrorBy whole (codes "else") 1 ElseAlone
 unfolding form_of
-else_alone = one_bad 101 (codes "lse") [] ElseAlone (lit≤ tt) refl (record { shows = refl; no_note = refl; words = refl })
+else_alone = one_bad 101 (codes "lse") [] ElseAlone (lit≤ tt) refl (refl, refl, refl)
     (None, refl, refl)
 
 if_bad_relation : FirstErrorBy whole (codes "if 1 ne 1" ++ 10 ∷ codes "end") 1 BadName
@@ -139,7 +134,7 @@ unfolding form_of
 if_bad_relation = first_bad (codes "if 1 ne 1" ++ 10 ∷ codes "end") (codes "if 1 ne 1") (codes "end" ∷ []) BadName (lit≤ tt)
     (more_lines (codes "if 1 ne 1") (codes "end") (codes "end" ∷ []) refl (last_line (codes "end") refl refl))
     (bad_line 1 start 105 (codes "f") (suffix (codes "1" ∷ codes "ne" ∷ codes "1" ∷ [])) BadName (lit≤ tt)
-    (record { shows = refl; no_note = refl; words = refl }) (None, refl, refl))
+    (refl, refl, refl) (None, refl, refl))
 
 -- the words of `let x "t"`
 abbrev let_chunks : List ℕ → List Chunk
@@ -168,7 +163,7 @@ let_first t h =
       chunk_words (Bare [] (codes "let") ∷ let_chunks t),
       [],
       refl,
-      words_well (Bare [] (codes "let") ∷ let_chunks t) h.words,
+      words_well (Bare [] (codes "let") ∷ let_chunks t) h.2,
       let_says t,
       refl,
     )
@@ -232,7 +227,7 @@ sprintf_argument_missing =
     let others = Bare (32 ∷ []) (codes "z") ∷ Marked (32 ∷ []) (codes "%d") ∷ [] in
     let line = spelled (Bare [] (codes "sprintf") ∷ others) in
     first_bad line line [] WrongCount (lit≤ tt) (last_line line refl refl)
-    (bad_line 1 start 115 (codes "printf") others WrongCount (lit≤ tt) (record { shows = refl; no_note = refl; words = refl })
+    (bad_line 1 start 115 (codes "printf") others WrongCount (lit≤ tt) (refl, refl, refl)
     (Some (wants.Number ∷ []), decimal_converts, refl))
 
 -- a line of plain words that is wrong after `let x "a"`
@@ -244,33 +239,32 @@ bad_after_let c cs ws kind small l h bad = second_bad (let_line (codes "a") ++ 1
     (spelled (plain c cs ws)) [] (Let 1 (codes "x") (codes "a") ∷ []) kind small
     (more_lines (let_line (codes "a")) (spelled (plain c cs ws)) (spelled (plain c cs ws) ∷ []) refl
     (last_line (spelled (plain c cs ws)) l refl))
-    (let_first (codes "a") (record { shows = refl; no_note = refl; words = refl }))
+    (let_first (codes "a") (refl, refl, refl))
     (bad_line 2 (after_all (Let 1 (codes "x") (codes "a") ∷ []) start) c cs (suffix ws) kind (lit≤ tt) h bad)
 
 fetch_into_cord : FirstErrorBy whole (codes "let x " ++ quote (codes "a") ++ 10 ∷ codes "fetch x x 0") 2 WrongKind
 unfolding form_of
 fetch_into_cord = bad_after_let 102 (codes "etch") (codes "x" ∷ codes "x" ∷ codes "0" ∷ []) WrongKind (lit≤ tt) refl
-    (record { shows = refl; no_note = refl; words = refl }) (None, refl, refl)
+    (refl, refl, refl) (None, refl, refl)
 
 len_into_cord : FirstErrorBy whole (codes "let x " ++ quote (codes "a") ++ 10 ∷ codes "len x x") 2 WrongKind
 unfolding form_of
-len_into_cord = bad_after_let 108 (codes "en") (codes "x" ∷ codes "x" ∷ []) WrongKind (lit≤ tt) refl
-    (record { shows = refl; no_note = refl; words = refl }) (None, refl, refl)
+len_into_cord = bad_after_let 108 (codes "en") (codes "x" ∷ codes "x" ∷ []) WrongKind (lit≤ tt) refl (refl, refl, refl) (None, refl, refl)
 
 operand_before_target : FirstErrorBy whole (codes "let x " ++ quote (codes "a") ++ 10 ∷ codes "len x y") 2 UnknownName
 unfolding form_of
 operand_before_target = bad_after_let 108 (codes "en") (codes "x" ∷ codes "y" ∷ []) UnknownName (lit≤ tt) refl
-    (record { shows = refl; no_note = refl; words = refl }) (None, refl, refl)
+    (refl, refl, refl) (None, refl, refl)
 
 wrong_kind_before_unknown : FirstErrorBy whole (codes "let x " ++ quote (codes "a") ++ 10 ∷ codes "add n x y") 2 WrongKind
 unfolding form_of
 wrong_kind_before_unknown = bad_after_let 97 (codes "dd") (codes "n" ∷ codes "x" ∷ codes "y" ∷ []) WrongKind (lit≤ tt) refl
-    (record { shows = refl; no_note = refl; words = refl }) (None, refl, refl)
+    (refl, refl, refl) (None, refl, refl)
 
 unknown_before_wrong_kind : FirstErrorBy whole (codes "let x " ++ quote (codes "a") ++ 10 ∷ codes "add n y x") 2 UnknownName
 unfolding form_of
 unknown_before_wrong_kind = bad_after_let 97 (codes "dd") (codes "n" ∷ codes "y" ∷ codes "x" ∷ []) UnknownName (lit≤ tt) refl
-    (record { shows = refl; no_note = refl; words = refl }) (None, refl, refl)
+    (refl, refl, refl) (None, refl, refl)
 
 hello : ReadsBy whole (codes "let x " ++ quote (codes "hello") ++ 10 ∷ codes "put x")
     (Let 1 (codes "x") (codes "hello") ∷ Put 2 (codes "x") ∷ [])
@@ -280,7 +274,7 @@ hello = record {
   split = more_lines (let_line (codes "hello")) (codes "put x") (codes "put x" ∷ []) refl (last_line (codes "put x") refl refl);
   count = lit≤ tt;
   say = inr (
-    says_something 108 (codes "et") (let_chunks (codes "hello")) (record { shows = refl; no_note = refl; words = refl }),
+    says_something 108 (codes "et") (let_chunks (codes "hello")) (refl, refl, refl),
     Let 1 (codes "x") (codes "hello"),
     chunk_words (Bare [] (codes "let") ∷ let_chunks (codes "hello")),
     Put 2 (codes "x") ∷ [],
@@ -288,7 +282,7 @@ hello = record {
     words_well (Bare [] (codes "let") ∷ let_chunks (codes "hello")) refl,
     let_says (codes "hello"),
     inr (
-      says_something 112 (codes "ut") (suffix (codes "x" ∷ [])) (record { shows = refl; no_note = refl; words = refl }),
+      says_something 112 (codes "ut") (suffix (codes "x" ∷ [])) (refl, refl, refl),
       Put 2 (codes "x"),
       Plain (codes "put") ∷ Plain (codes "x") ∷ [],
       [],
@@ -397,7 +391,7 @@ then_says n scope c cs ws lines s ss h says rest = inr (
   chunk_words (plain c cs ws),
   ss,
   refl,
-  words_well (plain c cs ws) h.words,
+  words_well (plain c cs ws) h.2,
   says,
   rest,
 )
@@ -411,12 +405,12 @@ outer_repeat_open = inr (inr (record {
   count = lit≤ tt;
   statements = Repeat 1 (Numeral (pos 1)) ∷ Repeat 2 (Numeral (pos 1)) ∷ End 3 ∷ [];
   say = then_says 1 start 114 (codes "epeat") (codes "1" ∷ []) (codes "repeat 1" ∷ codes "end" ∷ []) (Repeat 1 (Numeral (pos 1)))
-      (Repeat 2 (Numeral (pos 1)) ∷ End 3 ∷ []) (record { shows = refl; no_note = refl; words = refl }) (repeat_once 1 start (lit< tt))
+      (Repeat 2 (Numeral (pos 1)) ∷ End 3 ∷ []) (refl, refl, refl) (repeat_once 1 start (lit< tt))
       (then_says 2 (after (Repeat 1 (Numeral (pos 1))) start) 114 (codes "epeat") (codes "1" ∷ []) (codes "end" ∷ [])
-      (Repeat 2 (Numeral (pos 1))) (End 3 ∷ []) (record { shows = refl; no_note = refl; words = refl })
+      (Repeat 2 (Numeral (pos 1))) (End 3 ∷ []) (refl, refl, refl)
       (repeat_once 2 (after (Repeat 1 (Numeral (pos 1))) start) (lit< tt))
       (then_says 3 (after (Repeat 2 (Numeral (pos 1))) (after (Repeat 1 (Numeral (pos 1))) start)) 101 (codes "nd") [] [] (End 3) []
-      (record { shows = refl; no_note = refl; words = refl })
+      (refl, refl, refl)
       (end_says 3 (after (Repeat 2 (Numeral (pos 1))) (after (Repeat 1 (Numeral (pos 1))) start)) (λ e. cc)) refl));
   block = InRepeat 1;
   others = [];
@@ -434,12 +428,12 @@ if_open_round_repeat = inr (inr (record {
   statements = If 1 (Numeral (pos 1)) Equal (Numeral (pos 1)) ∷ Repeat 2 (Numeral (pos 2)) ∷ End 3 ∷ [];
   say = then_says 1 start 105 (codes "f") (codes "1" ∷ codes "eq" ∷ codes "1" ∷ []) (codes "repeat 2" ∷ codes "end" ∷ [])
       (If 1 (Numeral (pos 1)) Equal (Numeral (pos 1))) (Repeat 2 (Numeral (pos 2)) ∷ End 3 ∷ [])
-      (record { shows = refl; no_note = refl; words = refl }) (if_says 1 start (lit< tt))
+      (refl, refl, refl) (if_says 1 start (lit< tt))
       (then_says 2 (after (If 1 (Numeral (pos 1)) Equal (Numeral (pos 1))) start) 114 (codes "epeat") (codes "2" ∷ []) (codes "end" ∷ [])
-      (Repeat 2 (Numeral (pos 2))) (End 3 ∷ []) (record { shows = refl; no_note = refl; words = refl })
+      (Repeat 2 (Numeral (pos 2))) (End 3 ∷ []) (refl, refl, refl)
       (repeat_twice 2 (after (If 1 (Numeral (pos 1)) Equal (Numeral (pos 1))) start) (lit< tt))
       (then_says 3 (after (Repeat 2 (Numeral (pos 2))) (after (If 1 (Numeral (pos 1)) Equal (Numeral (pos 1))) start)) 101
-      (codes "nd") [] [] (End 3) [] (record { shows = refl; no_note = refl; words = refl })
+      (codes "nd") [] [] (End 3) [] (refl, refl, refl)
       (end_says 3 (after (Repeat 2 (Numeral (pos 2))) (after (If 1 (Numeral (pos 1)) Equal (Numeral (pos 1))) start)) (λ e. cc)) refl));
   block = InIf 1;
   others = [];
@@ -454,9 +448,8 @@ else_in_repeat = second_bad (codes "repeat 1" ++ 10 ∷ codes "else" ++ 10 ∷ c
     (more_lines (codes "repeat 1") (codes "else" ++ 10 ∷ codes "end") (codes "else" ∷ codes "end" ∷ []) refl
     (more_lines (codes "else") (codes "end") (codes "end" ∷ []) refl (last_line (codes "end") refl refl)))
     (then_says 1 start 114 (codes "epeat") (codes "1" ∷ []) [] (Repeat 1 (Numeral (pos 1))) []
-    (record { shows = refl; no_note = refl; words = refl }) (repeat_once 1 start (lit< tt)) refl)
-    (bad_line 2 (after (Repeat 1 (Numeral (pos 1))) start) 101 (codes "lse") [] ElseAlone (lit≤ tt)
-    (record { shows = refl; no_note = refl; words = refl }) (None, refl, refl))
+    (refl, refl, refl) (repeat_once 1 start (lit< tt)) refl)
+    (bad_line 2 (after (Repeat 1 (Numeral (pos 1))) start) 101 (codes "lse") [] ElseAlone (lit≤ tt) (refl, refl, refl) (None, refl, refl))
 
 else_twice : FirstErrorBy whole (codes "if 1 eq 1" ++ 10 ∷ codes "else" ++ 10 ∷ codes "else" ++ 10 ∷ codes "end") 3 ElseAlone
 unfolding form_of
@@ -472,13 +465,12 @@ else_twice = inr (inl (record {
   number = refl;
   statements = If 1 (Numeral (pos 1)) Equal (Numeral (pos 1)) ∷ Else 2 ∷ [];
   say = then_says 1 start 105 (codes "f") (codes "1" ∷ codes "eq" ∷ codes "1" ∷ []) (codes "else" ∷ [])
-      (If 1 (Numeral (pos 1)) Equal (Numeral (pos 1))) (Else 2 ∷ []) (record { shows = refl; no_note = refl; words = refl })
+      (If 1 (Numeral (pos 1)) Equal (Numeral (pos 1))) (Else 2 ∷ []) (refl, refl, refl)
       (if_says 1 start (lit< tt))
-      (then_says 2 (after (If 1 (Numeral (pos 1)) Equal (Numeral (pos 1))) start) 101 (codes "lse") [] [] (Else 2) []
-      (record { shows = refl; no_note = refl; words = refl })
+      (then_says 2 (after (If 1 (Numeral (pos 1)) Equal (Numeral (pos 1))) start) 101 (codes "lse") [] [] (Else 2) [] (refl, refl, refl)
       (else_says 2 1 (after (If 1 (Numeral (pos 1)) Equal (Numeral (pos 1))) start) [] refl) refl);
   wrong = bad_line 3 (after (Else 2) (after (If 1 (Numeral (pos 1)) Equal (Numeral (pos 1))) start)) 101 (codes "lse") [] ElseAlone
-      (lit≤ tt) (record { shows = refl; no_note = refl; words = refl }) (None, refl, refl);
+      (lit≤ tt) (refl, refl, refl) (None, refl, refl);
 }))
 
 -- all examples

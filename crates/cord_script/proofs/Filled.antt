@@ -37,10 +37,8 @@ use Rattle.cord_script.specs.declared.words.Word.TheVariants.{Plain, Quoted}
 use Rattle.cord_script.specs.declared.refusals.RefusalKind.{RefusalKind}
 use Rattle.cord_script.specs.declared.refusals.RefusalKind.TheVariants.{UnknownStatement, WrongCount, BadName, BadNumber, BadFormat}
 use Rattle.cord_syntax.specs.declared.statements.Statement.{Statement}
-use Rattle.cord_syntax.specs.declared.statements.Statement.TheVariants.{Let, File, Eager, Lazy, Chars, Nul, FromFn, Cat, Catn, Catc, Substr}
-use Rattle.cord_syntax.specs.declared.statements.Statement.TheVariants.{Balance, EcToCord, Sprintf, Len, Fetch, Cmp, Ncmp, Str, Chr, Rchr}
-use Rattle.cord_syntax.specs.declared.statements.Statement.TheVariants.{Assign, Add, Sub, EcInit, EcPut, EcCat, EcStr, Put, Repeat, If}
-use Rattle.cord_syntax.specs.declared.statements.Statement.TheVariants.{Else, End}
+use Rattle.cord_syntax.specs.declared.statements.Statement.TheVariants.{Catn}
+use Rattle.cord_syntax.specs.declared.statements.Statement.TheVariants.{Sprintf}
 use Rattle.cord_syntax.specs.Lines.{line_of}
 use Rattle.cord_script.specs.Tests.{is_name, begins_numeral, numeral_of, is_path}
 use Rattle.cord_script.specs.Formats.{AreWantedBy, want_of_kind, wants_of_pieces}
@@ -63,6 +61,7 @@ use Rattle.cord_script.proofs.Firsts.{same_bytes}
 use Rattle.cord_script.proofs.Terms.{either}
 use Rattle.cord_script.proofs.Tabled.{form_found}
 use Rattle.cord_script.proofs.Allowed.{names_same, all_allowed, block_right}
+use Rattle.cord_script.proofs.OneStatement.{fixed_made}
 
 -- what a word says where this is wanted
 abbrev OperandOf : Want → Type 0
@@ -95,13 +94,7 @@ terms (x ∷ xs) h = term x h.0 ∷ terms xs h.1
 
 term_wants : (x : Want) (v : OperandOf x) → want_of (term x v) ≡ x
 term_wants (wants.Target kind) v = refl
-term_wants (wants.Operand kind) v = refl
-term_wants wants.Number v = refl
-term_wants wants.Text v = refl
-term_wants wants.Path v = refl
-term_wants wants.Function v = refl
-term_wants wants.Relation v = refl
-term_wants wants.Format v = refl
+term_wants _ v = refl
 
 terms_want : (xs : List Want) (h : OperandsOf xs) → map want_of (terms xs h) ≡ xs
 terms_want [] h = refl
@@ -144,17 +137,12 @@ word_says : (x : Want) (w : Word) → misfit x w ≡ None → (v : OperandOf x) 
 word_says (wants.Target kind) w h = a_name w h
 word_says (wants.Operand kind) w h = a_name w h
 word_says wants.Number (Plain p) h = a_number p h
-word_says wants.Number (Quoted text) h = cc
-word_says wants.Text (Plain p) h = cc
 word_says wants.Text (Quoted text) h = (text, refl)
-word_says wants.Path (Plain p) h = cc
 word_says wants.Path (Quoted path) h = (path, (refl, holds (is_path path) BadName h))
 word_says wants.Function (Plain p) h = a_function p h
-word_says wants.Function (Quoted text) h = cc
 word_says wants.Relation (Plain p) h = a_relation p h
-word_says wants.Relation (Quoted text) h = cc
-word_says wants.Format (Plain p) h = cc
 word_says wants.Format (Quoted text) h = (text, refl)
+word_says _ _ h = cc
 
 -- as many words as are wanted, without a misfit
 words_say : (xs : List Want) (ws : List Word) → length ws ≡ length xs → first_misfit xs ws ≡ None → (h : OperandsOf xs) ×
@@ -167,15 +155,6 @@ words_say (x ∷ xs) (w ∷ ws) e h =
     let first = word_says x w r.0 in
     let others = words_say xs ws (omega (arith, e)) r.1 in
     ((first.0, others.0), (first.1, others.1))
-
--- a statement with this word and these terms
-record Made (word : List ℕ) (effect : Effect) (n : ℕ) (ts : List Term) : Type 0 where
-  pub statement : Statement
-  pub named : word_of statement ≡ word
-  pub leads : effect_of statement ≡ effect
-  pub line : line_of statement ≡ n
-  pub says : terms_of statement ≡ ts
-  pub suits : Suits statement
 
 -- a statement with this word that the words after it say
 record IsFilled (word : List ℕ) (form : Form) (n : ℕ) (ws : List Word) (formats : Option (List Want)) : Type 0 where
@@ -193,26 +172,31 @@ Fills word n ws None = Unit {0}
 Fills word n ws (Some form) = (formats : Option (List Want)) → HasFormat form.shape ws formats → is_count form.shape (length ws) ≡ true →
     words_error form.shape formats ws ≡ None → IsFilled word form n ws formats
 
+-- what was made is a statement with this word and these terms
+abbrev IsMade : List ℕ → Effect → ℕ → List Term → Option Statement → Type 0
+IsMade word effect n ts None = ⊥
+IsMade word effect n ts (Some s) = (word_of s ≡ word) × (effect_of s ≡ effect) × (line_of s ≡ n) × (terms_of s ≡ ts) × Suits s
+
 -- words of a fixed number
-fixed : {word : List ℕ} {effect : Effect} {xs : List Want} (n : ℕ) (ws : List Word) → ((h : OperandsOf xs) → Made word effect n (terms xs h)) →
+fixed : {word : List ℕ} {effect : Effect} {xs : List Want} (n : ℕ) (ws : List Word) →
+    ((h : OperandsOf xs) → IsMade word effect n (terms xs h) (fixed_made word n (terms xs h))) →
     Fills word n ws (Some (record { shape = Words xs; effect = effect }))
 fixed {word = word} {effect = effect} {xs = xs} n ws make = λ formats has count fit.
     let said = words_say xs ws (eqb-true (length ws) (length xs) count) fit in
-    let made = make said.0 in
-    record {
-      statement = made.statement;
-      named = made.named;
-      leads = made.leads;
-      line = made.line;
-      terms = subst (AreTerms ws) (sym made.says) said.1;
-      wanted = sym (ap (map want_of) made.says ∙ terms_want xs said.0);
-      suits = made.suits;
+    by_made said.0 said.1 formats (fixed_made word n (terms xs said.0)) (make said.0)
+  where
+    by_made : (h : OperandsOf xs) → AreTerms ws (terms xs h) → (formats : Option (List Want)) (o : Option Statement) →
+        IsMade word effect n (terms xs h) o → IsFilled word (record { shape = Words xs; effect = effect }) n ws formats
+    by_made h says formats None made = absurd made
+    by_made h says formats (Some s) (named, leads, line, are, suits) = record {
+      statement = s;
+      named = named;
+      leads = leads;
+      line = line;
+      terms = subst (AreTerms ws) (sym are) says;
+      wanted = sym (ap (map want_of) are ∙ terms_want xs h);
+      suits = suits;
     }
-
-made : {word : List ℕ} {effect : Effect} {n : ℕ} {ts : List Term} (s : Statement) → word_of s ≡ word → effect_of s ≡ effect → line_of s ≡ n →
-    terms_of s ≡ ts → Suits s → Made word effect n ts
-made s named leads line says suits =
-    record { statement = s; named = named; leads = leads; line = line; says = says; suits = suits }
 
 -- the names of cords
 cord_names : (ws : List Word) (h : OperandsOf (cords ws)) → (names : List (List ℕ)) × (terms (cords ws) h ≡ map (Operand kinds.Cord) names) ×
@@ -292,39 +276,17 @@ printed_filled n (w ∷ Quoted text ∷ ws) (Some xs) has count fit =
 -- words after a verb's word, of the right number and without a misfit, say a statement
 filled : (v : Verb) (n : ℕ) (ws : List Word) → Fills (verb_word v) n ws (form_of (verb_word v))
 unfolding form_of
-filled (verbs.Fixed (fixed_verbs.Origin origins.Let)) n ws = fixed n ws (λ h. made (Let n h.0 h.1.0) refl refl refl refl tt)
-filled (verbs.Fixed (fixed_verbs.Origin origins.File)) n ws = fixed n ws (λ h. made (File n h.0 h.1.0) refl refl refl refl tt)
-filled (verbs.Fixed (fixed_verbs.Origin origins.Eager)) n ws = fixed n ws (λ h. made (Eager n h.0 h.1.0) refl refl refl refl tt)
-filled (verbs.Fixed (fixed_verbs.Origin origins.Lazy)) n ws = fixed n ws (λ h. made (Lazy n h.0 h.1.0) refl refl refl refl tt)
-filled (verbs.Fixed (fixed_verbs.Composition compositions.Chars)) n ws = fixed n ws (λ h. made (Chars n h.0 h.1.0 h.1.1.0) refl refl refl refl tt)
-filled (verbs.Fixed (fixed_verbs.Composition compositions.Nul)) n ws = fixed n ws (λ h. made (Nul n h.0 h.1.0) refl refl refl refl tt)
-filled (verbs.Fixed (fixed_verbs.Origin origins.FromFn)) n ws = fixed n ws (λ h. made (FromFn n h.0 h.1.0 h.1.1.0) refl refl refl refl tt)
-filled (verbs.Fixed (fixed_verbs.Composition compositions.Cat)) n ws = fixed n ws (λ h. made (Cat n h.0 h.1.0 h.1.1.0) refl refl refl refl tt)
-filled (verbs.Fixed (fixed_verbs.Composition compositions.Catc)) n ws = fixed n ws (λ h. made (Catc n h.0 h.1.0 h.1.1.0) refl refl refl refl tt)
-filled (verbs.Fixed (fixed_verbs.Composition compositions.Substr)) n ws = fixed n ws (λ h. made (Substr n h.0 h.1.0 h.1.1.0 h.1.1.1.0) refl refl refl refl tt)
-filled (verbs.Fixed (fixed_verbs.Derivation derivations.Balance)) n ws = fixed n ws (λ h. made (Balance n h.0 h.1.0) refl refl refl refl tt)
-filled (verbs.Fixed (fixed_verbs.Derivation derivations.EcToCord)) n ws = fixed n ws (λ h. made (EcToCord n h.0 h.1.0) refl refl refl refl tt)
-filled (verbs.Fixed (fixed_verbs.Computation computations.Len)) n ws = fixed n ws (λ h. made (Len n h.0 h.1.0) refl refl refl refl tt)
-filled (verbs.Fixed (fixed_verbs.Look looks.Fetch)) n ws = fixed n ws (λ h. made (Fetch n h.0 h.1.0 h.1.1.0) refl refl refl refl tt)
-filled (verbs.Fixed (fixed_verbs.Look looks.Cmp)) n ws = fixed n ws (λ h. made (Cmp n h.0 h.1.0 h.1.1.0) refl refl refl refl tt)
-filled (verbs.Fixed (fixed_verbs.Look looks.Ncmp)) n ws = fixed n ws (λ h. made (Ncmp n h.0 h.1.0 h.1.1.0 h.1.1.1.0 h.1.1.1.1.0 h.1.1.1.1.1.0) refl refl refl refl tt)
-filled (verbs.Fixed (fixed_verbs.Search searches.Str)) n ws = fixed n ws (λ h. made (Str n h.0 h.1.0 h.1.1.0 h.1.1.1.0) refl refl refl refl tt)
-filled (verbs.Fixed (fixed_verbs.Search searches.Chr)) n ws = fixed n ws (λ h. made (Chr n h.0 h.1.0 h.1.1.0 h.1.1.1.0) refl refl refl refl tt)
-filled (verbs.Fixed (fixed_verbs.Search searches.Rchr)) n ws = fixed n ws (λ h. made (Rchr n h.0 h.1.0 h.1.1.0 h.1.1.1.0) refl refl refl refl tt)
-filled (verbs.Fixed (fixed_verbs.Computation computations.Assign)) n ws = fixed n ws (λ h. made (Assign n h.0 h.1.0) refl refl refl refl tt)
-filled (verbs.Fixed (fixed_verbs.Computation computations.Add)) n ws = fixed n ws (λ h. made (Add n h.0 h.1.0 h.1.1.0) refl refl refl refl tt)
-filled (verbs.Fixed (fixed_verbs.Computation computations.Sub)) n ws = fixed n ws (λ h. made (Sub n h.0 h.1.0 h.1.1.0) refl refl refl refl tt)
-filled (verbs.Fixed (fixed_verbs.Growth growths.EcInit)) n ws = fixed n ws (λ h. made (EcInit n h.0) refl refl refl refl tt)
-filled (verbs.Fixed (fixed_verbs.Growth growths.EcPut)) n ws = fixed n ws (λ h. made (EcPut n h.0 h.1.0) refl refl refl refl tt)
-filled (verbs.Fixed (fixed_verbs.Growth growths.EcCat)) n ws = fixed n ws (λ h. made (EcCat n h.0 h.1.0) refl refl refl refl tt)
-filled (verbs.Fixed (fixed_verbs.Growth growths.EcStr)) n ws = fixed n ws (λ h. made (EcStr n h.0 h.1.0) refl refl refl refl tt)
-filled (verbs.Fixed fixed_verbs.Put) n ws = fixed n ws (λ h. made (Put n h.0) refl refl refl refl tt)
-filled (verbs.Fixed (fixed_verbs.Control controls.Repeat)) n ws = fixed n ws (λ h. made (Repeat n h.0) refl refl refl refl tt)
-filled (verbs.Fixed (fixed_verbs.Control controls.If)) n ws = fixed n ws (λ h. made (If n h.0 h.1.0 h.1.1.0) refl refl refl refl tt)
-filled (verbs.Fixed (fixed_verbs.Control controls.Else)) n ws = fixed n ws (λ h. made (Else n) refl refl refl refl tt)
-filled (verbs.Fixed (fixed_verbs.Control controls.End)) n ws = fixed n ws (λ h. made (End n) refl refl refl refl tt)
 filled verbs.Catn n ws = λ formats has count fit. joined_filled n ws formats count fit
 filled verbs.Sprintf n ws = λ formats has count fit. printed_filled n ws formats has count fit
+filled (verbs.Fixed (fixed_verbs.Origin origins.Let)) n ws = fixed n ws (λ h. (refl, refl, refl, refl, tt))
+filled (verbs.Fixed (fixed_verbs.Composition compositions.Chars)) n ws = fixed n ws (λ h. (refl, refl, refl, refl, tt))
+filled (verbs.Fixed (fixed_verbs.Derivation derivations.Balance)) n ws = fixed n ws (λ h. (refl, refl, refl, refl, tt))
+filled (verbs.Fixed (fixed_verbs.Computation computations.Len)) n ws = fixed n ws (λ h. (refl, refl, refl, refl, tt))
+filled (verbs.Fixed (fixed_verbs.Look looks.Fetch)) n ws = fixed n ws (λ h. (refl, refl, refl, refl, tt))
+filled (verbs.Fixed (fixed_verbs.Search searches.Str)) n ws = fixed n ws (λ h. (refl, refl, refl, refl, tt))
+filled (verbs.Fixed (fixed_verbs.Growth growths.EcInit)) n ws = fixed n ws (λ h. (refl, refl, refl, refl, tt))
+filled (verbs.Fixed (fixed_verbs.Control controls.Repeat)) n ws = fixed n ws (λ h. (refl, refl, refl, refl, tt))
+filled v n ws = fixed n ws (λ h. (refl, refl, refl, refl, tt))
 
 -- what the conversions of the format want
 converts_of : FormatOrBad → (text : List ℕ) → (formats : Option (List Want)) × AreWantedBy text formats
@@ -334,12 +296,8 @@ converts_of law text = elim (law text) [
 ]
 
 formats_of : FormatOrBad → (shape : Shape) (ws : List Word) → (formats : Option (List Want)) × HasFormat shape ws formats
-formats_of law (Words xs) ws = (None, refl)
-formats_of law Joined ws = (None, refl)
-formats_of law Printed [] = (None, refl)
-formats_of law Printed (t ∷ []) = (None, refl)
-formats_of law Printed (t ∷ Plain p ∷ ws) = (None, refl)
 formats_of law Printed (t ∷ Quoted text ∷ ws) = converts_of law text
+formats_of law _ _ = (None, refl)
 
 abbrev SaysOrBad : Grammar → ℕ → Scope → List Word → Type 0
 SaysOrBad g n scope words = ((s : Statement) × Says g n scope words s) ⊎ ((kind : RefusalKind) × HasBadWords g scope words kind)

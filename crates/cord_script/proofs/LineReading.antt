@@ -16,7 +16,7 @@ use Rattle.cord_syntax.specs.declared.statements.Statement.TheVariants.{Sprintf}
 use Rattle.cord_script.specs.Words.{IsBlank, StartsWith}
 use Rattle.cord_script.specs.Formats.{wants_of_pieces}
 use Rattle.cord_script.specs.Forms.{Term, terms_of, argument_term, argument_want}
-use Rattle.cord_script.specs.Forms.Term.{Target, Operand, Value, Literal, FilePath, Applies, Compares, Formats}
+use Rattle.cord_script.specs.Forms.Term.{Target, FilePath, Formats}
 use Rattle.cord_script.specs.Script.{IsTerm, AreTerms, IsAllowed, AreAllowed, names_after, paths_after}
 use Rattle.cord_script.specs.inner.LineReading.{LineView, IsFresh, PassesWord, GivesTerm, GivesAll, IsStatementBuilt, SaysLine, paired}
 use Rattle.cord_script.specs.inner.LineReading.{names_with, paths_with}
@@ -92,23 +92,11 @@ word_given word t old mid p says allowed names paths = record {
 -- the names after a term and others
 names_split : (t : Term) (ts : List Term) (names : List Known) → names_after (t ∷ ts) names ≡ names_after ts (names_after (t ∷ []) names)
 names_split (Target kind name) ts names = refl
-names_split (Operand kind name) ts names = refl
-names_split (Value number) ts names = refl
-names_split (Literal text) ts names = refl
-names_split (FilePath path) ts names = refl
-names_split (Applies function) ts names = refl
-names_split (Compares relation) ts names = refl
-names_split (Formats text) ts names = refl
+names_split _ ts names = refl
 
 paths_split : (t : Term) (ts : List Term) (paths : List (List ℕ)) → paths_after (t ∷ ts) paths ≡ paths_after ts (paths_after (t ∷ []) paths)
-paths_split (Target kind name) ts paths = refl
-paths_split (Operand kind name) ts paths = refl
-paths_split (Value number) ts paths = refl
-paths_split (Literal text) ts paths = refl
 paths_split (FilePath path) ts paths = refl
-paths_split (Applies function) ts paths = refl
-paths_split (Compares relation) ts paths = refl
-paths_split (Formats text) ts paths = refl
+paths_split _ ts paths = refl
 
 -- the words that say the terms that were given
 record HasGiven (old : LineView) (ts : List Term) (new : LineView) : Type 0 where

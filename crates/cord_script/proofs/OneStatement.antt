@@ -30,14 +30,15 @@ use Rattle.cord_script.specs.Forms.Effect.{Stays, OpensRepeat, OpensIf, Turns, C
 use Rattle.cord_script.specs.Forms.Term.{Target, Operand, Value, Literal, FilePath, Applies, Compares, Formats}
 use Rattle.cord_script.specs.Formats.{AreWantedBy, want_of_kind}
 use Rattle.cord_script.specs.Script.{Scope, Block, Says, Suits, AreTerms, FitsBlocks}
-use Rattle.cord_script.specs.FirstErrors.{first_of, unless, misfit, first_pair, operand_error, word_target_error, word_path_error, is_count}
+use Rattle.cord_script.specs.FirstErrors.{first_of, unless, misfit, first_pair, is_count}
 use Rattle.cord_script.specs.FirstErrors.{cords}
 use Rattle.cord_script.specs.FirstErrors.{wants_of, words_error, else_error, block_error, names_error, form_error, HasFormat, HasFormError}
 use Rattle.cord_script.specs.FirstErrors.{HasBadWords}
 use Rattle.cord_script.proofs.Checked.{neither}
 use Rattle.cord_script.proofs.Unique.{within}
 use Rattle.cord_script.specs.inner.Fields.{want_of}
-use Rattle.cord_script.proofs.Terms.{term_fits, term_known, term_assigned, term_opened, pairs_none, terms_count, one_list}
+use Rattle.cord_script.proofs.Allowed.{names_same, none_wrong}
+use Rattle.cord_script.proofs.Terms.{words_fit, terms_count, one_list}
 
 -- The form of a statement's word, with what its words have to be.
 pub record IsRightForm (others : List Word) (s : Statement) : Type 0 where
@@ -151,48 +152,13 @@ right_sprintf (w ∷ x ∷ ws) n target text format args is h suits =
 -- words that say a statement have the form of its word
 pub right_form : (others : List Word) (s : Statement) → AreTerms others (terms_of s) → Suits s → IsRightForm others s
 unfolding form_of
-right_form others (Let n target text) h suits = right_words others (Let n target text) refl h
-right_form others (File n target path) h suits = right_words others (File n target path) refl h
-right_form others (Eager n target path) h suits = right_words others (Eager n target path) refl h
-right_form others (Lazy n target path) h suits = right_words others (Lazy n target path) refl h
-right_form others (Chars n target byte count) h suits = right_words others (Chars n target byte count) refl h
-right_form others (Nul n target count) h suits = right_words others (Nul n target count) refl h
-right_form others (FromFn n target function count) h suits = right_words others (FromFn n target function count) refl h
-right_form others (Cat n target left right) h suits = right_words others (Cat n target left right) refl h
-right_form others (Catc n target operand byte) h suits = right_words others (Catc n target operand byte) refl h
-right_form others (Substr n target operand start count) h suits = right_words others (Substr n target operand start count) refl h
-right_form others (Balance n target operand) h suits = right_words others (Balance n target operand) refl h
-right_form others (EcToCord n target extensible) h suits = right_words others (EcToCord n target extensible) refl h
-right_form others (Len n target operand) h suits = right_words others (Len n target operand) refl h
-right_form others (Fetch n target operand index) h suits = right_words others (Fetch n target operand index) refl h
-right_form others (Cmp n target left right) h suits = right_words others (Cmp n target left right) refl h
-right_form others (Ncmp n target left left_start right right_start count) h suits =
-    right_words others (Ncmp n target left left_start right right_start count) refl h
-right_form others (Str n target operand start pattern) h suits = right_words others (Str n target operand start pattern) refl h
-right_form others (Chr n target operand start byte) h suits = right_words others (Chr n target operand start byte) refl h
-right_form others (Rchr n target operand start byte) h suits = right_words others (Rchr n target operand start byte) refl h
-right_form others (Assign n target value) h suits = right_words others (Assign n target value) refl h
-right_form others (Add n target left right) h suits = right_words others (Add n target left right) refl h
-right_form others (Sub n target left right) h suits = right_words others (Sub n target left right) refl h
-right_form others (EcInit n target) h suits = right_words others (EcInit n target) refl h
-right_form others (EcPut n extensible byte) h suits = right_words others (EcPut n extensible byte) refl h
-right_form others (EcCat n extensible operand) h suits = right_words others (EcCat n extensible operand) refl h
-right_form others (EcStr n extensible text) h suits = right_words others (EcStr n extensible text) refl h
-right_form others (Put n operand) h suits = right_words others (Put n operand) refl h
-right_form others (Repeat n count) h suits = right_words others (Repeat n count) refl h
-right_form others (If n left relation right) h suits = right_words others (If n left relation right) refl h
-right_form others (Else n) h suits = right_words others (Else n) refl h
-right_form others (End n) h suits = right_words others (End n) refl h
 right_form others (Catn n target parts) h suits = right_catn others n target parts refl h suits
 right_form others (Sprintf n target text format arguments) h suits = right_sprintf others n target text format arguments refl h suits
+right_form others s h suits = right_words others s refl h
 
 all_none : (a b c d : Option RefusalKind) → a ≡ None → b ≡ None → c ≡ None → d ≡ None → first_of a (first_of b (first_of c d)) ≡ None
 all_none None None None None ea eb ec ed = refl
 all_none _ _ _ _ ea eb ec ed = cc
-
-three_none : (a b c : Option RefusalKind) → a ≡ None → b ≡ None → c ≡ None → first_of a (first_of b c) ≡ None
-three_none None None None ea eb ec = refl
-three_none _ _ _ ea eb ec = cc
 
 block_none : (effect : Effect) (blocks : List Block) → FitsBlocks effect blocks → block_error effect blocks ≡ None
 block_none Stays blocks h = refl
@@ -208,23 +174,11 @@ fine_form : (g : Grammar) (n : ℕ) (scope : Scope) (words : List Word) (s : Sta
 fine_form g n scope words s says r =
     let ts = terms_of s in
     let others = says.others in
-    let xs = wants_of r.form.shape r.formats others in
-    let fit = r.words (pairs_none misfit scope others ts (λ w t h a. term_fits w t scope h a) says.terms says.allowed) in
-    let known : first_pair (operand_error scope.names) xs others ≡ None =
-    ap (λ k. first_pair (operand_error scope.names) k others) r.wants ∙ pairs_none (operand_error scope.names) scope others ts
-    (λ w t h a. term_known w t scope h a) says.terms says.allowed in
-    let assigned : first_pair (word_target_error scope.names) xs others ≡ None =
-    ap (λ k. first_pair (word_target_error scope.names) k others) r.wants ∙ pairs_none (word_target_error scope.names) scope others ts
-    (λ w t h a. term_assigned w t scope h a) says.terms says.allowed in
-    let opened : first_pair (word_path_error scope.paths) xs others ≡ None =
-    ap (λ k. first_pair (word_path_error scope.paths) k others) r.wants ∙ pairs_none (word_path_error scope.paths) scope others ts
-    (λ w t h a. term_opened w t scope h a) says.terms says.allowed in
     all_none (unless (is_count r.form.shape (length others)) WrongCount) (words_error r.form.shape r.formats others)
-    (names_error scope xs others) (block_error r.form.effect scope.blocks)
+    (names_error scope (wants_of r.form.shape r.formats others) others) (block_error r.form.effect scope.blocks)
     (ap (λ b. unless b WrongCount) r.count)
-    fit
-    (three_none (first_pair (operand_error scope.names) xs others) (first_pair (word_target_error scope.names) xs others)
-    (first_pair (word_path_error scope.paths) xs others) known assigned opened)
+    (r.words (words_fit others ts says.terms))
+    (ap (λ k. names_error scope k others) r.wants ∙ names_same scope others ts says.terms ∙ none_wrong scope ts says.allowed)
     (ap (λ e. block_error e scope.blocks) r.effect ∙ block_none (effect_of s) scope.blocks says.blocks)
 
 -- a text is a format in one way
@@ -237,12 +191,8 @@ one_conversion one bad text None None h h' = refl
 
 pub one_format : OneFormat → BadIsNoFormat → (shape : Shape) (ws : List Word) (f f' : Option (List Want)) → HasFormat shape ws f →
     HasFormat shape ws f' → f ≡ f'
-one_format one bad (Words xs) ws f f' h h' = h ∙ sym h'
-one_format one bad Joined ws f f' h h' = h ∙ sym h'
-one_format one bad Printed [] f f' h h' = h ∙ sym h'
-one_format one bad Printed (t ∷ []) f f' h h' = h ∙ sym h'
-one_format one bad Printed (t ∷ Plain p ∷ ws) f f' h h' = h ∙ sym h'
 one_format one bad Printed (t ∷ Quoted text ∷ ws) f f' h h' = one_conversion one bad text f f' h h'
+one_format one bad _ _ f f' h h' = h ∙ sym h'
 
 in_grammar : (g : Grammar) (w : List ℕ) → g.has w ≡ true → form_in g w ≡ form_of w
 in_grammar g w h = ap (λ b. if b then form_of w else None) h
@@ -294,169 +244,50 @@ printed_catn target [] = refl
 printed_catn target (p ∷ ps) = refl
 
 printed : (s : Statement) → Suits s → IsPrinted (terms_of s) (pieces_of s)
-printed (Let n target text) suits = refl
-printed (File n target path) suits = refl
-printed (Eager n target path) suits = refl
-printed (Lazy n target path) suits = refl
-printed (Chars n target byte count) suits = refl
-printed (Nul n target count) suits = refl
-printed (FromFn n target function count) suits = refl
-printed (Cat n target left right) suits = refl
-printed (Catc n target operand byte) suits = refl
-printed (Substr n target operand start count) suits = refl
-printed (Balance n target operand) suits = refl
-printed (EcToCord n target extensible) suits = refl
-printed (Len n target operand) suits = refl
-printed (Fetch n target operand index) suits = refl
-printed (Cmp n target left right) suits = refl
-printed (Ncmp n target left left_start right right_start count) suits = refl
-printed (Str n target operand start pattern) suits = refl
-printed (Chr n target operand start byte) suits = refl
-printed (Rchr n target operand start byte) suits = refl
-printed (Assign n target value) suits = refl
-printed (Add n target left right) suits = refl
-printed (Sub n target left right) suits = refl
-printed (EcInit n target) suits = refl
-printed (EcPut n extensible byte) suits = refl
-printed (EcCat n extensible operand) suits = refl
-printed (EcStr n extensible text) suits = refl
-printed (Put n operand) suits = refl
-printed (Repeat n count) suits = refl
-printed (If n left relation right) suits = refl
-printed (Else n) suits = refl
-printed (End n) suits = refl
 printed (Catn n target parts) suits = printed_catn target parts
 printed (Sprintf n target text format arguments) suits = suits.0
+printed _ suits = refl
 
 one_printed : OneFormat → (ts : List Term) (p q : List Piece) → IsPrinted ts p → IsPrinted ts q → p ≡ q
 one_printed one (Target kind target ∷ Formats text ∷ ts) p q h h' = one text p q h h'
 one_printed one _ p q h h' = h ∙ sym h'
 
--- The statement of a word, a line and terms, one form after the other.
-abbrev made_let : ℕ → List Term → Option Statement
-made_let n (Target k1 target ∷ Literal text ∷ []) = Some (Let n target text)
-made_let n _ = None
-
-abbrev made_file : ℕ → List Term → Option Statement
-made_file n (Target k1 target ∷ FilePath path ∷ []) = Some (File n target path)
-made_file n _ = None
-
-abbrev made_eager : ℕ → List Term → Option Statement
-made_eager n (Target k1 target ∷ FilePath path ∷ []) = Some (Eager n target path)
-made_eager n _ = None
-
-abbrev made_lazy : ℕ → List Term → Option Statement
-made_lazy n (Target k1 target ∷ FilePath path ∷ []) = Some (Lazy n target path)
-made_lazy n _ = None
-
-abbrev made_chars : ℕ → List Term → Option Statement
-made_chars n (Target k1 target ∷ Value byte ∷ Value count ∷ []) = Some (Chars n target byte count)
-made_chars n _ = None
-
-abbrev made_nul : ℕ → List Term → Option Statement
-made_nul n (Target k1 target ∷ Value count ∷ []) = Some (Nul n target count)
-made_nul n _ = None
-
-abbrev made_fn : ℕ → List Term → Option Statement
-made_fn n (Target k1 target ∷ Applies function ∷ Value count ∷ []) = Some (FromFn n target function count)
-made_fn n _ = None
-
-abbrev made_cat : ℕ → List Term → Option Statement
-made_cat n (Target k1 target ∷ Operand k2 left ∷ Operand k3 right ∷ []) = Some (Cat n target left right)
-made_cat n _ = None
-
-abbrev made_catc : ℕ → List Term → Option Statement
-made_catc n (Target k1 target ∷ Operand k2 operand ∷ Value byte ∷ []) = Some (Catc n target operand byte)
-made_catc n _ = None
-
-abbrev made_substr : ℕ → List Term → Option Statement
-made_substr n (Target k1 target ∷ Operand k2 operand ∷ Value start ∷ Value count ∷ []) = Some (Substr n target operand start count)
-made_substr n _ = None
-
-abbrev made_balance : ℕ → List Term → Option Statement
-made_balance n (Target k1 target ∷ Operand k2 operand ∷ []) = Some (Balance n target operand)
-made_balance n _ = None
-
-abbrev made_ectocord : ℕ → List Term → Option Statement
-made_ectocord n (Target k1 target ∷ Operand k2 extensible ∷ []) = Some (EcToCord n target extensible)
-made_ectocord n _ = None
-
-abbrev made_len : ℕ → List Term → Option Statement
-made_len n (Target k1 target ∷ Operand k2 operand ∷ []) = Some (Len n target operand)
-made_len n _ = None
-
-abbrev made_fetch : ℕ → List Term → Option Statement
-made_fetch n (Target k1 target ∷ Operand k2 operand ∷ Value index ∷ []) = Some (Fetch n target operand index)
-made_fetch n _ = None
-
-abbrev made_cmp : ℕ → List Term → Option Statement
-made_cmp n (Target k1 target ∷ Operand k2 left ∷ Operand k3 right ∷ []) = Some (Cmp n target left right)
-made_cmp n _ = None
-
-abbrev made_ncmp : ℕ → List Term → Option Statement
-made_ncmp n (Target k1 target ∷ Operand k2 left ∷ Value left_start ∷ Operand k3 right ∷ Value right_start ∷ Value count ∷ []) =
+-- The statement of a word, a line and terms, where the number of terms is fixed: by what they say, and by the word where
+-- that leaves a choice.
+abbrev pub fixed_made : List ℕ → ℕ → List Term → Option Statement
+fixed_made w n (Target k target ∷ Literal text ∷ []) = Some (Let n target text)
+fixed_made w n (Target k target ∷ FilePath path ∷ []) =
+    if bytes_eq w (codes "file") then Some (File n target path)
+    else if bytes_eq w (codes "eager") then Some (Eager n target path)
+    else Some (Lazy n target path)
+fixed_made w n (Target kinds.Cord target ∷ Value byte ∷ Value count ∷ []) = Some (Chars n target byte count)
+fixed_made w n (Target k target ∷ Value left ∷ Value right ∷ []) =
+    if bytes_eq w (codes "add") then Some (Add n target left right) else Some (Sub n target left right)
+fixed_made w n (Target kinds.Cord target ∷ Value count ∷ []) = Some (Nul n target count)
+fixed_made w n (Target k target ∷ Value value ∷ []) = Some (Assign n target value)
+fixed_made w n (Target k target ∷ Applies function ∷ Value count ∷ []) = Some (FromFn n target function count)
+fixed_made w n (Target kinds.Cord target ∷ Operand k left ∷ Operand l right ∷ []) = Some (Cat n target left right)
+fixed_made w n (Target j target ∷ Operand k left ∷ Operand l right ∷ []) = Some (Cmp n target left right)
+fixed_made w n (Target kinds.Cord target ∷ Operand k operand ∷ Value byte ∷ []) = Some (Catc n target operand byte)
+fixed_made w n (Target j target ∷ Operand k operand ∷ Value index ∷ []) = Some (Fetch n target operand index)
+fixed_made w n (Target kinds.Cord target ∷ Operand k operand ∷ Value start ∷ Value count ∷ []) = Some (Substr n target operand start count)
+fixed_made w n (Target j target ∷ Operand k operand ∷ Value start ∷ Value byte ∷ []) =
+    if bytes_eq w (codes "chr") then Some (Chr n target operand start byte) else Some (Rchr n target operand start byte)
+fixed_made w n (Target kinds.Cord target ∷ Operand kinds.Extensible extensible ∷ []) = Some (EcToCord n target extensible)
+fixed_made w n (Target kinds.Cord target ∷ Operand k operand ∷ []) = Some (Balance n target operand)
+fixed_made w n (Target j target ∷ Operand k operand ∷ []) = Some (Len n target operand)
+fixed_made w n (Target j target ∷ Operand k left ∷ Value left_start ∷ Operand l right ∷ Value right_start ∷ Value count ∷ []) =
     Some (Ncmp n target left left_start right right_start count)
-made_ncmp n _ = None
-
-abbrev made_str : ℕ → List Term → Option Statement
-made_str n (Target k1 target ∷ Operand k2 operand ∷ Value start ∷ Operand k3 pattern ∷ []) = Some (Str n target operand start pattern)
-made_str n _ = None
-
-abbrev made_chr : ℕ → List Term → Option Statement
-made_chr n (Target k1 target ∷ Operand k2 operand ∷ Value start ∷ Value byte ∷ []) = Some (Chr n target operand start byte)
-made_chr n _ = None
-
-abbrev made_rchr : ℕ → List Term → Option Statement
-made_rchr n (Target k1 target ∷ Operand k2 operand ∷ Value start ∷ Value byte ∷ []) = Some (Rchr n target operand start byte)
-made_rchr n _ = None
-
-abbrev made_set : ℕ → List Term → Option Statement
-made_set n (Target k1 target ∷ Value value ∷ []) = Some (Assign n target value)
-made_set n _ = None
-
-abbrev made_add : ℕ → List Term → Option Statement
-made_add n (Target k1 target ∷ Value left ∷ Value right ∷ []) = Some (Add n target left right)
-made_add n _ = None
-
-abbrev made_sub : ℕ → List Term → Option Statement
-made_sub n (Target k1 target ∷ Value left ∷ Value right ∷ []) = Some (Sub n target left right)
-made_sub n _ = None
-
-abbrev made_ecinit : ℕ → List Term → Option Statement
-made_ecinit n (Target k1 target ∷ []) = Some (EcInit n target)
-made_ecinit n _ = None
-
-abbrev made_ecput : ℕ → List Term → Option Statement
-made_ecput n (Operand k1 extensible ∷ Value byte ∷ []) = Some (EcPut n extensible byte)
-made_ecput n _ = None
-
-abbrev made_eccat : ℕ → List Term → Option Statement
-made_eccat n (Operand k1 extensible ∷ Operand k2 operand ∷ []) = Some (EcCat n extensible operand)
-made_eccat n _ = None
-
-abbrev made_ecstr : ℕ → List Term → Option Statement
-made_ecstr n (Operand k1 extensible ∷ Literal text ∷ []) = Some (EcStr n extensible text)
-made_ecstr n _ = None
-
-abbrev made_put : ℕ → List Term → Option Statement
-made_put n (Operand k1 operand ∷ []) = Some (Put n operand)
-made_put n _ = None
-
-abbrev made_repeat : ℕ → List Term → Option Statement
-made_repeat n (Value count ∷ []) = Some (Repeat n count)
-made_repeat n _ = None
-
-abbrev made_if : ℕ → List Term → Option Statement
-made_if n (Value left ∷ Compares relation ∷ Value right ∷ []) = Some (If n left relation right)
-made_if n _ = None
-
-abbrev made_else : ℕ → List Term → Option Statement
-made_else n [] = Some (Else n)
-made_else n _ = None
-
-abbrev made_end : ℕ → List Term → Option Statement
-made_end n [] = Some (End n)
-made_end n _ = None
+fixed_made w n (Target j target ∷ Operand k operand ∷ Value start ∷ Operand l pattern ∷ []) = Some (Str n target operand start pattern)
+fixed_made w n (Target k target ∷ []) = Some (EcInit n target)
+fixed_made w n (Operand k extensible ∷ Value byte ∷ []) = Some (EcPut n extensible byte)
+fixed_made w n (Operand k extensible ∷ Operand l operand ∷ []) = Some (EcCat n extensible operand)
+fixed_made w n (Operand k extensible ∷ Literal text ∷ []) = Some (EcStr n extensible text)
+fixed_made w n (Operand k operand ∷ []) = Some (Put n operand)
+fixed_made w n (Value count ∷ []) = Some (Repeat n count)
+fixed_made w n (Value left ∷ Compares relation ∷ Value right ∷ []) = Some (If n left relation right)
+fixed_made w n [] = if bytes_eq w (codes "else") then Some (Else n) else Some (End n)
+fixed_made w n _ = None
 
 -- the names among terms
 abbrev names_in : List Term → List (List ℕ)
@@ -490,76 +321,15 @@ made_sprintf n pieces _ = None
 
 unfoldable made : List ℕ → ℕ → List Piece → List Term → Option Statement
 made w n pieces ts =
-    if bytes_eq w (codes "let") then made_let n ts
-    else if bytes_eq w (codes "file") then made_file n ts
-    else if bytes_eq w (codes "eager") then made_eager n ts
-    else if bytes_eq w (codes "lazy") then made_lazy n ts
-    else if bytes_eq w (codes "chars") then made_chars n ts
-    else if bytes_eq w (codes "nul") then made_nul n ts
-    else if bytes_eq w (codes "fn") then made_fn n ts
-    else if bytes_eq w (codes "cat") then made_cat n ts
-    else if bytes_eq w (codes "catn") then made_catn n ts
-    else if bytes_eq w (codes "catc") then made_catc n ts
-    else if bytes_eq w (codes "substr") then made_substr n ts
-    else if bytes_eq w (codes "balance") then made_balance n ts
-    else if bytes_eq w (codes "ectocord") then made_ectocord n ts
+    if bytes_eq w (codes "catn") then made_catn n ts
     else if bytes_eq w (codes "sprintf") then made_sprintf n pieces ts
-    else if bytes_eq w (codes "len") then made_len n ts
-    else if bytes_eq w (codes "fetch") then made_fetch n ts
-    else if bytes_eq w (codes "cmp") then made_cmp n ts
-    else if bytes_eq w (codes "ncmp") then made_ncmp n ts
-    else if bytes_eq w (codes "str") then made_str n ts
-    else if bytes_eq w (codes "chr") then made_chr n ts
-    else if bytes_eq w (codes "rchr") then made_rchr n ts
-    else if bytes_eq w (codes "set") then made_set n ts
-    else if bytes_eq w (codes "add") then made_add n ts
-    else if bytes_eq w (codes "sub") then made_sub n ts
-    else if bytes_eq w (codes "ecinit") then made_ecinit n ts
-    else if bytes_eq w (codes "ecput") then made_ecput n ts
-    else if bytes_eq w (codes "eccat") then made_eccat n ts
-    else if bytes_eq w (codes "ecstr") then made_ecstr n ts
-    else if bytes_eq w (codes "put") then made_put n ts
-    else if bytes_eq w (codes "repeat") then made_repeat n ts
-    else if bytes_eq w (codes "if") then made_if n ts
-    else if bytes_eq w (codes "else") then made_else n ts
-    else if bytes_eq w (codes "end") then made_end n ts
-    else None
+    else fixed_made w n ts
 
 made_is : (s : Statement) → made (word_of s) (line_of s) (pieces_of s) (terms_of s) ≡ Some s
 unfolding made
-made_is (Let n target text) = refl
-made_is (File n target path) = refl
-made_is (Eager n target path) = refl
-made_is (Lazy n target path) = refl
-made_is (Chars n target byte count) = refl
-made_is (Nul n target count) = refl
-made_is (FromFn n target function count) = refl
-made_is (Cat n target left right) = refl
-made_is (Catc n target operand byte) = refl
-made_is (Substr n target operand start count) = refl
-made_is (Balance n target operand) = refl
-made_is (EcToCord n target extensible) = refl
-made_is (Len n target operand) = refl
-made_is (Fetch n target operand index) = refl
-made_is (Cmp n target left right) = refl
-made_is (Ncmp n target left left_start right right_start count) = refl
-made_is (Str n target operand start pattern) = refl
-made_is (Chr n target operand start byte) = refl
-made_is (Rchr n target operand start byte) = refl
-made_is (Assign n target value) = refl
-made_is (Add n target left right) = refl
-made_is (Sub n target left right) = refl
-made_is (EcInit n target) = refl
-made_is (EcPut n extensible byte) = refl
-made_is (EcCat n extensible operand) = refl
-made_is (EcStr n extensible text) = refl
-made_is (Put n operand) = refl
-made_is (Repeat n count) = refl
-made_is (If n left relation right) = refl
-made_is (Else n) = refl
-made_is (End n) = refl
 made_is (Catn n target parts) = ap (λ k. Some (Catn n target k)) (names_back parts)
 made_is (Sprintf n target text format arguments) = ap (λ k. Some (Sprintf n target text format k)) (arguments_back arguments)
+made_is _ = refl
 
 -- words say one statement
 pub one_statement : OneFormat → BadIsNoFormat → (g : Grammar) (n : ℕ) (scope : Scope) (words : List Word) (s s' : Statement) →

@@ -1,12 +1,10 @@
 -- What a word says, and what it has to be: one term for each want, and no misfit.
-use Rattle.std.proofs.Common.{inl, inr, Some, None, ◌≡◌, ◌≢◌, ◌<◌, ℕ, suc, List, [], ◌∷◌, Bool, true, false, refl, sym, ◌∙◌, ap, length}
+use Rattle.std.proofs.Common.{inl, inr, Some, None, ◌≡◌, ◌≢◌, ◌<◌, ℕ, List, [], ◌∷◌, Bool, true, false, refl, sym, ◌∙◌, ap, length}
 use Rattle.std.proofs.Common.{arith, eqb-true}
-use Rattle.std.specs.Prelude.{Option, ◌⊎◌, ◌==◌, ◌&&◌, ◌||◌, nat_le, nat_lt, is_some, map, if◌then◌else◌, ℤ, pos, ◌^◌}
-use Rattle.std.proofs.lemmas.Bool.{leb-true, le-leb, ne_eqb}
-use Rattle.cord_script.specs.declared.TheConstants.{MAX_NAMES, MAX_PATHS}
+use Rattle.std.specs.Prelude.{◌⊎◌, ◌==◌, ◌&&◌, ◌||◌, nat_le, nat_lt, is_some, map, if◌then◌else◌, ℤ, pos, ◌^◌}
+use Rattle.std.proofs.lemmas.Bool.{leb-true, ne_eqb}
 use Rattle.cord_script.specs.declared.kinds.Kind.{Kind}
 use Rattle.cord_script.specs.declared.kinds.Kind.TheVariants as kinds
-use Rattle.cord_script.specs.declared.kinds.Want.{Want}
 use Rattle.cord_script.specs.declared.kinds.Want.TheVariants as wants
 use Rattle.cord_operands.specs.declared.operands.Number.{Number}
 use Rattle.cord_operands.specs.declared.operands.Number.TheVariants.{Numeral, Named}
@@ -17,16 +15,15 @@ use Rattle.cord_operands.specs.declared.operands.Relation.TheVariants.{Less, Equ
 use Rattle.cord_script.specs.declared.table.Known.{Known}
 use Rattle.cord_script.specs.declared.words.Word.{Word}
 use Rattle.cord_script.specs.declared.words.Word.TheVariants.{Plain}
-use Rattle.cord_script.specs.declared.refusals.RefusalKind.{RefusalKind}
-use Rattle.cord_script.specs.declared.refusals.RefusalKind.TheVariants.{BadName, BadNumber, WrongKind, TooMany}
+use Rattle.cord_script.specs.declared.refusals.RefusalKind.TheVariants.{BadName, BadNumber}
 use Rattle.cord_script.specs.Tests.{is_digit, is_letter, is_name, each, are_digits, number_after, begins_numeral, numeral_of, function_word}
 use Rattle.cord_script.specs.Tests.{relation_word}
 use Rattle.cord_script.specs.Forms.{Term}
 use Rattle.cord_script.specs.Forms.Term.{Target, Operand, Value, Literal, FilePath, Applies, Compares, Formats}
-use Rattle.cord_script.specs.Script.{Scope, kind_of, is_among, IsTerm, AreTerms, IsAllowed, AreAllowed}
-use Rattle.cord_script.specs.FirstErrors.{first_of, unless, misfit, first_pair, kind_error, same_kind, operand_error, number_error}
+use Rattle.cord_script.specs.Script.{kind_of, IsTerm, AreTerms}
+use Rattle.cord_script.specs.FirstErrors.{first_of, unless, misfit, first_misfit, kind_error, same_kind, number_error}
 use Rattle.cord_script.specs.FirstErrors.{plain_number_misfit, function_misfit, relation_misfit, name_misfit, number_misfit, text_misfit}
-use Rattle.cord_script.specs.FirstErrors.{path_misfit, assigned_error, word_target_error, word_path_error}
+use Rattle.cord_script.specs.FirstErrors.{path_misfit}
 use Rattle.cord_script.specs.inner.Fields.{want_of}
 use Rattle.cord_script.proofs.Spelled.{both, chosen}
 use Rattle.cord_script.proofs.Unique.{above, head_or}
@@ -88,10 +85,6 @@ same_kinds kinds.Cord = refl
 same_kinds kinds.Number = refl
 same_kinds kinds.Extensible = refl
 
--- a name of the kind
-pub right_kind : (has : Option Kind) (kind : Kind) → has ≡ Some kind → kind_error has kind ≡ None
-right_kind has kind h = ap (λ k. kind_error k kind) h ∙ ap (λ b. unless b WrongKind) (same_kinds kind)
-
 numeral_fits : (p : List ℕ) (v : ℤ) → numeral_of p ≡ Some v → plain_number_misfit p ≡ None
 numeral_fits p v h =
     ap (λ b. if b then unless (is_some (numeral_of p)) BadNumber else unless (is_name p) BadName) (numeral_begins p v h)
@@ -112,7 +105,7 @@ relation_fits Equal = refl
 relation_fits Greater = refl
 
 -- a word that says a term is no misfit
-pub term_right : (w : Word) (t : Term) → IsTerm w t → misfit (want_of t) w ≡ None
+term_right : (w : Word) (t : Term) → IsTerm w t → misfit (want_of t) w ≡ None
 term_right w (Target kind name) h = ap name_misfit h.0 ∙ ap (λ b. unless b BadName) h.1
 term_right w (Operand kind name) h = ap name_misfit h.0 ∙ ap (λ b. unless b BadName) h.1
 term_right w (Value (Numeral v)) h = ap number_misfit h.1 ∙ numeral_fits h.0 v h.2
@@ -123,75 +116,15 @@ term_right w (Applies function) h = ap function_misfit h ∙ function_fits funct
 term_right w (Compares relation) h = ap relation_misfit h ∙ relation_fits relation
 term_right w (Formats text) h = ap text_misfit h
 
-pub term_fits : (w : Word) (t : Term) (scope : Scope) → IsTerm w t → IsAllowed scope t → misfit (want_of t) w ≡ None
-term_fits w t scope h a = term_right w t h
-
 pub numeral_known : (names : List Known) (p : List ℕ) (v : ℤ) → numeral_of p ≡ Some v → number_error names p ≡ None
 numeral_known names p v h = ap (λ b. if b then None else kind_error (kind_of names p) kinds.Number) (numeral_begins p v h)
 
-named_known : (names : List Known) (p : List ℕ) → is_name p ≡ true → kind_of names p ≡ Some kinds.Number → number_error names p ≡ None
-named_known names p h k = ap (λ b. if b then None else kind_error (kind_of names p) kinds.Number) (name_begins p h)
-    ∙ right_kind (kind_of names p) kinds.Number k
-
--- an operand that is allowed has no error
-pub term_known : (w : Word) (t : Term) (scope : Scope) → IsTerm w t → IsAllowed scope t → operand_error scope.names (want_of t) w ≡ None
-term_known w (Target kind name) scope h a = refl
-term_known w (Operand kind name) scope h a = ap (operand_error scope.names (wants.Operand kind)) h.0
-    ∙ right_kind (kind_of scope.names name) kind a
-term_known w (Value (Numeral v)) scope h a = ap (operand_error scope.names wants.Number) h.1 ∙ numeral_known scope.names h.0 v h.2
-term_known w (Value (Named name)) scope h a = ap (operand_error scope.names wants.Number) h.0 ∙ named_known scope.names name h.1 a
-term_known w (Literal text) scope h a = refl
-term_known w (FilePath path) scope h a = refl
-term_known w (Applies function) scope h a = refl
-term_known w (Compares relation) scope h a = refl
-term_known w (Formats text) scope h a = refl
-
-target_fine : (names : List Known) (name : List ℕ) (kind : Kind) → (kind_of names name ≡ Some kind) ⊎
-    ((kind_of names name ≡ None) × (length names < MAX_NAMES)) → assigned_error (kind_of names name) kind (length names) ≡ None
-target_fine names name kind (inl h) = ap (λ k. assigned_error k kind (length names)) h ∙ ap (λ b. unless b WrongKind) (same_kinds kind)
-target_fine names name kind (inr h) = ap (λ k. assigned_error k kind (length names)) h.0
-    ∙ ap (λ b. unless b TooMany) (le-leb (suc (length names)) MAX_NAMES h.1)
-
--- a target that is allowed has no error
-pub term_assigned : (w : Word) (t : Term) (scope : Scope) → IsTerm w t → IsAllowed scope t →
-    word_target_error scope.names (want_of t) w ≡ None
-term_assigned w (Target kind name) scope h a = ap (word_target_error scope.names (wants.Target kind)) h.0
-    ∙ target_fine scope.names name kind a
-term_assigned w (Operand kind name) scope h a = refl
-term_assigned w (Value number) scope h a = refl
-term_assigned w (Literal text) scope h a = refl
-term_assigned w (FilePath path) scope h a = refl
-term_assigned w (Applies function) scope h a = refl
-term_assigned w (Compares relation) scope h a = refl
-term_assigned w (Formats text) scope h a = refl
-
-path_fine : (paths : List (List ℕ)) (path : List ℕ) → (is_among paths path ≡ true) ⊎ (length paths < MAX_PATHS) →
-    unless (is_among paths path || nat_lt (length paths) MAX_PATHS) TooMany ≡ None
-path_fine paths path (inl h) = ap (λ b. unless b TooMany) (either_left (is_among paths path) (nat_lt (length paths) MAX_PATHS) h)
-path_fine paths path (inr h) = ap (λ b. unless b TooMany) (either_right (is_among paths path) (nat_lt (length paths) MAX_PATHS)
-    (le-leb (suc (length paths)) MAX_PATHS h))
-
--- a path that is allowed has no error
-pub term_opened : (w : Word) (t : Term) (scope : Scope) → IsTerm w t → IsAllowed scope t →
-    word_path_error scope.paths (want_of t) w ≡ None
-term_opened w (Target kind name) scope h a = refl
-term_opened w (Operand kind name) scope h a = refl
-term_opened w (Value number) scope h a = refl
-term_opened w (Literal text) scope h a = refl
-term_opened w (FilePath path) scope h a = ap (word_path_error scope.paths wants.Path) h.0 ∙ path_fine scope.paths path a
-term_opened w (Applies function) scope h a = refl
-term_opened w (Compares relation) scope h a = refl
-term_opened w (Formats text) scope h a = refl
-
--- terms of which none has an error
-pub pairs_none : (test : Want → Word → Option RefusalKind) (scope : Scope) (ws : List Word) (ts : List Term) →
-    ((w : Word) (t : Term) → IsTerm w t → IsAllowed scope t → test (want_of t) w ≡ None) → AreTerms ws ts → AreAllowed scope ts →
-    first_pair test (map want_of ts) ws ≡ None
-pairs_none test scope [] [] f h a = refl
-pairs_none test scope [] (t ∷ ts) f h a = absurd h
-pairs_none test scope (w ∷ ws) [] f h a = absurd h
-pairs_none test scope (w ∷ ws) (t ∷ ts) f h a = ap (λ k. first_of k (first_pair test (map want_of ts) ws)) (f w t h.0 a.0)
-    ∙ pairs_none test scope ws ts f h.1 a.1
+-- words that say terms are no misfits
+pub words_fit : (ws : List Word) (ts : List Term) → AreTerms ws ts → first_misfit (map want_of ts) ws ≡ None
+words_fit [] [] h = refl
+words_fit [] (t ∷ ts) h = absurd h
+words_fit (w ∷ ws) [] h = absurd h
+words_fit (w ∷ ws) (t ∷ ts) h = ap (λ k. first_of k (first_misfit (map want_of ts) ws)) (term_right w t h.0) ∙ words_fit ws ts h.1
 
 -- as many words as terms
 pub terms_count : (ws : List Word) (ts : List Term) → AreTerms ws ts → length ws ≡ length ts

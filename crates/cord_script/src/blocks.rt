@@ -1,5 +1,5 @@
 // The open blocks.
-ghost use Rattle.std.specs.Prelude.{◌≡◌, ◌∷◌, [], map, IfErr, OnOk, MatchOption};
+ghost use Rattle.std.specs.Prelude.{◌≡◌, ◌∷◌, [], map, OnOk, MatchOption};
 ghost use Rattle.cord_script.specs.Script.{blocks_after, turned};
 ghost use Rattle.cord_script.specs.FirstErrors.{block_error, else_error};
 ghost use Rattle.cord_script.specs.inner.ContextViews.{block_of, IsInnermostOpen};
@@ -7,6 +7,7 @@ ghost use Rattle.cord_script.specs.inner.Verbal.{control_effect, verb_effect};
 
 use crate::verbs::{Control, FixedVerb, Verb};
 use crate::{MAX_BLOCKS, Refusal, RefusalKind};
+use std::alloc::AllocError;
 use std::collections::VecDeque;
 
 /// An open block, with the line of its `repeat` or `if`.
@@ -52,18 +53,16 @@ pub fn block_error(verb: Verb, blocks: &VecDeque<Open>) -> Option<RefusalKind>
 }
 
 // Opens a block inside the others.
-fn add_block(blocks: &mut VecDeque<Open>, block: Open) -> Result<(), RefusalKind>
+fn add_block(blocks: &mut VecDeque<Open>, block: Open) -> Result<(), AllocError>
     ensures blocks { OnOk result (map block_of blocks.new.items ≡ block_of block ∷ map block_of blocks.old.items) }
-    ensures first_error { IfErr result (λ kind. kind ≡ RefusalKind.NoMemory) }
 {
     blocks.push_front(block)?;
     Ok(())
 }
 
 // Turns the innermost `if` to its `else`.
-fn turn(blocks: &mut VecDeque<Open>) -> Result<(), RefusalKind>
+fn turn(blocks: &mut VecDeque<Open>) -> Result<(), AllocError>
     ensures blocks { OnOk result (map block_of blocks.new.items ≡ turned (map block_of blocks.old.items)) }
-    ensures first_error { IfErr result (λ kind. kind ≡ RefusalKind.NoMemory) }
 {
     match blocks.pop_front() {
         None => Ok(()),
@@ -73,10 +72,9 @@ fn turn(blocks: &mut VecDeque<Open>) -> Result<(), RefusalKind>
 }
 
 // The open blocks after a statement at a line that leads the run.
-fn set_control(control: Control, line: u32, blocks: &mut VecDeque<Open>) -> Result<(), RefusalKind>
+fn set_control(control: Control, line: u32, blocks: &mut VecDeque<Open>) -> Result<(), AllocError>
     ensures blocks { OnOk result (map block_of blocks.new.items
         ≡ blocks_after (control_effect control) line (map block_of blocks.old.items)) }
-    ensures first_error { IfErr result (λ kind. kind ≡ RefusalKind.NoMemory) }
 {
     match control {
         Control::Repeat => add_block(blocks, Open::Repeat(line)),
@@ -90,10 +88,9 @@ fn set_control(control: Control, line: u32, blocks: &mut VecDeque<Open>) -> Resu
 }
 
 /// The open blocks after a statement at a line.
-pub fn set_blocks(verb: Verb, line: u32, blocks: &mut VecDeque<Open>) -> Result<(), RefusalKind>
+pub fn set_blocks(verb: Verb, line: u32, blocks: &mut VecDeque<Open>) -> Result<(), AllocError>
     ensures blocks { OnOk result (map block_of blocks.new.items
         ≡ blocks_after (verb_effect verb) line (map block_of blocks.old.items)) }
-    ensures first_error { IfErr result (λ kind. kind ≡ RefusalKind.NoMemory) }
 {
     match verb {
         Verb::Fixed(FixedVerb::Control(control)) => set_control(control, line, blocks),

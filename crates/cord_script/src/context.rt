@@ -1,5 +1,5 @@
 // What the lines before a line leave, and what a line adds to it.
-ghost use Rattle.std.specs.Prelude.{◌≡◌, true, ◌<◌, nat_lt, IfErr, OnOk, length};
+ghost use Rattle.std.specs.Prelude.{◌≡◌, true, ◌<◌, nat_lt, OnOk, length};
 ghost use Rattle.cord_script.specs.Script.{start, is_among, with_path};
 ghost use Rattle.cord_script.specs.inner.ContextViews.{scope_of};
 ghost use Rattle.cord_script.specs.inner.LineReading.{name_added, left_after};
@@ -9,8 +9,8 @@ use crate::added::Added;
 use crate::blocks::{Open, set_blocks};
 use crate::table::Table;
 use crate::verbs::Verb;
-use crate::{MAX_PATHS, Path, RefusalKind};
-use std::alloc::Global;
+use crate::{MAX_PATHS, Path};
+use std::alloc::{AllocError, Global};
 use std::collections::VecDeque;
 
 /// What the lines before a line leave.
@@ -37,9 +37,8 @@ fn is_among(paths: &[Path], path: &[u8]) -> bool
 }
 
 // Adds a path that is new.
-fn add_path(paths: &mut Vec<Path>, path: Path) -> Result<(), RefusalKind>
+fn add_path(paths: &mut Vec<Path>, path: Path) -> Result<(), AllocError>
     ensures paths { OnOk result (paths.new.items ≡ with_path paths.old.items path) }
-    ensures first_error { IfErr result (λ kind. kind ≡ RefusalKind.NoMemory) }
 {
     if is_among(paths, path.as_str().as_bytes()) {
         return Ok(());
@@ -77,10 +76,9 @@ impl Context {
 
     /// Adds what a statement of the verb leaves at a line, with what its words add.
     #[inline(always)]
-    pub fn leave(&mut self, verb: Verb, line: u32, added: Added) -> Result<(), RefusalKind>
+    pub fn leave(&mut self, verb: Verb, line: u32, added: Added) -> Result<(), AllocError>
         ensures left { OnOk result (scope_of self.new
             ≡ left_after (verb_effect verb) line (name_added added) added.path (scope_of self.old)) }
-        ensures first_error { IfErr result (λ kind. kind ≡ RefusalKind.NoMemory) }
     {
         let Added { name, path } = added;
         if let Some(new) = name {

@@ -20,7 +20,7 @@ use crate::verbs::{FixedVerb, Verb};
 use crate::words::{Word, words_of};
 use crate::{MAX_PARTS, MIN_PARTS, RefusalKind};
 use cord_printf::{Format, FormatError};
-use std::alloc::Global;
+use std::alloc::{AllocError, Global};
 
 const TARGET: Want = Want::Target(Kind::Cord);
 
@@ -69,9 +69,8 @@ fn joined_error(context: &Context, words: &[Word]) -> Result<(), RefusalKind>
 }
 
 // What is wanted of all words after `sprintf`, by the format among them; none where there is none.
-fn printed_wants(alloc: Global, words: &[Word]) -> Result<Option<Vec<Want>>, RefusalKind>
+fn printed_wants(alloc: Global, words: &[Word]) -> Result<Option<Vec<Want>>, AllocError>
     ensures wants { IfOk result (λ wants. HasFormat Printed words.now (option_map (λ w. w.items) wants)) }
-    ensures first_error { IfErr result (λ kind. kind ≡ RefusalKind.NoMemory) }
 {
     let [_, format, ..] = words else {
         return Ok(None);
@@ -82,7 +81,7 @@ fn printed_wants(alloc: Global, words: &[Word]) -> Result<Option<Vec<Want>>, Ref
     let format = match Format::parse(alloc, text.as_slice()) {
         Ok(format) => format,
         Err(FormatError::BadFormat(_)) => return Ok(None),
-        Err(FormatError::NoMemory) => return Err(RefusalKind::NoMemory),
+        Err(FormatError::NoMemory) => return Err(AllocError),
     };
     Ok(Some(wants_of_pieces(alloc, format.pieces())?))
 }

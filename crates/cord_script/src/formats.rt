@@ -1,11 +1,10 @@
 // What the conversions of a format want.
-ghost use Rattle.std.specs.Prelude.{◌≡◌, IfOk, IfErr};
+ghost use Rattle.std.specs.Prelude.{◌≡◌, IfOk};
 ghost use Rattle.cord_script.specs.Formats.{want_of_kind, wants_of_pieces};
 
-use crate::RefusalKind;
 use crate::kinds::{Kind, Want};
 use cord_printf::{ArgKind, Piece};
-use std::alloc::Global;
+use std::alloc::{AllocError, Global};
 
 // What an argument of a format has to be.
 fn want_of_kind(kind: ArgKind) -> Want
@@ -18,9 +17,8 @@ fn want_of_kind(kind: ArgKind) -> Want
 }
 
 /// What the conversions of a format want.
-pub fn wants_of_pieces(alloc: Global, pieces: &[Piece]) -> Result<Vec<Want>, RefusalKind>
+pub fn wants_of_pieces(alloc: Global, pieces: &[Piece]) -> Result<Vec<Want>, AllocError>
     ensures wants { IfOk result (λ wants. wants.items ≡ wants_of_pieces pieces.now) }
-    ensures first_error { IfErr result (λ kind. kind ≡ RefusalKind.NoMemory) }
 {
     let mut wants = Vec::new(alloc);
     for piece in pieces {

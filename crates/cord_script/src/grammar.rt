@@ -4,7 +4,8 @@ ghost use Rattle.cord_script.specs.Forms.{form_of};
 ghost use Rattle.cord_script.specs.Forms.Shape.{Words};
 ghost use Rattle.cord_script.specs.inner.Verbal.{verb_word, fixed_word, fixed_effect, find_verb, verbs_of};
 
-use crate::kinds::{Kind, Want};
+use crate::kinds::Kind::{self, Cord, Extensible};
+use crate::kinds::Want::{self, Function, Number, Operand, Path, Relation, Target, Text};
 use crate::verbs::{
     Composition, Computation, Control, Derivation, FixedVerb, Growth, Look, Origin, Search, Verb,
 };
@@ -129,93 +130,22 @@ pub fn verb_of(word: &[u8]) -> Option<Verb>
     }
 }
 
-const LET: [Want; 2] = [Want::Target(Kind::Cord), Want::Text];
-
-const PUT: [Want; 1] = [Want::Operand(Kind::Cord)];
-
-const FILE: [Want; 2] = [Want::Target(Kind::Cord), Want::Path];
-
-const CHARS: [Want; 3] = [Want::Target(Kind::Cord), Want::Number, Want::Number];
-
-const NUL: [Want; 2] = [Want::Target(Kind::Cord), Want::Number];
-
-const FN: [Want; 3] = [Want::Target(Kind::Cord), Want::Function, Want::Number];
-
-const CAT: [Want; 3] = [
-    Want::Target(Kind::Cord),
-    Want::Operand(Kind::Cord),
-    Want::Operand(Kind::Cord),
-];
-
-const CATC: [Want; 3] = [
-    Want::Target(Kind::Cord),
-    Want::Operand(Kind::Cord),
-    Want::Number,
-];
-
-const SUBSTR: [Want; 4] = [
-    Want::Target(Kind::Cord),
-    Want::Operand(Kind::Cord),
-    Want::Number,
-    Want::Number,
-];
-
-const BALANCE: [Want; 2] = [Want::Target(Kind::Cord), Want::Operand(Kind::Cord)];
-
-const ECTOCORD: [Want; 2] = [Want::Target(Kind::Cord), Want::Operand(Kind::Extensible)];
-
-const LEN: [Want; 2] = [Want::Target(Kind::Number), Want::Operand(Kind::Cord)];
-
-const FETCH: [Want; 3] = [
-    Want::Target(Kind::Number),
-    Want::Operand(Kind::Cord),
-    Want::Number,
-];
-
-const CMP: [Want; 3] = [
-    Want::Target(Kind::Number),
-    Want::Operand(Kind::Cord),
-    Want::Operand(Kind::Cord),
-];
+const SUBSTR: [Want; 4] = [Target(Cord), Operand(Cord), Number, Number];
 
 const NCMP: [Want; 6] = [
-    Want::Target(Kind::Number),
-    Want::Operand(Kind::Cord),
-    Want::Number,
-    Want::Operand(Kind::Cord),
-    Want::Number,
-    Want::Number,
+    Target(Kind::Number),
+    Operand(Cord),
+    Number,
+    Operand(Cord),
+    Number,
+    Number,
 ];
 
-const STR: [Want; 4] = [
-    Want::Target(Kind::Number),
-    Want::Operand(Kind::Cord),
-    Want::Number,
-    Want::Operand(Kind::Cord),
-];
+const STR: [Want; 4] = [Target(Kind::Number), Operand(Cord), Number, Operand(Cord)];
 
-const CHR: [Want; 4] = [
-    Want::Target(Kind::Number),
-    Want::Operand(Kind::Cord),
-    Want::Number,
-    Want::Number,
-];
+const CHR: [Want; 4] = [Target(Kind::Number), Operand(Cord), Number, Number];
 
-const SET: [Want; 2] = [Want::Target(Kind::Number), Want::Number];
-
-const ADD: [Want; 3] = [Want::Target(Kind::Number), Want::Number, Want::Number];
-
-const ECINIT: [Want; 1] = [Want::Target(Kind::Extensible)];
-
-const ECPUT: [Want; 2] = [Want::Operand(Kind::Extensible), Want::Number];
-
-const ECCAT: [Want; 2] = [Want::Operand(Kind::Extensible), Want::Operand(Kind::Cord)];
-
-const ECSTR: [Want; 2] = [Want::Operand(Kind::Extensible), Want::Text];
-
-const REPEAT: [Want; 1] = [Want::Number];
-
-const IF: [Want; 3] = [Want::Number, Want::Relation, Want::Number];
+const ADD: [Want; 3] = [Target(Kind::Number), Number, Number];
 
 /// What the words after a statement's word have to be, where their number is fixed.
 #[tactic(auto, unfolding(crate::specs::Forms::form_of))]
@@ -225,33 +155,33 @@ pub fn wants_of(verb: FixedVerb) -> &'static [Want]
         ≡ Some (record { shape = Words result.now; effect = fixed_effect verb }) }
 {
     match verb {
-        FixedVerb::Origin(Origin::Let) => &LET,
-        FixedVerb::Put => &PUT,
+        FixedVerb::Origin(Origin::Let) => &[Target(Cord), Text],
+        FixedVerb::Put => &[Operand(Cord)],
         FixedVerb::Origin(Origin::File)
         | FixedVerb::Origin(Origin::Eager)
-        | FixedVerb::Origin(Origin::Lazy) => &FILE,
-        FixedVerb::Composition(Composition::Chars) => &CHARS,
-        FixedVerb::Composition(Composition::Nul) => &NUL,
-        FixedVerb::Origin(Origin::FromFn) => &FN,
-        FixedVerb::Composition(Composition::Cat) => &CAT,
-        FixedVerb::Composition(Composition::Catc) => &CATC,
+        | FixedVerb::Origin(Origin::Lazy) => &[Target(Cord), Path],
+        FixedVerb::Composition(Composition::Chars) => &[Target(Cord), Number, Number],
+        FixedVerb::Composition(Composition::Nul) => &[Target(Cord), Number],
+        FixedVerb::Origin(Origin::FromFn) => &[Target(Cord), Function, Number],
+        FixedVerb::Composition(Composition::Cat) => &[Target(Cord), Operand(Cord), Operand(Cord)],
+        FixedVerb::Composition(Composition::Catc) => &[Target(Cord), Operand(Cord), Number],
         FixedVerb::Composition(Composition::Substr) => &SUBSTR,
-        FixedVerb::Derivation(Derivation::Balance) => &BALANCE,
-        FixedVerb::Derivation(Derivation::EcToCord) => &ECTOCORD,
-        FixedVerb::Computation(Computation::Len) => &LEN,
-        FixedVerb::Look(Look::Fetch) => &FETCH,
-        FixedVerb::Look(Look::Cmp) => &CMP,
+        FixedVerb::Derivation(Derivation::Balance) => &[Target(Cord), Operand(Cord)],
+        FixedVerb::Derivation(Derivation::EcToCord) => &[Target(Cord), Operand(Extensible)],
+        FixedVerb::Computation(Computation::Len) => &[Target(Kind::Number), Operand(Cord)],
+        FixedVerb::Look(Look::Fetch) => &[Target(Kind::Number), Operand(Cord), Number],
+        FixedVerb::Look(Look::Cmp) => &[Target(Kind::Number), Operand(Cord), Operand(Cord)],
         FixedVerb::Look(Look::Ncmp) => &NCMP,
         FixedVerb::Search(Search::Str) => &STR,
         FixedVerb::Search(Search::Chr) | FixedVerb::Search(Search::Rchr) => &CHR,
-        FixedVerb::Computation(Computation::Assign) => &SET,
+        FixedVerb::Computation(Computation::Assign) => &[Target(Kind::Number), Number],
         FixedVerb::Computation(Computation::Add) | FixedVerb::Computation(Computation::Sub) => &ADD,
-        FixedVerb::Growth(Growth::EcInit) => &ECINIT,
-        FixedVerb::Growth(Growth::EcPut) => &ECPUT,
-        FixedVerb::Growth(Growth::EcCat) => &ECCAT,
-        FixedVerb::Growth(Growth::EcStr) => &ECSTR,
-        FixedVerb::Control(Control::Repeat) => &REPEAT,
-        FixedVerb::Control(Control::If) => &IF,
+        FixedVerb::Growth(Growth::EcInit) => &[Target(Extensible)],
+        FixedVerb::Growth(Growth::EcPut) => &[Operand(Extensible), Number],
+        FixedVerb::Growth(Growth::EcCat) => &[Operand(Extensible), Operand(Cord)],
+        FixedVerb::Growth(Growth::EcStr) => &[Operand(Extensible), Text],
+        FixedVerb::Control(Control::Repeat) => &[Number],
+        FixedVerb::Control(Control::If) => &[Number, Relation, Number],
         FixedVerb::Control(Control::Else) | FixedVerb::Control(Control::End) => &[],
     }
 }

@@ -1,5 +1,5 @@
 // The statement of a line, and what it leaves.
-ghost use Rattle.std.specs.Prelude.{◌≡◌, true, false, IfSome, Ok, IfOk, IfErr};
+ghost use Rattle.std.specs.Prelude.{◌≡◌, true, false, IfSome, Ok, IfOk};
 ghost use Rattle.cord_script.specs.Words.{HasWord};
 ghost use Rattle.cord_script.specs.declared.words.Word.TheVariants.{Plain};
 ghost use Rattle.cord_script.specs.inner.ContextViews.{scope_of};
@@ -7,6 +7,7 @@ ghost use Rattle.cord_script.specs.inner.LineReading.{IsFresh, SaysLine};
 ghost use Rattle.cord_script.specs.inner.Steps.{AddsStatement};
 ghost use Rattle.cord_script.specs.inner.Verbal.{verb_word};
 
+use crate::Statement;
 use crate::blocks::block_error;
 use crate::context::Context;
 use crate::grammar::verb_of;
@@ -15,8 +16,7 @@ use crate::remaining_words::LineWords;
 use crate::statements::statement_of;
 use crate::verbs::Verb;
 use crate::words::plain_word;
-use crate::{RefusalKind, Statement};
-use std::alloc::Global;
+use std::alloc::{AllocError, Global};
 
 // The verb of a line's first word, and what follows that word.
 #[inline(always)]
@@ -60,12 +60,11 @@ pub fn take_statement(
     line: &[u8],
     context: &mut Context,
     statements: &mut Vec<Statement>,
-) -> Result<bool, RefusalKind>
+) -> Result<bool, AllocError>
     ensures adds { IfOk result (λ taken. taken ≡ true → AddsStatement number line.now (scope_of context.old)
         (scope_of context.new) statements.old.items statements.new.items) }
     ensures keeps { IfOk result (λ taken. taken ≡ false → (scope_of context.new ≡ scope_of context.old) ×
         (statements.new.items ≡ statements.old.items)) }
-    ensures first_error { IfErr result (λ kind. kind ≡ RefusalKind.NoMemory) }
 {
     let Some((verb, rest)) = prefix_verb(line) else {
         return Ok(false);

@@ -36,30 +36,28 @@ macro_rules! statement {
     }};
 }
 
+// The statement of a verb of a family, of the fields that its variant asks for.
+macro_rules! family {
+    ($family:ident, $verb:ident, $line:ident; $($variant:ident($($field:ident),+) = $fields:expr,)*) => {
+        match $verb {
+            $($family::$variant => statement!($line, $variant, ($($field),+) = $fields),)*
+        }
+    };
+}
+
 // A statement that makes a cord of no other name's value.
 #[inline(always)]
 fn origin_of(verb: Origin, line: u32, words: &mut LineWords) -> Result<Statement, NoStatement>
     requires { IsFresh words.old }
     ensures { IfOk result (IsStatementBuilt (Verb.Fixed (FixedVerb.Origin verb)) line words.old words.new) }
 {
-    match verb {
-        Origin::Let => statement!(
-            line,
-            Let,
-            (target, text) = paired(words.target(Kind::Cord)?, words.text())
-        ),
-        Origin::File => statement!(line, File, (target, path) = target_and_path(words)),
-        Origin::Eager => statement!(line, Eager, (target, path) = target_and_path(words)),
-        Origin::Lazy => statement!(line, Lazy, (target, path) = target_and_path(words)),
-        Origin::FromFn => statement!(
-            line,
-            FromFn,
-            (target, function, count) = paired(
-                paired(words.target(Kind::Cord)?, words.function())?,
-                words.number()
-            )
-        ),
-    }
+    family!(Origin, verb, line;
+        Let(target, text) = paired(words.target(Kind::Cord)?, words.text()),
+        File(target, path) = target_and_path(words),
+        Eager(target, path) = target_and_path(words),
+        Lazy(target, path) = target_and_path(words),
+        FromFn(target, function, count) = paired(paired(words.target(Kind::Cord)?, words.function())?, words.number()),
+    )
 }
 
 // A statement that makes a cord that an expression gives.
@@ -72,33 +70,13 @@ fn composition_of(
     requires { IsFresh words.old }
     ensures { IfOk result (IsStatementBuilt (Verb.Fixed (FixedVerb.Composition verb)) line words.old words.new) }
 {
-    match verb {
-        Composition::Chars => statement!(
-            line,
-            Chars,
-            (target, byte, count) = target_and_numbers(Kind::Cord, words)
-        ),
-        Composition::Nul => statement!(
-            line,
-            Nul,
-            (target, count) = target_and_number(Kind::Cord, words)
-        ),
-        Composition::Cat => statement!(
-            line,
-            Cat,
-            (target, left, right) = target_and_operands(Kind::Cord, words)
-        ),
-        Composition::Catc => statement!(
-            line,
-            Catc,
-            (target, operand, byte) = target_operand_number(Kind::Cord, words)
-        ),
-        Composition::Substr => statement!(
-            line,
-            Substr,
-            (target, operand, start, count) = target_operand_numbers(Kind::Cord, words)
-        ),
-    }
+    family!(Composition, verb, line;
+        Chars(target, byte, count) = target_and_numbers(Kind::Cord, words),
+        Nul(target, count) = target_and_number(Kind::Cord, words),
+        Cat(target, left, right) = target_and_operands(Kind::Cord, words),
+        Catc(target, operand, byte) = target_operand_number(Kind::Cord, words),
+        Substr(target, operand, start, count) = target_operand_numbers(Kind::Cord, words),
+    )
 }
 
 // A statement that makes a cord anew of a cord or an extensible cord.
@@ -111,18 +89,10 @@ fn derivation_of(
     requires { IsFresh words.old }
     ensures { IfOk result (IsStatementBuilt (Verb.Fixed (FixedVerb.Derivation verb)) line words.old words.new) }
 {
-    match verb {
-        Derivation::Balance => statement!(
-            line,
-            Balance,
-            (target, operand) = target_and_operand(Kind::Cord, Kind::Cord, words)
-        ),
-        Derivation::EcToCord => statement!(
-            line,
-            EcToCord,
-            (target, extensible) = target_and_operand(Kind::Cord, Kind::Extensible, words)
-        ),
-    }
+    family!(Derivation, verb, line;
+        Balance(target, operand) = target_and_operand(Kind::Cord, Kind::Cord, words),
+        EcToCord(target, extensible) = target_and_operand(Kind::Cord, Kind::Extensible, words),
+    )
 }
 
 // A statement that computes a number, which needs no byte.
@@ -135,28 +105,12 @@ fn computation_of(
     requires { IsFresh words.old }
     ensures { IfOk result (IsStatementBuilt (Verb.Fixed (FixedVerb.Computation verb)) line words.old words.new) }
 {
-    match verb {
-        Computation::Assign => statement!(
-            line,
-            Assign,
-            (target, value) = target_and_number(Kind::Number, words)
-        ),
-        Computation::Len => statement!(
-            line,
-            Len,
-            (target, operand) = target_and_operand(Kind::Number, Kind::Cord, words)
-        ),
-        Computation::Add => statement!(
-            line,
-            Add,
-            (target, left, right) = target_and_numbers(Kind::Number, words)
-        ),
-        Computation::Sub => statement!(
-            line,
-            Sub,
-            (target, left, right) = target_and_numbers(Kind::Number, words)
-        ),
-    }
+    family!(Computation, verb, line;
+        Assign(target, value) = target_and_number(Kind::Number, words),
+        Len(target, operand) = target_and_operand(Kind::Number, Kind::Cord, words),
+        Add(target, left, right) = target_and_numbers(Kind::Number, words),
+        Sub(target, left, right) = target_and_numbers(Kind::Number, words),
+    )
 }
 
 // A statement that looks at bytes.
@@ -165,29 +119,14 @@ fn look_of(verb: Look, line: u32, words: &mut LineWords) -> Result<Statement, No
     requires { IsFresh words.old }
     ensures { IfOk result (IsStatementBuilt (Verb.Fixed (FixedVerb.Look verb)) line words.old words.new) }
 {
-    match verb {
-        Look::Fetch => statement!(
-            line,
-            Fetch,
-            (target, operand, index) = target_operand_number(Kind::Number, words)
+    family!(Look, verb, line;
+        Fetch(target, operand, index) = target_operand_number(Kind::Number, words),
+        Cmp(target, left, right) = target_and_operands(Kind::Number, words),
+        Ncmp(target, left, left_start, right, right_start, count) = paired(
+            paired(target_operand_shared_operand(Kind::Number, words)?, words.shared_number())?,
+            words.shared_number()
         ),
-        Look::Cmp => statement!(
-            line,
-            Cmp,
-            (target, left, right) = target_and_operands(Kind::Number, words)
-        ),
-        Look::Ncmp => statement!(
-            line,
-            Ncmp,
-            (target, left, left_start, right, right_start, count) = paired(
-                paired(
-                    target_operand_shared_operand(Kind::Number, words)?,
-                    words.shared_number()
-                )?,
-                words.shared_number()
-            )
-        ),
-    }
+    )
 }
 
 // A statement that searches a cord.
@@ -196,23 +135,11 @@ fn search_of(verb: Search, line: u32, words: &mut LineWords) -> Result<Statement
     requires { IsFresh words.old }
     ensures { IfOk result (IsStatementBuilt (Verb.Fixed (FixedVerb.Search verb)) line words.old words.new) }
 {
-    match verb {
-        Search::Str => statement!(
-            line,
-            Str,
-            (target, operand, start, pattern) = target_operand_number_operand(Kind::Number, words)
-        ),
-        Search::Chr => statement!(
-            line,
-            Chr,
-            (target, operand, start, byte) = target_operand_numbers(Kind::Number, words)
-        ),
-        Search::Rchr => statement!(
-            line,
-            Rchr,
-            (target, operand, start, byte) = target_operand_numbers(Kind::Number, words)
-        ),
-    }
+    family!(Search, verb, line;
+        Str(target, operand, start, pattern) = target_operand_number_operand(Kind::Number, words),
+        Chr(target, operand, start, byte) = target_operand_numbers(Kind::Number, words),
+        Rchr(target, operand, start, byte) = target_operand_numbers(Kind::Number, words),
+    )
 }
 
 // A statement that makes an extensible cord, or one that grows.
@@ -221,27 +148,12 @@ fn growth_of(verb: Growth, line: u32, words: &mut LineWords) -> Result<Statement
     requires { IsFresh words.old }
     ensures { IfOk result (IsStatementBuilt (Verb.Fixed (FixedVerb.Growth verb)) line words.old words.new) }
 {
-    match verb {
-        Growth::EcInit => statement!(line, EcInit, (target) = words.target(Kind::Extensible)),
-        Growth::EcPut => statement!(
-            line,
-            EcPut,
-            (extensible, byte) = paired(words.operand(Kind::Extensible)?, words.number())
-        ),
-        Growth::EcCat => statement!(
-            line,
-            EcCat,
-            (extensible, operand) = paired(
-                words.operand(Kind::Extensible)?,
-                words.operand(Kind::Cord)
-            )
-        ),
-        Growth::EcStr => statement!(
-            line,
-            EcStr,
-            (extensible, text) = paired(words.operand(Kind::Extensible)?, words.text())
-        ),
-    }
+    family!(Growth, verb, line;
+        EcInit(target) = words.target(Kind::Extensible),
+        EcPut(extensible, byte) = paired(words.operand(Kind::Extensible)?, words.number()),
+        EcCat(extensible, operand) = paired(words.operand(Kind::Extensible)?, words.operand(Kind::Cord)),
+        EcStr(extensible, text) = paired(words.operand(Kind::Extensible)?, words.text()),
+    )
 }
 
 // A statement that says which lines run next.

@@ -1,5 +1,5 @@
 // The names that the lines before assign.
-ghost use Rattle.std.specs.Prelude.{◌≡◌, ◌≢◌, ◌<◌, [], ◌∷◌, ◌++◌, true, Some, None, length, IfErr, IfOk, IfSome};
+ghost use Rattle.std.specs.Prelude.{◌≡◌, ◌≢◌, ◌<◌, [], ◌∷◌, ◌++◌, true, Some, None, length, IfOk, IfSome};
 ghost use Rattle.std.specs.Prelude.{MatchOption, OnOk};
 ghost use Rattle.cord_script.specs.Tests.{is_name};
 ghost use Rattle.cord_script.specs.Script.{kind_of, with_name};
@@ -9,8 +9,8 @@ ghost use Rattle.cord_operands.specs.Keys.{key_of};
 use crate::kinds::Kind;
 use crate::names::{is_name, is_same};
 use crate::no_statement::NoStatement;
-use crate::{MAX_NAMES, Name, RefusalKind, bucket_of, key_of};
-use std::alloc::Global;
+use crate::{MAX_NAMES, Name, bucket_of, key_of};
+use std::alloc::{AllocError, Global};
 use std::marker::Model;
 
 /// The number of slots that guess the place of a name: few, since they are cleared for the shortest script too.
@@ -185,10 +185,9 @@ impl Table {
     }
 
     /// Adds a name with its kind, if it is new.
-    pub fn assign(&mut self, known: Known) -> Result<(), RefusalKind>
+    pub fn assign(&mut self, known: Known) -> Result<(), AllocError>
         requires { is_name known.name ≡ true }
         ensures names { OnOk result (self.new ≡ with_name self.old known.name known.kind) }
-        ensures first_error { IfErr result (λ e. e ≡ RefusalKind.NoMemory) }
     {
         if self.kind_of(known.name.as_slice()).is_some() {
             return Ok(());
@@ -197,11 +196,10 @@ impl Table {
     }
 
     // Adds a name that is new.
-    fn push(&mut self, known: Known) -> Result<(), RefusalKind>
+    fn push(&mut self, known: Known) -> Result<(), AllocError>
         requires new { kind_of self.old known.name ≡ None }
         requires is_name { is_name known.name ≡ true }
         ensures names { OnOk result (self.new ≡ self.old ++ known ∷ []) }
-        ensures first_error { IfErr result (λ e. e ≡ RefusalKind.NoMemory) }
     {
         let place = self.known.len();
         let key = known.name.key();
