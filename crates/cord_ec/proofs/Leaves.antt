@@ -96,10 +96,10 @@ pub cord_added : (old so_far x longer : List Part) (b : List ℕ) → b ≡ [] �
     PartsFrom (old ++ x) (longer ++ leaf_parts b)
 cord_added old so_far x longer b none k j = flushed (old ++ x) longer b none (PartsFrom-join old x so_far x longer k (PartsFrom-self x) j)
 
--- no bytes after a cord
-pub nothing_added : (ps : List Part) (b : List ℕ) → length b ≡ 0 → PartsFrom (ps ++ leaf_parts b) ps
-nothing_added ps [] h = subst (λ (old : List Part). PartsFrom old ps) (sym (append-nil ps)) (PartsFrom-self ps)
-nothing_added ps (x ∷ b) h = absurd (omega (arith, h))
+-- no bytes are no part
+pub no_part : (b : List ℕ) → length b ≡ 0 → [] ≡ leaf_parts b
+no_part [] h = refl
+no_part (x ∷ b) h = absurd (omega (arith, h))
 
 -- bytes that go into leaves one after another: all of these are full, as long as some bytes are left
 pub record IsGathering (start longer : List Part) (all rest : ℕ) : Type 0 where

@@ -12,7 +12,7 @@ ghost use Rattle.cord_ec.specs.Grown.{bytes_of_cells, IsGrownBy, IsGrownByCord, 
 use cord_core::Cord;
 use cord_io::{CordError, MAX_LEN};
 use cord_raw::RawBuf;
-use std::alloc::Global;
+use std::alloc::{AllocError, Global};
 use std::marker::Model;
 
 /// A text of at most `MAX_LEN` bytes that grows at its end.
@@ -189,27 +189,21 @@ fn room_after(cord: &Cord) -> u64
 // The text of a cord and of the buffer after it, as one cord: the buffer's bytes, where it has any, are a leaf.
 #[cold]
 #[inline(never)]
-fn whole(alloc: Global, cord: &Cord, buffer: &RawBuf) -> Result<Cord, CordError>
+fn whole(alloc: Global, cord: &Cord, buffer: &RawBuf) -> Result<Cord, AllocError>
     requires within_limit { text_len cord.now + length buffer.now ≤ MAX_LEN }
     ensures text { IfOk result (λ c. text c ≡ text cord.now ++ map known buffer.now) }
     ensures len { IfOk result (λ c. text_len c ≡ text_len cord.now + length buffer.now) }
     ensures parts_from { IfOk result (λ c. PartsFrom (parts_of cord.now ++ leaf_parts buffer.now) (parts_of c)) }
     ensures sound { IfOk result IsCord }
-    ensures refused { IsOkUnless result CordError.NoMemory }
 {
-    if buffer.len() == 0 {
-        let same = cord.share(alloc)?;
-        return Ok(same);
-    }
     let leaf = leaf_of(alloc, buffer)?;
     let longer = cat_within(alloc, cord, &leaf)?;
     Ok(longer)
 }
 
 // A buffer of one byte.
-fn buffer_of(alloc: Global, byte: u8) -> Result<RawBuf, CordError>
+fn buffer_of(alloc: Global, byte: u8) -> Result<RawBuf, AllocError>
     ensures bytes { IfOk result (λ made. made ≡ byte ∷ []) }
-    ensures refused { IsOkUnless result CordError.NoMemory }
 {
     let mut made = RawBuf::new(alloc)?;
     made.push(alloc, byte)?;
@@ -217,7 +211,7 @@ fn buffer_of(alloc: Global, byte: u8) -> Result<RawBuf, CordError>
 }
 
 // Puts the bytes of the buffer, where it has any, into the cord, and empties it.
-fn flush(alloc: Global, cord: &mut Cord, buffer: &mut RawBuf) -> Result<(), CordError>
+fn flush(alloc: Global, cord: &mut Cord, buffer: &mut RawBuf) -> Result<(), AllocError>
     requires within_limit { text_len cord.old + length buffer.old ≤ MAX_LEN }
     ensures text { IfOk result (λ _. text cord.new ≡ text cord.old ++ map known buffer.old) }
     ensures len { IfOk result (λ _. text_len cord.new ≡ text_len cord.old + length buffer.old) }
@@ -225,7 +219,6 @@ fn flush(alloc: Global, cord: &mut Cord, buffer: &mut RawBuf) -> Result<(), Cord
     ensures emptied { IfOk result (λ _. buffer.new ≡ []) }
     ensures cord_unchanged { IsErr result → cord.new ≡ cord.old }
     ensures buffer_unchanged { IsErr result → buffer.new ≡ buffer.old }
-    ensures refused { IsOkUnless result CordError.NoMemory }
 {
     let longer = whole(alloc, cord, buffer)?;
     *cord = longer;
@@ -242,7 +235,7 @@ fn begin_next(
     cord: &mut Cord,
     buffer: &mut RawBuf,
     byte: u8,
-) -> Result<(), CordError>
+) -> Result<(), AllocError>
     requires within_limit { text_len cord.old + length buffer.old ≤ MAX_LEN }
     ensures text { IfOk result (λ _. text cord.new ≡ text cord.old ++ map known buffer.old) }
     ensures len { IfOk result (λ _. text_len cord.new ≡ text_len cord.old + length buffer.old) }
@@ -250,7 +243,6 @@ fn begin_next(
     ensures begun { IfOk result (λ _. buffer.new ≡ byte ∷ []) }
     ensures cord_unchanged { IsErr result → cord.new ≡ cord.old }
     ensures buffer_unchanged { IsErr result → buffer.new ≡ buffer.old }
-    ensures refused { IsOkUnless result CordError.NoMemory }
 {
     let next = buffer_of(alloc, byte)?;
     flush(alloc, cord, buffer)?;
@@ -259,42 +251,43 @@ fn begin_next(
 }
 
 // The text of one cord and then of another, which are short enough together.
-fn cat_within(alloc: Global, left: &Cord, right: &Cord) -> Result<Cord, CordError>
+fn cat_within(alloc: Global, left: &Cord, right: &Cord) -> Result<Cord, AllocError>
     requires within_limit { text_len left.now + text_len right.now ≤ MAX_LEN }
     ensures text { IfOk result (λ c. text c ≡ text left.now ++ text right.now) }
     ensures len { IfOk result (λ c. text_len c ≡ text_len left.now + text_len right.now) }
     ensures parts_from { IfOk result (λ c. PartsFrom (parts_of left.now ++ parts_of right.now) (parts_of c)) }
     ensures sound { IfOk result IsCord }
-    ensures refused { IsOkUnless result CordError.NoMemory }
 {
-    Cord::cat(alloc, left, right)
+    Cord::cat(alloc, left, right).map_err(|_| AllocError)
 }
 
-// The bytes of a buffer as one leaf.
-fn leaf_of(alloc: Global, buffer: &RawBuf) -> Result<Cord, CordError>
-    requires filled { 0 < length buffer.now }
+// The bytes of a buffer as one leaf. Of no bytes it is the empty cord.
+fn leaf_of(alloc: Global, buffer: &RawBuf) -> Result<Cord, AllocError>
     ensures text { IfOk result (λ c. text c ≡ map known buffer.now) }
     ensures len { IfOk result (λ c. text_len c ≡ length buffer.now) }
     ensures parts { IfOk result (λ c. parts_of c ≡ leaf_parts buffer.now) }
     ensures small { length buffer.now ≤ RawBuf.CAP }
     ensures sound { IfOk result IsCord }
-    ensures refused { IsOkUnless result CordError.NoMemory }
 {
+    if buffer.len() == 0 {
+        return Ok(Cord::empty());
+    }
     let shared = buffer.to_shared(alloc)?;
-    let leaf = Cord::from_shared(alloc, shared)?;
-    Ok(leaf)
+    match Cord::from_shared(alloc, shared) {
+        Ok(leaf) => Ok(leaf),
+        Err(_) => Err(AllocError),
+    }
 }
 
 // The text of a cord and then these bytes, as leaves that are gathered in a buffer of their own.
 #[cold]
 #[inline(never)]
-fn cat_leaves(alloc: Global, cord: Cord, bytes: &[u8]) -> Result<Cord, CordError>
+fn cat_leaves(alloc: Global, cord: Cord, bytes: &[u8]) -> Result<Cord, AllocError>
     requires within_limit { text_len cord + length bytes.now ≤ MAX_LEN }
     ensures text { IfOk result (λ c. text c ≡ text cord ++ map known bytes.now) }
     ensures len { IfOk result (λ c. text_len c ≡ text_len cord + length bytes.now) }
     ensures gathered { IfOk result (λ c. (k : ℕ) → length bytes.now ≤ leaf_bytes k →
         Gathered k (parts_of cord) (parts_of c)) }
-    ensures refused { IsOkUnless result CordError.NoMemory }
 {
     let mut longer = cord;
     let mut leaf_bytes = RawBuf::new(alloc)?;

@@ -13,7 +13,6 @@ use Rattle.cord_ec.specs.Gathered.{leaf_bytes, leaf_parts, IsGathered, AreFromOr
 use Rattle.cord_ec.proofs.MadeLemmas.{IsOwn, are_both, are_left, are_right, are_self, are_from, are_through, made_from, made_self}
 use Rattle.cord_ec.proofs.MadeLemmas.{made_through, made_more, made_beside, made_without, made_wider}
 use Rattle.cord_ec.proofs.Leaves.{gathered_own, tail_grown}
-use Rattle.cord_printf.specs.declared.errors.PrintError.{PrintError}
 use Rattle.cord_printf.specs.declared.piece_text.Layout.{Layout}
 use Rattle.cord_printf.specs.declared.piece_text.Body.{Body}
 use Rattle.cord_printf.specs.declared.piece_text.Body.TheVariants.{Bytes, Byte, Digits, Start}
@@ -128,7 +127,7 @@ went_wrong (Ok x) P is h = absurd (cc is)
 went_wrong (Err e) P is h = h
 
 -- what follows where a call was Ok
-pub when_ok : (A B : Type 0) (r : Result (Unit {0}) PrintError) → (A → B) → IfOk r (λ _. A) → IfOk r (λ _. B)
+pub when_ok : {E : Type 0} (A B : Type 0) (r : Result (Unit {0}) E) → (A → B) → IfOk r (λ _. A) → IfOk r (λ _. B)
 when_ok A B (Ok x) f h = f h
 when_ok A B (Err e) f h = tt
 

@@ -1,5 +1,8 @@
 // Why a format or a print is refused.
+ghost use Rattle.std.specs.Prelude.{◌≡◌};
+ghost use Rattle.cord_printf.specs.declared.errors.PrintError.TheVariants.{NoMemory};
 
+use std::alloc::AllocError;
 use thiserror::Error;
 
 /// Why bytes are no format.
@@ -31,4 +34,12 @@ pub enum PrintError {
     /// Memory was refused.
     #[error("out of memory")]
     NoMemory,
+}
+
+impl From<AllocError> for PrintError {
+    ghost from_gives = { λ _ e. e ≡ NoMemory };
+
+    fn from(_error: AllocError) -> PrintError {
+        PrintError::NoMemory
+    }
 }

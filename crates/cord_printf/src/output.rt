@@ -1,5 +1,5 @@
 // What pieces show, added to a text that grows. Each addition fits, so it is refused only when out of memory.
-ghost use Rattle.std.specs.Prelude.{◌≡◌, ℕ, ◌+◌, ◌<◌, ◌≤◌, [], ◌++◌, IfOk, IfSome, IsOkUnless, length, option_to_list};
+ghost use Rattle.std.specs.Prelude.{◌≡◌, ℕ, ◌+◌, ◌<◌, ◌≤◌, [], ◌++◌, IfOk, IfSome, length, option_to_list};
 ghost use Rattle.std.specs.Prelude.{map, replicate, take};
 ghost use Rattle.cord_node.specs.Tree.{known};
 ghost use Rattle.cord_node.specs.PartsFrom.{PartsFrom};
@@ -10,14 +10,13 @@ ghost use Rattle.cord_printf.specs.Own.{IsPrintedFrom};
 ghost use Rattle.cord_printf.specs.inner.PieceLayouts.{body_own, body_parts, body_text, cells_of, prefix_of, parts_in};
 ghost use Rattle.cord_printf.specs.inner.PieceLayouts.{shown_own, shown_text};
 
-use crate::PrintError;
 use crate::piece_text::{Body, Layout, Shown};
 use arrayvec::ArrayVec;
 use cord_core::Cord;
 use cord_ec::ExtCord;
 use cord_io::MAX_LEN;
 use cord_node::Node;
-use std::alloc::Global;
+use std::alloc::{AllocError, Global};
 use std::marker::Model;
 
 // So many bytes are gathered, at most, before they go into an extensible cord together.
@@ -67,12 +66,11 @@ impl Output {
     }
 
     /// Adds what a piece shows.
-    pub fn add_shown(&mut self, alloc: Global, shown: &Shown<'_>) -> Result<(), PrintError>
+    pub fn add_shown(&mut self, alloc: Global, shown: &Shown<'_>) -> Result<(), AllocError>
         requires within_limit { length self.old.text + length (shown_text shown.now) ≤ MAX_LEN }
         ensures text { IfOk result (λ _. self.new.text ≡ self.old.text ++ shown_text shown.now) }
         ensures made { IfOk result (λ _. IsPrintedFrom (shown_own shown.now)
             (self.old.parts ++ body_parts shown.now.body) self.new.parts) }
-        ensures refused { IsOkUnless result PrintError.NoMemory }
     {
         self.add_prefix(alloc, shown.layout)?;
         self.add_body(alloc, &shown.body)?;
@@ -80,13 +78,12 @@ impl Output {
     }
 
     /// The text as a cord.
-    pub fn to_cord(&mut self, alloc: Global) -> Result<Cord, PrintError>
+    pub fn to_cord(&mut self, alloc: Global) -> Result<Cord, AllocError>
         requires within_limit { length self.old.text ≤ MAX_LEN }
         ensures text { IfOk result (λ c. text_of c ≡ self.old.text) }
         ensures made { IfOk result (λ c. IsPrintedFrom 0 self.old.parts (parts_of c)) }
         ensures over { IfOk result (IsCordOf self.old.text) }
         ensures sound { IfOk result IsCord }
-        ensures refused { IsOkUnless result PrintError.NoMemory }
     {
         if self.grown.is_none() {
             return leaf_of(alloc, self.gathered.as_slice());
@@ -96,22 +93,20 @@ impl Output {
     }
 
     // The blanks, the sign and the zeros in front of a body.
-    fn add_prefix(&mut self, alloc: Global, layout: Layout) -> Result<(), PrintError>
+    fn add_prefix(&mut self, alloc: Global, layout: Layout) -> Result<(), AllocError>
         requires within_limit { length self.old.text + length (prefix_of layout) ≤ MAX_LEN }
         ensures text { IfOk result (λ _. self.new.text ≡ self.old.text ++ map known (prefix_of layout)) }
         ensures made { IfOk result (λ _. IsPrintedFrom (length (prefix_of layout)) self.old.parts self.new.parts) }
-        ensures refused { IsOkUnless result PrintError.NoMemory }
     {
         self.add_run(alloc, b' ', layout.before)?;
         self.add_sign(alloc, layout.sign)?;
         self.add_run(alloc, b'0', layout.zeros)
     }
 
-    fn add_sign(&mut self, alloc: Global, sign: Option<u8>) -> Result<(), PrintError>
+    fn add_sign(&mut self, alloc: Global, sign: Option<u8>) -> Result<(), AllocError>
         requires within_limit { length self.old.text + length (option_to_list sign) ≤ MAX_LEN }
         ensures text { IfOk result (λ _. self.new.text ≡ self.old.text ++ map known (option_to_list sign)) }
         ensures made { IfOk result (λ _. IsPrintedFrom (length (option_to_list sign)) self.old.parts self.new.parts) }
-        ensures refused { IsOkUnless result PrintError.NoMemory }
     {
         let Some(sign) = sign else {
             return Ok(());
@@ -119,12 +114,11 @@ impl Output {
         self.add_bytes(alloc, &[sign])
     }
 
-    fn add_body(&mut self, alloc: Global, body: &Body<'_>) -> Result<(), PrintError>
+    fn add_body(&mut self, alloc: Global, body: &Body<'_>) -> Result<(), AllocError>
         requires within_limit { length self.old.text + length (body_text body.now) ≤ MAX_LEN }
         ensures text { IfOk result (λ _. self.new.text ≡ self.old.text ++ body_text body.now) }
         ensures made { IfOk result (λ _. IsPrintedFrom (body_own body.now)
             (self.old.parts ++ body_parts body.now) self.new.parts) }
-        ensures refused { IsOkUnless result PrintError.NoMemory }
     {
         match body {
             Body::Bytes(bytes) => self.add_bytes(alloc, bytes),
@@ -136,11 +130,10 @@ impl Output {
 
     // So many copies of a byte, mostly none.
     #[inline(always)]
-    fn add_run(&mut self, alloc: Global, byte: u8, count: u32) -> Result<(), PrintError>
+    fn add_run(&mut self, alloc: Global, byte: u8, count: u32) -> Result<(), AllocError>
         requires within_limit { length self.old.text + count ≤ MAX_LEN }
         ensures text { IfOk result (λ _. self.new.text ≡ self.old.text ++ replicate count (known byte)) }
         ensures made { IfOk result (λ _. IsPrintedFrom count self.old.parts self.new.parts) }
-        ensures refused { IsOkUnless result PrintError.NoMemory }
     {
         if count > 0 {
             self.add_copies(alloc, byte, count)
@@ -150,12 +143,11 @@ impl Output {
     }
 
     // A long run is shared, not written out.
-    fn add_copies(&mut self, alloc: Global, byte: u8, count: u32) -> Result<(), PrintError>
+    fn add_copies(&mut self, alloc: Global, byte: u8, count: u32) -> Result<(), AllocError>
         requires some { 0 < count }
         requires within_limit { length self.old.text + count ≤ MAX_LEN }
         ensures text { IfOk result (λ _. self.new.text ≡ self.old.text ++ replicate count (known byte)) }
         ensures made { IfOk result (λ _. IsPrintedFrom count self.old.parts self.new.parts) }
-        ensures refused { IsOkUnless result PrintError.NoMemory }
     {
         if count as usize <= SHORT_RUN {
             let run = [byte; SHORT_RUN];
@@ -163,33 +155,31 @@ impl Output {
             return self.add_bytes(alloc, bytes);
         }
         match Cord::chars(alloc, byte, u64::from(count)) {
-            Err(_) => Err(PrintError::NoMemory),
+            Err(_) => Err(AllocError),
             Ok(run) => self.add_cord(alloc, &run),
         }
     }
 
     // The first bytes of a cord, which shares its tree.
-    fn add_start(&mut self, alloc: Global, cord: &Cord, len: u64) -> Result<(), PrintError>
+    fn add_start(&mut self, alloc: Global, cord: &Cord, len: u64) -> Result<(), AllocError>
         requires within_limit { length self.old.text + length (take len (text_of cord.now)) ≤ MAX_LEN }
         ensures text { IfOk result (λ _. self.new.text ≡ self.old.text ++ take len (text_of cord.now)) }
         ensures made { IfOk result (λ _. IsPrintedFrom 0 (self.old.parts ++ parts_of cord.now) self.new.parts) }
-        ensures refused { IsOkUnless result PrintError.NoMemory }
     {
         if cord.len() <= len {
             return self.add_cord(alloc, cord);
         }
         match cord.substr(alloc, 0, len) {
-            Err(_) => Err(PrintError::NoMemory),
+            Err(_) => Err(AllocError),
             Ok(start) => self.add_cord(alloc, &start),
         }
     }
 
-    fn add_bytes(&mut self, alloc: Global, bytes: &[u8]) -> Result<(), PrintError>
+    fn add_bytes(&mut self, alloc: Global, bytes: &[u8]) -> Result<(), AllocError>
         requires within_limit { length self.old.text + length bytes.now ≤ MAX_LEN }
         ensures text { IfOk result (λ _. self.new.text ≡ self.old.text ++ map known bytes.now) }
         ensures made { IfOk result (λ _. (k : ℕ) → length bytes.now ≤ leaf_bytes k →
             IsPrintedFrom k self.old.parts self.new.parts) }
-        ensures refused { IsOkUnless result PrintError.NoMemory }
     {
         if self.gathered.try_extend_from_slice(bytes).is_ok() {
             return Ok(());
@@ -199,11 +189,10 @@ impl Output {
     }
 
     // A leaf that the join with the text in front of it would copy is gathered.
-    fn add_cord(&mut self, alloc: Global, cord: &Cord) -> Result<(), PrintError>
+    fn add_cord(&mut self, alloc: Global, cord: &Cord) -> Result<(), AllocError>
         requires within_limit { length self.old.text + length (text_of cord.now) ≤ MAX_LEN }
         ensures text { IfOk result (λ _. self.new.text ≡ self.old.text ++ text_of cord.now) }
         ensures made { IfOk result (λ _. IsPrintedFrom 0 (self.old.parts ++ parts_of cord.now) self.new.parts) }
-        ensures refused { IsOkUnless result PrintError.NoMemory }
     {
         if self.grown.is_none() {
             if let Some(leaf) = joined_leaf(self.gathered.len(), cord) {
@@ -250,34 +239,29 @@ fn leaf_slice(cord: &Cord) -> Option<&[u8]>
 }
 
 // These bytes as one leaf.
-fn leaf_of(alloc: Global, bytes: &[u8]) -> Result<Cord, PrintError>
+fn leaf_of(alloc: Global, bytes: &[u8]) -> Result<Cord, AllocError>
     requires within_limit { length bytes.now ≤ MAX_LEN }
     ensures text { IfOk result (λ c. text_of c ≡ map known bytes.now) }
     ensures over { IfOk result (IsCordOf (map known bytes.now)) }
     ensures parts { IfOk result (λ c. parts_of c ≡ leaf_parts bytes.now) }
     ensures sound { IfOk result IsCord }
-    ensures refused { IsOkUnless result PrintError.NoMemory }
 {
     match Cord::from_bytes(alloc, bytes) {
         Ok(cord) => Ok(cord),
-        Err(_) => Err(PrintError::NoMemory),
+        Err(_) => Err(AllocError),
     }
 }
 
 // The text of an extensible cord as a cord.
-fn cord_of(alloc: Global, grown: &mut Option<ExtCord>) -> Result<Cord, PrintError>
+fn cord_of(alloc: Global, grown: &mut Option<ExtCord>) -> Result<Cord, AllocError>
     ensures text { IfOk result (λ c. text_of c ≡ cells_of grown.old) }
     ensures over { IfOk result (IsCordOf (cells_of grown.old)) }
     ensures parts_from { IfOk result (λ c. PartsFrom (parts_in grown.old) (parts_of c)) }
     ensures sound { IfOk result IsCord }
-    ensures refused { IsOkUnless result PrintError.NoMemory }
 {
     match grown {
         None => leaf_of(alloc, b""),
-        Some(grown) => match grown.to_cord(alloc) {
-            Ok(cord) => Ok(cord),
-            Err(_) => Err(PrintError::NoMemory),
-        },
+        Some(grown) => grown.to_cord(alloc).map_err(|_| AllocError),
     }
 }
 
@@ -286,13 +270,12 @@ fn put_in(
     alloc: Global,
     grown: &mut Option<ExtCord>,
     gathered: &mut ArrayVec<u8, MOST_GATHERED>,
-) -> Result<(), PrintError>
+) -> Result<(), AllocError>
     requires within_limit { length (cells_of grown.old) + length gathered.old.items ≤ MAX_LEN }
     ensures text { IfOk result (λ _. cells_of grown.new ≡ cells_of grown.old ++ map known gathered.old.items) }
     ensures emptied { IfOk result (λ _. gathered.new.items ≡ []) }
     ensures made { IfOk result (λ _. IsPrintedFrom 0 (parts_in grown.old ++ leaf_parts gathered.old.items)
         (parts_in grown.new)) }
-    ensures refused { IsOkUnless result PrintError.NoMemory }
 {
     grow(alloc, grown, gathered.as_slice())?;
     gathered.clear();
@@ -300,12 +283,11 @@ fn put_in(
 }
 
 // Lets an extensible cord grow by bytes; where there is none, one is begun.
-fn grow(alloc: Global, grown: &mut Option<ExtCord>, bytes: &[u8]) -> Result<(), PrintError>
+fn grow(alloc: Global, grown: &mut Option<ExtCord>, bytes: &[u8]) -> Result<(), AllocError>
     requires within_limit { length (cells_of grown.old) + length bytes.now ≤ MAX_LEN }
     ensures text { IfOk result (λ _. cells_of grown.new ≡ cells_of grown.old ++ map known bytes.now) }
     ensures gathered { IfOk result (λ _. (k : ℕ) → length bytes.now ≤ leaf_bytes k →
         Gathered k (parts_in grown.old) (parts_in grown.new)) }
-    ensures refused { IsOkUnless result PrintError.NoMemory }
 {
     match grown {
         Some(grown) => append(alloc, grown, bytes),
@@ -319,11 +301,10 @@ fn grow(alloc: Global, grown: &mut Option<ExtCord>, bytes: &[u8]) -> Result<(), 
 }
 
 // The same by a cord.
-fn grow_by_cord(alloc: Global, grown: &mut Option<ExtCord>, cord: &Cord) -> Result<(), PrintError>
+fn grow_by_cord(alloc: Global, grown: &mut Option<ExtCord>, cord: &Cord) -> Result<(), AllocError>
     requires within_limit { length (cells_of grown.old) + length (text_of cord.now) ≤ MAX_LEN }
     ensures text { IfOk result (λ _. cells_of grown.new ≡ cells_of grown.old ++ text_of cord.now) }
     ensures parts_from { IfOk result (λ _. PartsFrom (parts_in grown.old ++ parts_of cord.now) (parts_in grown.new)) }
-    ensures refused { IsOkUnless result PrintError.NoMemory }
 {
     match grown {
         Some(grown) => append_cord(alloc, grown, cord),
@@ -337,40 +318,28 @@ fn grow_by_cord(alloc: Global, grown: &mut Option<ExtCord>, cord: &Cord) -> Resu
 }
 
 // An extensible cord of no bytes.
-fn begin(alloc: Global) -> Result<ExtCord, PrintError>
+fn begin(alloc: Global) -> Result<ExtCord, AllocError>
     ensures text { IfOk result (λ made. made.text ≡ []) }
     ensures parts { IfOk result (λ made. made.parts ≡ []) }
-    ensures refused { IsOkUnless result PrintError.NoMemory }
 {
-    match ExtCord::new(alloc) {
-        Ok(begun) => Ok(begun),
-        Err(_) => Err(PrintError::NoMemory),
-    }
+    ExtCord::new(alloc).map_err(|_| AllocError)
 }
 
 // Appends bytes that fit.
-fn append(alloc: Global, grown: &mut ExtCord, bytes: &[u8]) -> Result<(), PrintError>
+fn append(alloc: Global, grown: &mut ExtCord, bytes: &[u8]) -> Result<(), AllocError>
     requires within_limit { length grown.old.text + length bytes.now ≤ MAX_LEN }
     ensures text { IfOk result (λ _. grown.new.text ≡ grown.old.text ++ map known bytes.now) }
     ensures gathered { IfOk result (λ _. (k : ℕ) → length bytes.now ≤ leaf_bytes k →
         Gathered k grown.old.parts grown.new.parts) }
-    ensures refused { IsOkUnless result PrintError.NoMemory }
 {
-    match grown.append_bytes(alloc, bytes) {
-        Ok(()) => Ok(()),
-        Err(_) => Err(PrintError::NoMemory),
-    }
+    grown.append_bytes(alloc, bytes).map_err(|_| AllocError)
 }
 
 // Appends a cord that fits.
-fn append_cord(alloc: Global, grown: &mut ExtCord, cord: &Cord) -> Result<(), PrintError>
+fn append_cord(alloc: Global, grown: &mut ExtCord, cord: &Cord) -> Result<(), AllocError>
     requires within_limit { length grown.old.text + length (text_of cord.now) ≤ MAX_LEN }
     ensures text { IfOk result (λ _. grown.new.text ≡ grown.old.text ++ text_of cord.now) }
     ensures parts_from { IfOk result (λ _. PartsFrom (grown.old.parts ++ parts_of cord.now) grown.new.parts) }
-    ensures refused { IsOkUnless result PrintError.NoMemory }
 {
-    match grown.append_cord(alloc, cord) {
-        Ok(()) => Ok(()),
-        Err(_) => Err(PrintError::NoMemory),
-    }
+    grown.append_cord(alloc, cord).map_err(|_| AllocError)
 }
