@@ -14,9 +14,7 @@ complete_faithful : {S : Type 0} (ms : List (Event S)) (meant : End) (out : List
     FaithfulEnd ms meant out e
 complete_faithful ms meant out Done i h = h
 complete_faithful ms meant out (Fault line kind) i h = h
-complete_faithful ms meant out (NoMemory line) i h = absurd i
-complete_faithful ms meant out (ReadFailed line) i h = absurd i
-complete_faithful ms meant out (WriteFailed line) i h = absurd i
+complete_faithful ms meant out _ i h = absurd i
 
 -- bytes after others, in two parts
 taken_both : (a b c x y : List ℕ) → b ≡ a ++ x → c ≡ b ++ y → c ≡ a ++ (x ++ y)
@@ -119,6 +117,4 @@ module _ {S : Type 0} (ms : List (Event S)) (meant : End) (a b : List ℕ) where
       all_out : (e : End) → IsMeant e → FaithfulEnd ms meant h.out e → h.out ≡ output ms
       all_out Done i x = x.0
       all_out (Fault line kind) i x = x.0
-      all_out (NoMemory line) i x = absurd i
-      all_out (ReadFailed line) i x = absurd i
-      all_out (WriteFailed line) i x = absurd i
+      all_out _ i x = absurd i

@@ -119,10 +119,9 @@ module _ (shapes : List Shape) where
       (end_comes ls (q + 1) (suc d) (false ∷ st) (next_here shapes q Loop ls here) n (omega arith))
   end_comes (Branch ∷ ls) q d st here n lt = passed_on q (to_end (suc d) ls) d (suc d) Branch ls here refl
       (end_comes ls (q + 1) (suc d) (true ∷ st) (next_here shapes q Branch ls here) n (omega arith))
-  end_comes (Otherwise ∷ ls) q d [] here n lt = absurd n
-  end_comes (Otherwise ∷ ls) q d (false ∷ st) here n lt = absurd n
   end_comes (Otherwise ∷ ls) q d (true ∷ st) here n lt = passed_on q (to_end d ls) d d Otherwise ls here refl
       (end_comes ls (q + 1) d (false ∷ st) (next_here shapes q Otherwise ls here) n lt)
+  end_comes (Otherwise ∷ ls) q d _ here n lt = absurd n
   end_comes (Close ∷ ls) q zero st here n lt = still q
   end_comes (Close ∷ ls) q (suc d) [] here n lt = absurd n
   end_comes (Close ∷ ls) q (suc d) (b ∷ st) here n lt =
@@ -140,10 +139,9 @@ module _ (shapes : List Shape) where
       ap (λ (m : ℕ). slice_get shapes m) one ∙ end_stands ls (q + 1) (suc d) (false ∷ st) (next_here shapes q Loop ls here) n (omega arith)
   end_stands (Branch ∷ ls) q d st here n lt = let one : q + suc (to_end (suc d) ls) ≡ q + 1 + to_end (suc d) ls = omega arith in
       ap (λ (m : ℕ). slice_get shapes m) one ∙ end_stands ls (q + 1) (suc d) (true ∷ st) (next_here shapes q Branch ls here) n (omega arith)
-  end_stands (Otherwise ∷ ls) q d [] here n lt = absurd n
-  end_stands (Otherwise ∷ ls) q d (false ∷ st) here n lt = absurd n
   end_stands (Otherwise ∷ ls) q d (true ∷ st) here n lt = let one : q + suc (to_end d ls) ≡ q + 1 + to_end d ls = omega arith in
       ap (λ (m : ℕ). slice_get shapes m) one ∙ end_stands ls (q + 1) d (false ∷ st) (next_here shapes q Otherwise ls here) n lt
+  end_stands (Otherwise ∷ ls) q d _ here n lt = absurd n
   end_stands (Close ∷ ls) q zero st here n lt = let same : q + 0 ≡ q = omega arith in
       ap (λ (m : ℕ). slice_get shapes m) same ∙ at_here shapes q Close ls here
   end_stands (Close ∷ ls) q (suc d) [] here n lt = absurd n

@@ -6,13 +6,12 @@ use Rattle.std.proofs.lemmas.Bool.{le-leb, leb-true}
 use Rattle.cord_io.specs.Device.{FileSystem}
 use Rattle.cord_syntax.specs.declared.statements.Statement.{Statement}
 use Rattle.cord_syntax.specs.declared.statements.Statement.TheVariants.{Let, File, Eager, Lazy, Chars, Nul, FromFn, Cat, Catn, Catc, Substr}
-use Rattle.cord_syntax.specs.declared.statements.Statement.TheVariants.{Balance, EcToCord, Sprintf, Len, Fetch, Cmp, Ncmp, Str, Chr, Rchr}
-use Rattle.cord_syntax.specs.declared.statements.Statement.TheVariants.{Assign, Add, Sub, EcInit, EcPut, EcCat, EcStr, Put, Repeat, If}
-use Rattle.cord_syntax.specs.declared.statements.Statement.TheVariants.{Else, End}
+use Rattle.cord_syntax.specs.declared.statements.Statement.TheVariants.{Balance, EcToCord, Sprintf}
+use Rattle.cord_syntax.specs.declared.statements.Statement.TheVariants.{EcInit, EcPut, EcCat, EcStr}
 use Rattle.cord_meaning.specs.declared.ends.End.TheVariants.{Done, Fault}
 use Rattle.cord_meaning.specs.declared.ends.FaultKind.{FaultKind}
 use Rattle.cord_meaning.specs.declared.ends.FaultKind.TheVariants.{TooLong}
-use Rattle.cord_meaning.specs.Blocks.{Shape, Straight, Loop, Branch, Otherwise, Close}
+use Rattle.cord_meaning.specs.Blocks.{Shape, Straight}
 use Rattle.cord_meaning.specs.Machine.{Config, acted, if_running, runs_shape, runs, step, enough, whole}
 use Rattle.cord_meaning.specs.State.{State, Outcome, number_value, and_then, as_index, as_byte, as_length, sets_text, sets_extensible}
 use Rattle.cord_meaning.specs.State.{start_state}
@@ -75,26 +74,12 @@ module _ (l m : ℕ) (le : l ≤ m) (files : FileSystem) where
   act_agrees (Balance line target operand) s = text_agrees s target (s.texts operand)
   act_agrees (EcToCord line target extensible) s = text_agrees s target (s.extensibles extensible)
   act_agrees (Sprintf line target text format arguments) s = then_agrees (format_text s format arguments) _ _ (λ t. text_agrees s target t)
-  act_agrees (Len line target operand) s = inr refl
-  act_agrees (Fetch line target operand index) s = inr refl
-  act_agrees (Cmp line target left right) s = inr refl
-  act_agrees (Ncmp line target left left_start right right_start count) s = inr refl
-  act_agrees (Str line target operand start pattern) s = inr refl
-  act_agrees (Chr line target operand start byte) s = inr refl
-  act_agrees (Rchr line target operand start byte) s = inr refl
-  act_agrees (Assign line target value) s = inr refl
-  act_agrees (Add line target left right) s = inr refl
-  act_agrees (Sub line target left right) s = inr refl
   act_agrees (EcInit line target) s = extensible_agrees s target []
   act_agrees (EcPut line extensible byte) s = then_agrees (as_byte (number_value s byte)) _ _
       (λ b. extensible_agrees s extensible (s.extensibles extensible ++ b ∷ []))
   act_agrees (EcCat line extensible operand) s = extensible_agrees s extensible (s.extensibles extensible ++ s.texts operand)
   act_agrees (EcStr line extensible text) s = extensible_agrees s extensible (s.extensibles extensible ++ text)
-  act_agrees (Put line operand) s = inr refl
-  act_agrees (Repeat line count) s = inr refl
-  act_agrees (If line left relation right) s = inr refl
-  act_agrees (Else line) s = inr refl
-  act_agrees (End line) s = inr refl
+  act_agrees _ s = inr refl
 
   -- the run with the smaller limit has met a text that is too long for it
   abbrev WasTooLong : Config State → Type 0
@@ -111,10 +96,7 @@ module _ (l m : ℕ) (le : l ≤ m) (files : FileSystem) where
     shape_agrees : (c : Config State) (x : Statement) (shape : Shape) →
         Same (runs_shape (rules l files) most statements c x shape) (runs_shape (rules m files) most statements c x shape)
     shape_agrees c x Straight = acted_agrees c (line_of x) (act l files x c.state) (act m files x c.state) (act_agrees x c.state)
-    shape_agrees c x Loop = inr refl
-    shape_agrees c x Branch = inr refl
-    shape_agrees c x Otherwise = inr refl
-    shape_agrees c x Close = inr refl
+    shape_agrees c x _ = inr refl
 
     runs_agree : (c : Config State) (o : Option Statement) → Same (runs (rules l files) most statements c o)
         (runs (rules m files) most statements c o)

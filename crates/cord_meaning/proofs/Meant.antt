@@ -6,7 +6,7 @@ use Rattle.cord_meaning.specs.declared.ends.End.TheVariants.{Done}
 use Rattle.cord_meaning.specs.declared.ends.FaultKind.{FaultKind}
 use Rattle.cord_meaning.specs.declared.ends.FaultKind.TheVariants.{TooManyTurns}
 use Rattle.cord_meaning.specs.Blocks.{Shape, Straight, Loop, Branch, Otherwise, Close}
-use Rattle.cord_meaning.specs.Machine.{Rules, Block, Turns, Chosen, Config, notes, faults, acted, turned, begins, repeats, chooses, closes}
+use Rattle.cord_meaning.specs.Machine.{Rules, Block, Turns, Config, notes, faults, acted, turned, begins, repeats, chooses, closes}
 use Rattle.cord_meaning.specs.Machine.{if_running, jump_from, runs_shape, runs, step, after, whole, enough, run_end}
 use Rattle.cord_meaning.specs.Ends.{IsMeant}
 
@@ -36,10 +36,8 @@ module _ {S : Type 0} where
   chooses_meant c h line other false = h
 
   closes_meant : (most : ℕ) (c : Config S) → MeantSoFar c.ended → (blocks : List Block) → MeantSoFar (closes most c blocks).ended
-  closes_meant most c h [] = h
-  closes_meant most c h (Chosen ∷ blocks) = h
-  closes_meant most c h (Turns place line zero ∷ blocks) = h
   closes_meant most c h (Turns place line (suc n) ∷ blocks) = begins_meant most c h place line n blocks
+  closes_meant most c h _ = h
 
 module _ {L S : Type 0} (rules : Rules L S) (most : ℕ) (statements : List L) where
   shape_meant : (c : Config S) → MeantSoFar c.ended → (l : L) (shape : Shape) →

@@ -11,7 +11,7 @@ use Rattle.cord_meaning.specs.declared.ends.FaultKind.{FaultKind}
 use Rattle.cord_meaning.specs.declared.ends.FaultKind.TheVariants.{TooManyTurns}
 use Rattle.cord_meaning.specs.Blocks.{Shape, Straight, Loop, Branch, Otherwise, Close, IsNested, jump}
 use Rattle.cord_meaning.specs.Paths.{Next}
-use Rattle.cord_meaning.specs.Machine.{Rules, Event, Block, Turns, Chosen, Config, notes, goes_to, faults, acted, turned, begins, repeats}
+use Rattle.cord_meaning.specs.Machine.{Rules, Event, Block, Turns, Config, notes, goes_to, faults, acted, turned, begins, repeats}
 use Rattle.cord_meaning.specs.Machine.{chooses, closes, if_running, jump_from, runs_shape, runs, step, after, enough, run_trace, run_end}
 use Rattle.cord_meaning.specs.Machine.{reported}
 use Rattle.cord_meaning.specs.inner.Simulation.{Agree, IsControl, Simulates}
@@ -66,10 +66,8 @@ module _ {S T : Type 0} where
     chooses_beside line other false = record { other = seen ++ theirs line ∷ []; is = refl; reports = noted line; state_is = refl }
 
     closes_beside : (bs : List Block) → Beside (closes most c bs) (closes most d bs) c.state t
-    closes_beside [] = record { other = seen; is = refl; reports = same; state_is = refl }
-    closes_beside (Chosen ∷ bs) = record { other = seen; is = refl; reports = same; state_is = refl }
-    closes_beside (Turns place line zero ∷ bs) = record { other = seen; is = refl; reports = same; state_is = refl }
     closes_beside (Turns place line (suc n) ∷ bs) = begins_beside place line n bs
+    closes_beside _ = record { other = seen; is = refl; reports = same; state_is = refl }
 
   repeats_beside : (most : ℕ) (c : Config S) (seen : List (Event T)) (t : T) → map reported c.seen ≡ map reported seen →
       (line beyond : ℕ) (z : ℤ) → Beside (repeats most c line beyond z) (repeats most (with_other c seen t) line beyond z) c.state t
