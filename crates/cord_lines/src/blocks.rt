@@ -1,13 +1,11 @@
 // The blocks of a text, and what each holds.
-ghost use Rattle.std.specs.Prelude.{◌≡◌, ◌+◌, ◌-◌, ◌*◌, ◌<◌, ◌≤◌, ◌^◌, ◌++◌, IfOk, OnOk, IsErr, IsOkUnless, [], length, take, drop, slice_set};
-ghost use Rattle.cord_io.specs.declared.CordError.TheVariants.{NoMemory};
+ghost use Rattle.std.specs.Prelude.{◌≡◌, ◌+◌, ◌-◌, ◌*◌, ◌<◌, ◌≤◌, ◌^◌, ◌++◌, IfOk, OnOk, IsErr, [], length, take, drop, slice_set};
 ghost use Rattle.cord_lines.specs.Counts.{plus, AreFew, AreNarrow};
 ghost use Rattle.cord_lines.specs.inner.Blocks.{amount, block_counts, own, total, total_by, AreSumsOf};
 ghost use Rattle.cord_lines.specs.inner.Cuts.{AreModest};
 
 use crate::counting::Counts;
-use cord_io::CordError;
-use std::alloc::Global;
+use std::alloc::{AllocError, Global};
 use std::marker::Model;
 
 /// How many blocks are summed up together, and how many of their sums.
@@ -113,11 +111,10 @@ impl Model for Blocks {
 }
 
 impl Blocks {
-    /// These blocks. Refused only when out of memory.
-    pub(crate) fn of(alloc: Global, blocks: Vec<Block>) -> Result<Blocks, CordError>
+    /// These blocks.
+    pub(crate) fn of(alloc: Global, blocks: Vec<Block>) -> Result<Blocks, AllocError>
         requires { AreFew (total blocks.items) }
         ensures blocks { IfOk result (λ made. made ≡ blocks.items) }
-        ensures refused { IsOkUnless result NoMemory }
     {
         let sums = sums_of(alloc, &blocks)?;
         let tops = sums_of(alloc, &sums)?;
@@ -208,21 +205,20 @@ impl Blocks {
         }
     }
 
-    /// Puts blocks into the place of `count` others: of as many without a pass over the rest. Refused only when out of
-    /// memory, and then all is as it was.
+    /// Puts blocks into the place of `count` others: of as many without a pass over the rest. After a refusal all is as it
+    /// was.
     pub(crate) fn replace(
         &mut self,
         alloc: Global,
         start: usize,
         count: usize,
         fresh: &[Block],
-    ) -> Result<(), CordError>
+    ) -> Result<(), AllocError>
         requires inside { start + count ≤ length self.old }
         requires old { AreModest self.old }
         requires new { AreModest (take start self.old ++ fresh.now ++ drop (start + count) self.old) }
         ensures blocks { OnOk result (self.new ≡ take start self.old ++ fresh.now ++ drop (start + count) self.old) }
         ensures unchanged { IsErr result → self.new ≡ self.old }
-        ensures refused { IsOkUnless result NoMemory }
     {
         let len = self.blocks.len() - count + fresh.len();
         if count == fresh.len() {
@@ -293,10 +289,9 @@ fn sum_of<T: Counted>(parts: &[T]) -> Counts
 }
 
 // The sums of all groups.
-fn sums_of<T: Counted>(alloc: Global, parts: &[T]) -> Result<Vec<Counts>, CordError>
+fn sums_of<T: Counted>(alloc: Global, parts: &[T]) -> Result<Vec<Counts>, AllocError>
     requires { AreFew (total_by T.part parts.now) }
     ensures sums { IfOk result (λ sums. AreSumsOf T.part sums.items parts.now) }
-    ensures refused { IsOkUnless result NoMemory }
 {
     let mut sums = Vec::with_capacity(alloc, parts.len() / GROUP + 1)?;
     let mut rest = parts;

@@ -1,12 +1,11 @@
 // Ranges of a text that are cut into blocks.
-ghost use Rattle.std.specs.Prelude.{◌≡◌, ◌-◌, ◌<◌, ◌≤◌, IfOk, IsOkUnless, length, take, drop};
-ghost use Rattle.cord_io.specs.declared.CordError.TheVariants.{NoMemory};
+ghost use Rattle.std.specs.Prelude.{◌≡◌, ◌-◌, ◌<◌, ◌≤◌, IfOk, length, take, drop};
 ghost use Rattle.cord_lines.specs.inner.Cuts.{AreBlocksOf};
 
 use crate::blocks::Block;
 use crate::reading::count_range;
-use cord::{CordError, Text};
-use std::alloc::Global;
+use cord::Text;
+use std::alloc::{AllocError, Global};
 
 /// The bytes of a block of a new index: the last one has up to twice as many.
 pub(crate) const BLOCK: u64 = 6_656;
@@ -15,20 +14,19 @@ pub(crate) const BLOCK: u64 = 6_656;
 pub(crate) const LARGEST: u64 = 32_767;
 
 /// The blocks of what a text has from one place up to another, of so many bytes each, the last one of less than twice
-/// as many. Refused only when out of memory.
+/// as many.
 pub(crate) fn cut(
     alloc: Global,
     text: &Text,
     from: u64,
     to: u64,
     size: u64,
-) -> Result<Vec<Block>, CordError>
+) -> Result<Vec<Block>, AllocError>
     requires ordered { from ≤ to }
     requires inside { to ≤ length text.now }
     requires some { 0 < size }
     requires few { size ≤ LARGEST }
     ensures cut { IfOk result (λ blocks. AreBlocksOf blocks.items (take (to - from) (drop from text.now))) }
-    ensures refused { IsOkUnless result NoMemory }
 {
     let mut blocks = Vec::with_capacity(alloc, ((to - from) / size).max(1) as usize)?;
     let mut place = from;

@@ -16,7 +16,7 @@ use crate::cutting::{BLOCK, cut};
 use crate::reading::{count_range, end_from};
 use crate::renewing::{Edit, renew};
 use cord::{CordError, Text};
-use std::alloc::Global;
+use std::alloc::{AllocError, Global};
 use std::marker::Model;
 
 /// How far before the place where the end of a line is guessed the search begins.
@@ -57,10 +57,9 @@ impl LineIndex {
         }
     }
 
-    /// The index of a text. Each byte is counted once. Refused only when out of memory.
-    pub fn of(alloc: Global, text: &Text) -> Result<LineIndex, CordError>
+    /// The index of a text. Each byte is counted once.
+    pub fn of(alloc: Global, text: &Text) -> Result<LineIndex, AllocError>
         ensures index { IfOk result (λ index. IsIndexOf index text.now) }
-        ensures refused { IsOkUnless result NoMemory }
     {
         let blocks = cut(alloc, text, 0, text.len(), BLOCK)?;
         let blocks = Blocks::of(alloc, blocks)?;
@@ -165,7 +164,7 @@ impl LineIndex {
     /// others of the text before. Only the blocks that the edit meets are counted once more, and the new bytes: of an
     /// insertion into one block the new bytes alone. Where the number of blocks changes, the list of them is copied,
     /// which takes O(n) in blocks of some 8 KiB. If no such edit makes a text of this length, all of it is counted.
-    /// Refused only when out of memory, and then the index is as it was.
+    /// After a refusal the index is as it was.
     pub fn edited(
         &mut self,
         alloc: Global,
@@ -173,10 +172,9 @@ impl LineIndex {
         start: u64,
         removed: u64,
         inserted: u64,
-    ) -> Result<(), CordError>
+    ) -> Result<(), AllocError>
         ensures index { OnOk result (FollowsEdit self.old self.new after.now start removed inserted) }
         ensures unchanged { IsErr result → self.new ≡ self.old }
-        ensures refused { IsOkUnless result NoMemory }
     {
         let edit = Edit {
             start,
@@ -195,11 +193,10 @@ impl LineIndex {
         start: u64,
         removed: u64,
         inserted: u64,
-    ) -> Result<(), CordError>
+    ) -> Result<(), AllocError>
         ensures index { OnOk result (IsIndexOf self.old before.now →
             IsEditOf before.now after.now start removed inserted → IsIndexOf self.new after.now) }
         ensures unchanged { IsErr result → self.new ≡ self.old }
-        ensures refused { IsOkUnless result NoMemory }
     {
         let edit = Edit {
             start,
@@ -216,11 +213,10 @@ impl LineIndex {
         after: &Text,
         edit: Edit,
         removed: Option<Counts>,
-    ) -> Result<(), CordError>
+    ) -> Result<(), AllocError>
         ensures index { OnOk result ((before : List ℕ) → IsIndexOf self.old before → AreRemoved removed edit before →
             IsEditOf before after.now edit.start edit.removed edit.inserted → IsIndexOf self.new after.now) }
         ensures unchanged { IsErr result → self.new ≡ self.old }
-        ensures refused { IsOkUnless result NoMemory }
     {
         let len = self.blocks.counts().bytes;
         if !edit.fits(len, after.len()) {

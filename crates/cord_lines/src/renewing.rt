@@ -1,6 +1,5 @@
 // Blocks of a text that was edited.
-ghost use Rattle.std.specs.Prelude.{◌≡◌, ◌↔◌, ◌+◌, ◌<◌, ◌≤◌, ◌^◌, List, ℕ, IsTrue, IfSome, OnOk, IsErr, IsOkUnless, length};
-ghost use Rattle.cord_io.specs.declared.CordError.TheVariants.{NoMemory};
+ghost use Rattle.std.specs.Prelude.{◌≡◌, ◌↔◌, ◌+◌, ◌<◌, ◌≤◌, ◌^◌, List, ℕ, IsTrue, IfSome, OnOk, IsErr, length};
 ghost use Rattle.cord_lines.specs.Counts.{plus, AreFew};
 ghost use Rattle.cord_lines.specs.inner.Blocks.{block_counts, exchanged, total};
 ghost use Rattle.cord_lines.specs.inner.Cuts.{AreModest, AreOfSomeText};
@@ -10,8 +9,8 @@ use crate::blocks::{Block, Blocks, Measure};
 use crate::counting::Counts;
 use crate::cutting::{BLOCK, LARGEST, cut};
 use crate::reading::count_range;
-use cord::{CordError, Text};
-use std::alloc::Global;
+use cord::Text;
+use std::alloc::{AllocError, Global};
 
 /// Blocks of fewer bytes are joined with one beside them.
 const SMALLEST: u64 = 2_048;
@@ -69,20 +68,19 @@ struct Span {
 }
 
 /// The blocks of the text after an edit: those that the edit meets are counted once more, but within one block only what
-/// is new, where the counts of what was removed are known. Refused only when out of memory, and then all is as it was.
+/// is new, where the counts of what was removed are known. After a refusal all is as it was.
 pub(crate) fn renew(
     blocks: &mut Blocks,
     alloc: Global,
     after: &Text,
     edit: Edit,
     removed: Option<Counts>,
-) -> Result<(), CordError>
+) -> Result<(), AllocError>
     requires blocks { AreOfSomeText blocks.old }
     requires edit { EditFits edit (total blocks.old).bytes (length after.now) }
     ensures blocks { AreOfSomeText blocks.new }
     ensures cut { OnOk result (FollowEdit blocks.old blocks.new after.now edit removed) }
     ensures unchanged { IsErr result → blocks.new ≡ blocks.old }
-    ensures refused { IsOkUnless result NoMemory }
 {
     let len_after = after.len();
     prove!(edit.inserted <= len_after);

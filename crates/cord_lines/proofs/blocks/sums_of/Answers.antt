@@ -24,8 +24,8 @@ loop-rest-preserved g c =
       few = rw back (few_back g.T.Counted.part 64 rest c.loop-rest.invariant.few);
     }
 
-pub returns-clause-sums : goal.returns-clause-sums
-returns-clause-sums g c =
+pub returns : goal.returns
+returns g c =
     let rest = c.loop-rest.rest.now in
     let none : length rest ≡ 0 = grind (arith, nat_tests, c.loop-rest-test.false, c.is_empty.ensures) in
-    groups_done g.T.Counted.part c.loop-rest.sums.items c.args.parts.now rest c.loop-rest.invariant.groups (none_left rest none)
+    record { sums = groups_done g.T.Counted.part c.loop-rest.sums.items c.args.parts.now rest c.loop-rest.invariant.groups (none_left rest none) }

@@ -42,7 +42,9 @@ loop-place-preserved c =
       to = within;
     }
 
-pub returns-clause-cut : goal.returns-clause-cut
-returns-clause-cut c =
+pub returns : goal.returns
+returns c =
     let all : c.loop-place.place ≡ c.args.to = omega (arith, c.loop-place.invariant.to, c.loop-place-test.false) in
-    subst (λ (n : ℕ). AreBlocksOf c.loop-place.blocks.items (take (n - c.args.from) (drop c.args.from c.args.text.now))) all c.loop-place.invariant.cut
+    record {
+      cut = subst (λ (n : ℕ). AreBlocksOf c.loop-place.blocks.items (take (n - c.args.from) (drop c.args.from c.args.text.now))) all c.loop-place.invariant.cut;
+    }

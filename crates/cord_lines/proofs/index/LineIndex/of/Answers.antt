@@ -20,9 +20,11 @@ invariant_of-result c =
       limit = omega (arith, c.len.ensures.value, c.len.ensures.limit);
     }
 
-pub returns-clause-index : goal.returns-clause-index
-returns-clause-index c =
+pub returns : goal.returns
+returns c =
     let all = all_of c.args.text.now c.len.result c.len.ensures.value in
-    index_from c.in_ok-blocks-2.blocks c.lacks_end_of.result c.args.text.now
-    (subst (λ (bs : List Block). AreBlocksOf bs c.args.text.now) (sym c.in_ok-blocks-2.ensures.blocks)
-    (subst (λ (x : List ℕ). AreBlocksOf c.in_ok-blocks.blocks.items x) all c.in_ok-blocks.ensures.cut)) c.lacks_end_of.ensures
+    record {
+      index = index_from c.in_ok-blocks-2.blocks c.lacks_end_of.result c.args.text.now
+          (subst (λ (bs : List Block). AreBlocksOf bs c.args.text.now) (sym c.in_ok-blocks-2.ensures.blocks)
+          (subst (λ (x : List ℕ). AreBlocksOf c.in_ok-blocks.blocks.items x) all c.in_ok-blocks.ensures.cut)) c.lacks_end_of.ensures;
+    }
