@@ -1,5 +1,5 @@
 // Texts by formats.
-ghost use Rattle.std.specs.Prelude.{◌≡◌, IfOk, IfErr, IsOkUnless, None};
+ghost use Rattle.std.specs.Prelude.{◌≡◌, IfOk, IfErr, None};
 ghost use Rattle.cord_printf.specs.PieceText.{first_refusal};
 ghost use Rattle.cord.specs.Prints.{piece_arguments, print_of, AreWanted, IsRefusedFor};
 ghost use Rattle.cord.specs.inner.Prints.{IsArgumentFor, AreArgumentsFor};
@@ -7,7 +7,7 @@ ghost use Rattle.cord.specs.inner.Prints.{IsArgumentFor, AreArgumentsFor};
 use crate::Text;
 use cord_io::MAX_LEN;
 use cord_printf::{Arg, Format, PrintError, sprintf};
-use std::alloc::Global;
+use std::alloc::{AllocError, Global};
 
 /// What a conversion of a format is given.
 #[derive(Clone, Copy)]
@@ -37,30 +37,28 @@ impl Text {
 }
 
 // The arguments as `sprintf` takes them.
-fn cords_of(alloc: Global, args: &[TextArg<'_>]) -> Result<Vec<Arg>, PrintError>
-    ensures made { IfOk result (λ made. AreArgumentsFor args.now made.items) }
-    ensures refused { IsOkUnless result PrintError.NoMemory }
+fn cords_of(alloc: Global, args: &[TextArg<'_>]) -> Result<Vec<Arg>, AllocError>
+    ensures { IfOk result (λ made. AreArgumentsFor args.now made.items) }
 {
     let mut made = Vec::new(alloc);
     for arg in args {
         let arg = cord_of(alloc, arg)?;
         if made.push(arg).is_err() {
-            return Err(PrintError::NoMemory);
+            return Err(AllocError);
         }
     }
     Ok(made)
 }
 
 // An argument as `sprintf` takes it.
-fn cord_of(alloc: Global, arg: &TextArg<'_>) -> Result<Arg, PrintError>
-    ensures made { IfOk result (IsArgumentFor arg.now) }
-    ensures refused { IsOkUnless result PrintError.NoMemory }
+fn cord_of(alloc: Global, arg: &TextArg<'_>) -> Result<Arg, AllocError>
+    ensures { IfOk result (IsArgumentFor arg.now) }
 {
     match arg {
         TextArg::Num(number) => Ok(Arg::Num(*number)),
         TextArg::Text(text) => match text.as_cord().share(alloc) {
             Ok(cord) => Ok(Arg::Cord(cord)),
-            Err(_) => Err(PrintError::NoMemory),
+            Err(_) => Err(AllocError),
         },
     }
 }

@@ -16,8 +16,8 @@ loop-arg-preserved c =
     let taken : take (c.loop-arg.arg-index + 1) c.args.args.now ≡ take c.loop-arg.arg-index c.args.args.now ++ c.arg-item.result ∷ [] =
     rw c.arg-item.is (take_more c.args.args.now c.loop-arg.arg-index c.arg-item.result (omega arith)) in
     let one = one_made (take i args) c.arg-item.result c.loop-arg.made.items c.in_ok-arg.arg c.loop-arg.invariant
-    c.in_ok-arg.ensures.made in
+    c.in_ok-arg.ensures in
     rw (taken, pushed) one
 
-pub returns-clause-made : goal.returns-clause-made
-returns-clause-made c = rw (← take_all c.loop-arg.arg-index c.args.args.now (omega arith)) c.loop-arg.invariant
+pub returns : goal.returns
+returns c = rw (← take_all c.loop-arg.arg-index c.args.args.now (omega arith)) c.loop-arg.invariant
