@@ -1,10 +1,10 @@
 /* Times the index of the lines of a text: lines SIZE..
  *
  * The text has lines of 20 to 99 bytes in leaves of 4,096 bytes. Prints a row a size in bytes: how fast the index is
- * made, its part of the memory, and nanoseconds: of a look-up by number and by place, of a count of 4,096 bytes at a
- * place, of what an edit of up to 40 bytes costs the index, of the two look-ups of its line and of where that begins,
- * and of both together. Answers are compared with a count of all bytes. Times are those of a processor, less what it
- * takes to ask for them. */
+ * made, its part of the memory, and nanoseconds: of a look-up by number and by place, of the search in a block that is
+ * a part of each, without the index, of what an edit of up to 40 bytes costs the index, of the two look-ups of its line
+ * and of where that begins, and of both together. Answers are compared with a count of all bytes. Times are those of a
+ * processor, less what it takes to ask for them. */
 #define _POSIX_C_SOURCE 200809L
 #include <inttypes.h>
 #include <malloc.h>
@@ -14,7 +14,7 @@
 #include <time.h>
 #include <zomtsje.h>
 
-enum { LOOKUPS = 1000000, EDITS = 100000, LONGEST = 40 };
+enum { LOOKUPS = 1000000, EDITS = 100000, LONGEST = 40, BLOCK = 6656 };
 
 static uint64_t state = 88172645463325252u;
 
@@ -104,17 +104,17 @@ static size_t memory_in_use(void) {
     return mallinfo2().uordblks + mallinfo2().hblkhd;
 }
 
-/* Nanoseconds of a count of so many bytes at a random place: what a look-up does in its block. */
-static double count_somewhere(const zc_cord *x, uint64_t size, uint64_t bytes) {
-    uint64_t sum = 0;
+/* Nanoseconds of a search from random places to the nearer end of their blocks, without the index: what a look-up does
+ * in the text. The byte that is looked for isn't there. */
+static double search_blocks(const zc_cord *x, uint64_t size) {
     double start = nanoseconds();
     for (size_t i = 0; i < LOOKUPS; i++) {
-        zc_cord part = ZC_EMPTY;
-        MUST(zc_substr(x, below(size), bytes, &part) == ZC_OK);
-        sum += zc_count(&part, '\n');
-        zc_free(&part);
+        uint64_t place = below(size), inside = place % BLOCK, found;
+        uint64_t begin = place - inside, end = begin + BLOCK < size ? begin + BLOCK : size;
+        if (end - place < inside) begin = place;
+        else end = place;
+        MUST(zc_find_in(x, begin, end, "\1", 1, &found) == ZC_OK && found == ZC_NOT_FOUND);
     }
-    MUST(sum > 0);
     return (nanoseconds() - start) / LOOKUPS;
 }
 
@@ -138,11 +138,11 @@ static void measure(uint64_t size) {
     for (size_t i = 0; i < LOOKUPS; i++) MUST(zc_lines_of(&lines, &x, below(size), &place) == ZC_OK), sum += place;
     by_place = (nanoseconds() - start) / LOOKUPS;
     MUST(sum > 0);
-    double counted = count_somewhere(&x, size, 4096);
+    double searched = search_blocks(&x, size);
     edit(&x, &lines, &kept, &asked);
     printf("%" PRIu64 " bytes: made at %.2f GB/s, %.4f %% of the memory, ", size, (double)size / made,
            100.0 * (double)memory / (double)size);
-    printf("by number %.0f, by place %.0f, a count %.0f, ", by_number, by_place, counted);
+    printf("by number %.0f, by place %.0f, a search alone %.0f, ", by_number, by_place, searched);
     printf("an edit %.0f, its two look-ups %.0f, together %.0f\n", kept, asked, kept + asked);
     zc_lines_free(&lines);
     zc_free(&x);
