@@ -203,3 +203,19 @@ fn refused_edit_of_lines(rt: HostRuntime) {
     let second = again!(&rt, editor.line(alloc, 1));
     expect_bytes(&rt, second, Some(b"ne"));
 }
+
+#[test]
+fn refused_index_of_lines(rt: HostRuntime) {
+    let alloc = rt.alloc();
+    let line = again!(&rt, Text::from_bytes(alloc, b"a line\n"));
+    let text = again!(&rt, line.repeated(alloc, 5_000));
+    let mut index = again!(&rt, LineIndex::of(alloc, &text));
+    let after = again!(&rt, text.remove(alloc, 0, 21_000));
+    if index.edited(alloc, &after, 0, 21_000, 0).is_err() {
+        assert!(rt; index.lines() == 5_000 && index.line_start(&text, 4_999) == 34_993);
+        index
+            .edited(alloc, &after, 0, 21_000, 0)
+            .expect(&rt, "memory");
+    }
+    assert!(rt; index.lines() == 2_000 && index.line_start(&after, 1_999) == 13_993);
+}
