@@ -47,6 +47,7 @@ pub(crate) fn length_of_few(
 }
 
 // The length of two parts, joined.
+#[inline(always)]
 fn length_of_pair(
     first: &Expr,
     last: &Expr,
