@@ -166,7 +166,7 @@ module _ (s : List Statement) (later : List ℕ → ℕ → Bool) where
   abbrev pub IsPrefix : ChoiceTable → Type 0
   IsPrefix table = EachEntry (λ k en. slice_get (exprs s later) k ≡ Some en) table
 
-  grown_keeps : (table : ChoiceTable) (b : ℕ) (rest : List Statement) →
+  pub grown_keeps : (table : ChoiceTable) (b : ℕ) (rest : List Statement) →
       EachEntry (λ k en. slice_get (grown s later table b rest) k ≡ Some en) table
   grown_keeps table b [] k en e = e
   grown_keeps table b (l ∷ rest) k en e =

@@ -48,7 +48,7 @@ pub mod Sharing
 pub mod Joined
 pub mod Spacing
 pub mod ExprViews
-pub mod Marked
+pub mod Begun
 pub mod OnlyKept
 pub mod Pushed
 pub mod ExpressionFacts

@@ -1,17 +1,18 @@
 -- The nearest line that assigns an operand, and what stands for the operand then.
 use Rattle.std.proofs.Common.{◌≡◌, ℕ, zero, suc, ◌+◌, ◌-◌, ◌<◌, Bool, true, false, ◌&&◌, ◌||◌, ◌==◌, List, ◌∷◌, ◌++◌, drop, length}
-use Rattle.std.proofs.Common.{get_or, Option, Some, None, refl, sym, ap, ◌∙◌, arith}
+use Rattle.std.proofs.Common.{get_or, map, Option, Some, None, refl, sym, ap, ◌∙◌, arith}
 use Rattle.std.specs.Prelude.{slice_get, not, if◌then◌else◌, option_map}
 use Rattle.std.proofs.Math.Bool.{and-false}
 use Rattle.std.proofs.lemmas.Option.{slice_get-map}
 use Rattle.std.proofs.lemmas.List.{at_drop_more}
 use Rattle.std.specs.Str.{bytes_eq}
 use Rattle.cord_syntax.specs.declared.statements.Statement.{Statement}
-use Rattle.cord_plan.specs.Exprs.{Expr, names}
+use Rattle.cord_plan.specs.Exprs.{Expr, name, names}
 use Rattle.cord_plan.specs.Operands.{assigns, assigns_at, count, reads_at, read_by}
 use Rattle.cord_plan.specs.Inlined.{Choice, named, replaced, ChoiceTable, first_of, is_block_at, preserves, each_from, setter, is_small}
-use Rattle.cord_plan.specs.Inlined.{expr_with, chosen_from, chosen_of}
-use Rattle.cord_plan.specs.inner.Choices.{nearest, is_spare, stands, expression_of, expression_in, Has}
+use Rattle.cord_plan.specs.Inlined.{expr_of, expr_with, chosen_from, chosen_of}
+use Rattle.cord_plan.specs.inner.Choices.{nearest, is_spare, stands, expression_of, expression_in, simple_operands, Has, IsChoice}
+use Rattle.cord_plan.proofs.Choices.{simple_reads}
 use Rattle.cord_plan.proofs.Chosen.{setter_is}
 
 -- one place more at the end
@@ -92,7 +93,7 @@ module _ (s : List Statement) (x : List ℕ) where
 
 module _ (s : List Statement) (later : List ℕ → ℕ → Bool) (t : ChoiceTable) (b : ℕ) (l : Statement) (x : List ℕ) (before after : List Expr) where
   -- where there is no nearest line, the operand stands by its name
-  pub kept_far : nearest s x b ≡ None → named x ≡ chosen_of s later t b l x before after (setter s x b)
+  kept_far : nearest s x b ≡ None → named x ≡ chosen_of s later t b l x before after (setter s x b)
   kept_far e = pick (setter s x b) refl
     where
       reported : (a : ℕ) → setter s x b ≡ Some a → each_from (clear s x) (b - (a + 1)) (a + 1) ≡ false
@@ -115,12 +116,12 @@ module _ (s : List Statement) (later : List ℕ → ℕ → Bool) (t : ChoiceTab
       reported : (setter s x b ≡ Some a) × (each_from (clear s x) (b - (a + 1)) (a + 1) ≡ true)
       reported = rw e at (nearest_reported s x b)
 
-  pub kept_bare : (a : ℕ) → nearest s x b ≡ Some a → first_of (slice_get t a) ≡ None →
+  kept_bare : (a : ℕ) → nearest s x b ≡ Some a → first_of (slice_get t a) ≡ None →
       named x ≡ chosen_of s later t b l x before after (setter s x b)
   kept_bare a e none = sym (from_near a e ∙ ap (λ (o : Option Expr). chosen_from s later b l x before after a o) none)
 
   -- and stands for the operand where it may
-  pub by_tests : (xs : List (List ℕ)) → read_by l ≡ xs → (a : ℕ) (r : Expr) → nearest s x b ≡ Some a → first_of (slice_get t a) ≡ Some r →
+  by_tests : (xs : List (List ℕ)) → read_by l ≡ xs → (a : ℕ) (r : Expr) → nearest s x b ≡ Some a → first_of (slice_get t a) ≡ Some r →
       (v : Bool) → (stands s later r a b l xs x && is_small (expr_with l (before ++ r ∷ after))) ≡ v →
       (if v then replaced a r else named x) ≡ chosen_of s later t b l x before after (setter s x b)
   by_tests xs reads a r e some v tests = sym (from_near a e ∙ (ap (λ (o : Option Expr). chosen_from s later b l x before after a o) some
@@ -187,3 +188,19 @@ first_in table t a has = ap (λ (xs : List (Option Expr)). expression_in xs a) (
         ≡ first_of o
     pick None = refl
     pick (Some entry) = refl
+
+-- so much for what is chosen for the next operand of a line, over such a table
+module _ (s : List Statement) (later : List ℕ → ℕ → Bool) (b : ℕ) (l : Statement) (xs : List (List ℕ)) (x : List ℕ)
+    (table : List (Option Expr)) (done : List Choice) where
+  pub far_choice : nearest s x b ≡ None → IsChoice s later b l xs x table done (named x)
+  far_choice far = λ t has. kept_far s later t b l x _ _ far
+
+  pub bare_choice : (a : ℕ) → nearest s x b ≡ Some a → expression_in table a ≡ None → IsChoice s later b l xs x table done (named x)
+  bare_choice a near bare = λ t has. kept_bare s later t b l x _ _ a near (sym (first_in table t a has) ∙ bare)
+
+  pub tested_choice : simple_operands l ≡ Some xs → (a : ℕ) (r : Expr) → nearest s x b ≡ Some a → expression_in table a ≡ Some r → (v : Bool) →
+      (stands s later r a b l xs x && is_small (expr_with l (map (λ d. expr_of d) done
+      ++ r ∷ map (λ y. name y) (drop (length done + 1) xs)))) ≡ v →
+      IsChoice s later b l xs x table done (if v then replaced a r else named x)
+  tested_choice simple a r near there v tests = λ t has.
+      by_tests s later t b l x _ _ xs (simple_reads l xs simple) a r near (sym (first_in table t a has) ∙ there) v tests

@@ -4,7 +4,6 @@ use Rattle.std.proofs.Common.{ap, ◌∙◌, subst}
 use Rattle.std.specs.Prelude.{IfOk, Result}
 use Rattle.std.specs.declared.rc.Rc.{Rc}
 use Rattle.std.proofs.lemmas.List.{take_more}
-use Rattle.cord_io.specs.declared.CordError.{CordError}
 use Rattle.cord_plan.specs.Exprs.{Expr, Exprs, nothing, member, append}
 use Rattle.cord_plan.specs.inner.Exprs.{is_nothing}
 use Rattle.cord_plan.specs.Views.{Shared, expr_view, members_of, members_view, shared_view}
@@ -18,7 +17,7 @@ use Rattle.cord_plan.proofs.Appending.{append_nothing, append_thrice, views_both
 use Rattle.cord_plan.proofs.ExprViews.{prefix_seen, members_made, members_there, view-Nothing, view-One}
 
 -- what is made, reported by other words
-pub made_as : (r : Result Members CordError) (es fs : Exprs) → es ≡ fs → IfOk r (λ ms. members_view ms ≡ es) →
+pub made_as : {E : Type 0} (r : Result Members E) (es fs : Exprs) → es ≡ fs → IfOk r (λ ms. members_view ms ≡ es) →
     IfOk r (λ ms. members_view ms ≡ fs)
 made_as r es fs same made = subst (λ (gs : Exprs). IfOk r (λ ms. members_view ms ≡ gs)) same made
 

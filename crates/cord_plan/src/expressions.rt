@@ -1,13 +1,12 @@
 // Expressions of plans.
-ghost use Rattle.std.specs.Prelude.{◌≡◌, ◌<◌, ◌∷◌, [], IfOk, IfSome, IsOkUnless, length, map};
+ghost use Rattle.std.specs.Prelude.{◌≡◌, ◌<◌, ◌∷◌, [], IfOk, IfSome, length, map};
 ghost use Rattle.cord_plan.specs.Exprs.{append, member, nothing};
 ghost use Rattle.cord_plan.specs.inner.Exprs.{is_nothing};
 ghost use Rattle.cord_plan.specs.Views.{prefix_view, members_of, members_view, shared_view};
 ghost use Rattle.cord_plan.specs.inner.Views.{rest_view};
 
-use cord_io::CordError;
 use cord_script::{Name, Number};
-use std::alloc::Global;
+use std::alloc::{AllocError, Global};
 use std::rc::Rc;
 
 /// An expression of a plan: what a line makes of names of cords and of runs of a byte. Expressions share what stands in
@@ -101,9 +100,8 @@ impl Rest {
 
     // A copy, which shares the members.
     #[inline(always)]
-    fn shared(&self) -> Result<Self, CordError>
+    fn shared(&self) -> Result<Self, AllocError>
         ensures made { IfOk result (λ r. rest_view r ≡ rest_view self.now) }
-        ensures refused { IsOkUnless result CordError.NoMemory }
     {
         match self {
             Rest::Nothing => Ok(Rest::Nothing),
@@ -162,10 +160,8 @@ impl Members {
     }
 
     /// The same members, in front of those that follow where no more fit after the prefix: so others share them.
-    /// Refused only with `NoMemory`.
-    pub(crate) fn to_share(self, alloc: Global) -> Result<Self, CordError>
+    pub(crate) fn to_share(self, alloc: Global) -> Result<Self, AllocError>
         ensures made { IfOk result (λ ms. members_view ms ≡ members_view self) }
-        ensures refused { IsOkUnless result CordError.NoMemory }
     {
         match &self.rest {
             Rest::Two(_) => Ok(Members {
@@ -183,12 +179,11 @@ impl Members {
         self.halves().1.is_empty()
     }
 
-    /// These members and one more. Refused only with `NoMemory`.
+    /// These members and one more.
     #[inline(always)]
-    pub(crate) fn with(self, alloc: Global, last: Rc<Expr>) -> Result<Self, CordError>
+    pub(crate) fn with(self, alloc: Global, last: Rc<Expr>) -> Result<Self, AllocError>
         ensures made { IfOk result (λ ms. members_view ms
             ≡ append (members_view self) (member (shared_view last) nothing)) }
-        ensures refused { IsOkUnless result CordError.NoMemory }
     {
         let Members { prefix, rest } = self;
         match rest {
@@ -214,11 +209,10 @@ impl Members {
         }
     }
 
-    /// A copy, which shares the members. Refused only with `NoMemory`.
+    /// A copy, which shares the members.
     #[inline(always)]
-    pub(crate) fn shared(&self) -> Result<Self, CordError>
+    pub(crate) fn shared(&self) -> Result<Self, AllocError>
         ensures made { IfOk result (λ ms. members_view ms ≡ members_view self.now) }
-        ensures refused { IsOkUnless result CordError.NoMemory }
     {
         let rest = self.rest.shared()?;
         match &self.prefix {
@@ -231,10 +225,9 @@ impl Members {
     }
 
     // These members and others after them, which are shared.
-    fn with_each(self, alloc: Global, others: &[Rc<Expr>]) -> Result<Self, CordError>
+    fn with_each(self, alloc: Global, others: &[Rc<Expr>]) -> Result<Self, AllocError>
         ensures made { IfOk result (λ ms. members_view ms
             ≡ append (members_view self) (members_of (map shared_view others.now))) }
-        ensures refused { IsOkUnless result CordError.NoMemory }
     {
         let mut members = self;
         'others: for other in others {
@@ -243,10 +236,9 @@ impl Members {
         Ok(members)
     }
 
-    /// These members and others after them, which are shared. Refused only with `NoMemory`.
-    pub(crate) fn with_all(self, alloc: Global, others: &Members) -> Result<Self, CordError>
+    /// These members and others after them, which are shared.
+    pub(crate) fn with_all(self, alloc: Global, others: &Members) -> Result<Self, AllocError>
         ensures made { IfOk result (λ ms. members_view ms ≡ append (members_view self) (members_view others.now)) }
-        ensures refused { IsOkUnless result CordError.NoMemory }
     {
         let (prefix, rest) = others.halves();
         match prefix {
@@ -256,11 +248,8 @@ impl Members {
     }
 
     /// The same; where there are no members yet, those in front of the others are shared at once.
-    ///
-    /// Refused only with `NoMemory`.
-    pub(crate) fn with_shared(self, alloc: Global, others: &Members) -> Result<Self, CordError>
+    pub(crate) fn with_shared(self, alloc: Global, others: &Members) -> Result<Self, AllocError>
         ensures made { IfOk result (λ ms. members_view ms ≡ append (members_view self) (members_view others.now)) }
-        ensures refused { IsOkUnless result CordError.NoMemory }
     {
         if self.is_nothing() {
             drop(self);

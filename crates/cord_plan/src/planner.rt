@@ -5,85 +5,68 @@ mod expressions;
 mod interning;
 mod joining;
 mod lines;
-mod measuring;
 mod operand_choices;
 mod parts;
 mod unchanged;
 
 ghost use Rattle.std.specs.Prelude.{◌≡◌, ℕ, Bool, List, IfOk, IsOkUnless, map};
-ghost use Rattle.cord_plan.specs.inner.Extensions.{AreExtending};
 ghost use Rattle.cord_plan.specs.inner.Liveness.{reports, AllReported, IsReported};
-ghost use Rattle.cord_plan.specs.inner.Numbering.{IsNumbering, number_in};
+ghost use Rattle.cord_plan.specs.inner.Numbering.{IsNumberIn, IsNumbering};
+ghost use Rattle.cord_plan.specs.inner.Steps.{AreExpressions, table_view};
 ghost use Rattle.cord_plan.specs.Meaning.{IsPlanOf};
 ghost use Rattle.cord_plan.specs.Operands.{target_of};
+ghost use Rattle.cord_syntax.specs.declared.statements.Statement.{Statement};
 ghost use Rattle.cord_plan.specs.Planned as plan;
 ghost use Rattle.cord_plan.specs.Liveness.{IsLater};
 ghost use Rattle.cord_plan.specs.Views.{operation_view};
 
-use self::expression_facts::ExpressionFacts;
-use self::expressions::{NextExpression, next_expression};
+use self::expressions::{Expressions, expressions_of};
 pub(crate) use self::interning::Interner;
 pub(crate) use self::joining::defining_expression;
 pub(crate) use self::lines::operation_of;
-use crate::flow::{Later, Recent};
-use crate::{Operation, Plan};
+use crate::flow::Later;
+use crate::plans::is_reported;
+use crate::{Expr, Operation, Plan};
 use cord_io::CordError;
 use cord_script::{Script, Statement};
-use std::alloc::Global;
+use std::alloc::{AllocError, Global};
 
 // Whether a line has a target, whose number this is, that isn't read later.
-fn is_dead(statement: &Statement, number: Option<usize>, place: usize, later: &Later) -> bool
-    requires number { number ≡ number_in later.now.numbering (target_of statement.now) }
-    requires reported { IsReported later.now statement.now place }
-    ensures { result ≡ plan.is_dead (reports later.now) place (target_of statement.now) }
+fn is_dead(target: Option<usize>, place: usize, later: &Later) -> bool
+    ensures { (l : Statement) → IsNumberIn later.now.numbering (target_of l) target → IsReported later.now l place →
+        result ≡ plan.is_dead (reports later.now) place (target_of l) }
 {
-    match statement.target() {
+    match target {
         None => false,
-        Some(target) => !later.is_target_later(target, number, place),
+        Some(_) => !later.is_target_later(target, place),
     }
 }
 
-// The operations of a script's lines, and which of them extend the one before. Where a line takes the expression of an
-// earlier one, the earlier one's operation builds no more, and computes the length alone.
+// The operations of a script's lines, which take these expressions. The operation of a line whose target is dead, or
+// whose expression a later line takes, computes the length alone. Each is matched, since a `?` moves it twice more.
 fn operations_of(
     alloc: Global,
     statements: &[Statement],
     later: &Later,
-) -> Result<(Vec<Operation>, Vec<bool>), CordError>
+    expressions: &mut [Option<Expr>],
+    taken: &[bool],
+) -> Result<Vec<Operation>, AllocError>
     requires reported { AllReported statements.now later.now }
     requires numbered { IsNumbering statements.now later.now.numbering }
-    ensures made { IfOk result (λ p. map operation_view p.0.items ≡ plan.planned statements.now (reports later.now)) }
-    ensures extending { IfOk result (λ p. AreExtending p.1.items (map operation_view p.0.items)) }
-    ensures refused { IsOkUnless result CordError.NoMemory }
+    requires expressions { AreExpressions statements.now (reports later.now) (table_view expressions.old) taken.now }
+    ensures { IfOk result (λ os. map operation_view os.items ≡ plan.planned statements.now (reports later.now)) }
 {
     let mut operations = Vec::with_capacity(alloc, statements.len())?;
-    let mut extending = Vec::with_capacity(alloc, statements.len())?;
-    let mut interner = Interner::of(alloc);
-    let mut recent = Recent::of(alloc, later)?;
-    let mut known = ExpressionFacts::of(alloc, later.numbering.count())?;
     for (place, statement) in statements.iter().enumerate() {
         let numbers = later.numbering.line(place);
-        let next = next_expression(
-            alloc,
-            &mut interner,
-            statements,
-            place,
-            statement,
-            numbers,
-            &recent,
-            &mut known,
-            &mut operations,
-        )?;
-        let NextExpression {
-            expression,
-            extends,
-        } = next;
-        let dead = is_dead(statement, numbers.target, place, later);
-        operations.push_reserved(operation_of(statement, expression, dead)?);
-        extending.push_reserved(extends);
-        recent.note(statement, numbers, place);
+        let dead = is_dead(numbers.target, place, later);
+        let paired = is_reported(taken, place);
+        match operation_of(statement, &mut expressions[place], dead, paired) {
+            Ok(operation) => operations.push_reserved(operation),
+            Err(error) => return Err(error),
+        }
     }
-    Ok((operations, extending))
+    Ok(operations)
 }
 
 /// The plan of a script: a name that nobody reads gets a length alone, and what is read once, in the expression of a
@@ -100,6 +83,11 @@ pub fn plan(alloc: Global, script: &Script) -> Result<Plan, CordError>
 {
     let statements = script.statements();
     let later = Later::of(alloc, statements)?;
-    let planned = operations_of(alloc, statements, &later)?;
-    Ok(Plan::of(planned.0, planned.1, later.numbering.into_names()))
+    let Expressions {
+        mut expressions,
+        taken,
+        extending,
+    } = expressions_of(alloc, statements, &later)?;
+    let operations = operations_of(alloc, statements, &later, &mut expressions, &taken)?;
+    Ok(Plan::of(operations, extending, later.numbering.into_names()))
 }

@@ -20,7 +20,7 @@ use crate::plan_text::show_operations;
 use crate::planner::{Interner, defining_expression, operation_of};
 use cord_io::{CordError, Sink};
 use cord_script::{Name, Script, Statement};
-use std::alloc::Global;
+use std::alloc::{AllocError, Global};
 use std::marker::Model;
 
 /// The operations of a script, in the order of its lines, and its names.
@@ -52,22 +52,21 @@ impl Model for Plan {
 }
 
 // The operations of the trivial plan.
-fn trivial_operations(alloc: Global, statements: &[Statement]) -> Result<Vec<Operation>, CordError>
+fn trivial_operations(alloc: Global, statements: &[Statement]) -> Result<Vec<Operation>, AllocError>
     ensures made { IfOk result (λ os. map operation_view os.items ≡ plan.trivial statements.now) }
-    ensures refused { IsOkUnless result CordError.NoMemory }
 {
     let mut operations = Vec::with_capacity(alloc, statements.len())?;
     let mut interner = Interner::of(alloc);
     'lines: for statement in statements {
-        let expression = defining_expression(alloc, &mut interner, statement)?;
-        operations.push_reserved(operation_of(statement, expression, false)?);
+        let mut expression = defining_expression(alloc, &mut interner, statement)?;
+        operations.push_reserved(operation_of(statement, &mut expression, false, false)?);
     }
     Ok(operations)
 }
 
-// Whether it is said of a place; of a place past the end it isn't.
+/// Whether it is said of a place; of a place past the end it isn't.
 #[inline(always)]
-fn is_reported(reported: &[bool], place: usize) -> bool
+pub(crate) fn is_reported(reported: &[bool], place: usize) -> bool
     ensures { result ≡ get_or reported.now place false }
 {
     match reported.get(place) {

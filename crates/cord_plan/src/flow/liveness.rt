@@ -281,10 +281,9 @@ impl<'a> Later<'a> {
     }
 
     /// Whether the name that a line assigns, which has this number, is read later than the line.
-    pub(crate) fn is_target_later(&self, target: &Name, number: Option<usize>, place: usize) -> bool
-        requires number { number ≡ number_of self.now.numbering target.now }
-        requires reported { (l : Statement) × (target_of l ≡ Some target.now) × IsReported self.now l place }
-        ensures { result ≡ reports self.now target.now place }
+    pub(crate) fn is_target_later(&self, number: Option<usize>, place: usize) -> bool
+        ensures { (l : Statement) (x : List ℕ) → target_of l ≡ Some x → IsReported self.now l place →
+            number ≡ number_of self.now.numbering x → result ≡ reports self.now x place }
     {
         match &self.found {
             Found::ByLines(lines) => line_at(lines, place).target,

@@ -1,19 +1,17 @@
 // Expressions made of copies.
-ghost use Rattle.std.specs.Prelude.{◌≡◌, pos, IfOk, IsOkUnless};
+ghost use Rattle.std.specs.Prelude.{◌≡◌, pos, IfOk};
 ghost use Rattle.cord_operands.specs.declared.operands.Number.TheVariants.{Numeral};
 ghost use Rattle.cord_plan.specs.Exprs as plain;
 ghost use Rattle.cord_plan.specs.Views.{expr_view, shared_view};
 
 use crate::Expr;
-use cord_io::CordError;
 use cord_script::{Name, Number};
-use std::alloc::Global;
+use std::alloc::{AllocError, Global};
 use std::rc::Rc;
 
 /// One copy of a byte, to be shared.
-pub(crate) fn shared_byte(alloc: Global, byte: &Number) -> Result<Rc<Expr>, CordError>
+pub(crate) fn shared_byte(alloc: Global, byte: &Number) -> Result<Rc<Expr>, AllocError>
     ensures made { IfOk result (λ e. shared_view e ≡ plain.run byte.now (Numeral (pos 1))) }
-    ensures refused { IsOkUnless result CordError.NoMemory }
 {
     let byte = byte.clone()?;
     Ok(Rc::new(alloc, run(byte, Number::Numeral(1)))?)
@@ -27,9 +25,8 @@ pub(crate) fn run(byte: Number, count: Number) -> Expr
 }
 
 /// `run(byte count)` of copies of these.
-pub(crate) fn run_of(byte: &Number, count: &Number) -> Result<Expr, CordError>
+pub(crate) fn run_of(byte: &Number, count: &Number) -> Result<Expr, AllocError>
     ensures made { IfOk result (λ e. expr_view e ≡ plain.run byte.now count.now) }
-    ensures refused { IsOkUnless result CordError.NoMemory }
 {
     Ok(run(byte.clone()?, count.clone()?))
 }
@@ -39,9 +36,8 @@ pub(crate) fn sub_of(
     expression: Rc<Expr>,
     start: &Number,
     count: &Number,
-) -> Result<Expr, CordError>
+) -> Result<Expr, AllocError>
     ensures made { IfOk result (λ e. expr_view e ≡ plain.sub (shared_view expression) start.now count.now) }
-    ensures refused { IsOkUnless result CordError.NoMemory }
 {
     let (start, count) = (start.clone()?, count.clone()?);
     Ok(Expr::Sub {
@@ -52,9 +48,8 @@ pub(crate) fn sub_of(
 }
 
 /// A name as an expression.
-pub(crate) fn named(name: &Name) -> Result<Expr, CordError>
+pub(crate) fn named(name: &Name) -> Result<Expr, AllocError>
     ensures made { IfOk result (λ e. expr_view e ≡ plain.name name.now) }
-    ensures refused { IsOkUnless result CordError.NoMemory }
 {
     Ok(Expr::Name(name.clone()?))
 }

@@ -1,12 +1,11 @@
 // Names and single bytes as shared expressions.
-ghost use Rattle.std.specs.Prelude.{◌≡◌, pos, IfOk, IfSome, IsOkUnless};
+ghost use Rattle.std.specs.Prelude.{◌≡◌, pos, IfOk, IfSome};
 ghost use Rattle.cord_operands.specs.declared.operands.Number.TheVariants.{Numeral};
 ghost use Rattle.cord_plan.specs.Exprs as plain;
 ghost use Rattle.cord_plan.specs.Views.{shared_view};
 
 use crate::Expr;
 use crate::planner::constructors::{named, shared_byte};
-use cord_io::CordError;
 use cord_script::{Name, Number};
 use std::alloc::{AllocError, Global};
 use std::rc::Rc;
@@ -54,9 +53,8 @@ fn find_byte(slots: &[Option<Rc<Expr>>], slot: usize, byte: i64) -> Option<&Rc<E
 }
 
 // A name as an expression, to be shared.
-fn shared_name(alloc: Global, name: &Name) -> Result<Rc<Expr>, CordError>
+fn shared_name(alloc: Global, name: &Name) -> Result<Rc<Expr>, AllocError>
     ensures made { IfOk result (λ e. shared_view e ≡ plain.name name.now) }
-    ensures refused { IsOkUnless result CordError.NoMemory }
 {
     Ok(Rc::new(alloc, named(name)?)?)
 }
@@ -79,9 +77,8 @@ impl Interner {
     }
 
     // Puts an expression into a slot, and gives it back.
-    fn put(&mut self, alloc: Global, slot: usize, shared: Rc<Expr>) -> Result<Rc<Expr>, CordError>
+    fn put(&mut self, alloc: Global, slot: usize, shared: Rc<Expr>) -> Result<Rc<Expr>, AllocError>
         ensures made { IfOk result (λ e. shared_view e ≡ shared_view shared) }
-        ensures refused { IsOkUnless result CordError.NoMemory }
     {
         if self.slots.is_empty() {
             self.slots = empty_slots(alloc)?;
@@ -92,11 +89,10 @@ impl Interner {
         Ok(shared)
     }
 
-    /// A name as an expression. Refused only with `NoMemory`.
+    /// A name as an expression.
     #[inline(always)]
-    pub(crate) fn name(&mut self, alloc: Global, name: &Name) -> Result<Rc<Expr>, CordError>
+    pub(crate) fn name(&mut self, alloc: Global, name: &Name) -> Result<Rc<Expr>, AllocError>
         ensures made { IfOk result (λ e. shared_view e ≡ plain.name name.now) }
-        ensures refused { IsOkUnless result CordError.NoMemory }
     {
         let slot = name.hint();
         match find(&self.slots, slot, name) {
@@ -106,9 +102,8 @@ impl Interner {
     }
 
     // One copy of this byte, or of any other numeral.
-    fn numeral(&mut self, alloc: Global, byte: i64) -> Result<Rc<Expr>, CordError>
+    fn numeral(&mut self, alloc: Global, byte: i64) -> Result<Rc<Expr>, AllocError>
         ensures made { IfOk result (λ e. shared_view e ≡ plain.run (Numeral byte) (Numeral (pos 1))) }
-        ensures refused { IsOkUnless result CordError.NoMemory }
     {
         let Ok(place) = u8::try_from(byte) else {
             return shared_byte(alloc, &Number::Numeral(byte));
@@ -123,10 +118,9 @@ impl Interner {
         }
     }
 
-    /// One copy of a byte as an expression. Refused only with `NoMemory`.
-    pub(crate) fn byte(&mut self, alloc: Global, byte: &Number) -> Result<Rc<Expr>, CordError>
+    /// One copy of a byte as an expression.
+    pub(crate) fn byte(&mut self, alloc: Global, byte: &Number) -> Result<Rc<Expr>, AllocError>
         ensures made { IfOk result (λ e. shared_view e ≡ plain.run byte.now (Numeral (pos 1))) }
-        ensures refused { IsOkUnless result CordError.NoMemory }
     {
         match byte {
             Number::Numeral(byte) => self.numeral(alloc, *byte),

@@ -1,5 +1,5 @@
 // The expression of a line, with what stands for its operands.
-ghost use Rattle.std.specs.Prelude.{◌≡◌, ◌++◌, ◌∷◌, [], pos, IfOk, IsOkUnless, map, option_map};
+ghost use Rattle.std.specs.Prelude.{◌≡◌, ◌++◌, ◌∷◌, [], pos, IfOk, map, option_map};
 ghost use Rattle.cord_plan.specs.Exprs as plain;
 ghost use Rattle.cord_plan.specs.Exprs.{append, preceding, members, nothing};
 ghost use Rattle.cord_operands.specs.declared.operands.Number.TheVariants.{Numeral};
@@ -14,16 +14,14 @@ use crate::planner::interning::Interner;
 use crate::planner::operand_choices::Choice;
 use crate::planner::parts::copy;
 use crate::{Expr, Members};
-use cord_io::CordError;
 use cord_script::{Name, Number, Statement};
 use cord_syntax::Operands;
 use std::alloc::{AllocError, Global};
 use std::rc::Rc;
 
 // An expression that stands for an operand.
-fn expression_of(choice: &Choice) -> Result<Expr, CordError>
+fn expression_of(choice: &Choice) -> Result<Expr, AllocError>
     ensures made { IfOk result (λ e. expr_view e ≡ expr_of (choice_view choice.now)) }
-    ensures refused { IsOkUnless result CordError.NoMemory }
 {
     match choice {
         Choice::Named(name) => named(name),
@@ -32,19 +30,17 @@ fn expression_of(choice: &Choice) -> Result<Expr, CordError>
 }
 
 // A copy of an expression, to be shared.
-fn shared_copy(alloc: Global, expression: &Expr) -> Result<Rc<Expr>, CordError>
+fn shared_copy(alloc: Global, expression: &Expr) -> Result<Rc<Expr>, AllocError>
     ensures made { IfOk result (λ e. shared_view e ≡ expr_view expression.now) }
-    ensures refused { IsOkUnless result CordError.NoMemory }
 {
     Ok(Rc::new(alloc, copy(expression)?)?)
 }
 
 // The members of a `cat` and a copy of an expression after them; of a `cat` its members, which are shared.
 #[inline(always)]
-fn with_copy(alloc: Global, members: Members, expression: &Expr) -> Result<Members, CordError>
+fn with_copy(alloc: Global, members: Members, expression: &Expr) -> Result<Members, AllocError>
     ensures made { IfOk result (λ ms. members_view ms
         ≡ append (members_view members) (preceding (expr_view expression.now) nothing)) }
-    ensures refused { IsOkUnless result CordError.NoMemory }
 {
     match expression {
         Expr::Cat(inner) => members.with_shared(alloc, inner),
@@ -61,10 +57,9 @@ fn with_choice(
     interner: &mut Interner,
     members: Members,
     choice: &Choice,
-) -> Result<Members, CordError>
+) -> Result<Members, AllocError>
     ensures made { IfOk result (λ ms. members_view ms
         ≡ append (members_view members) (preceding (expr_of (choice_view choice.now)) nothing)) }
-    ensures refused { IsOkUnless result CordError.NoMemory }
 {
     match choice {
         Choice::Named(name) => members.with(alloc, interner.name(alloc, name)?),
@@ -74,9 +69,8 @@ fn with_choice(
 
 // The members that these expressions give to a `cat`.
 #[inline(always)]
-fn joined(alloc: Global, interner: &mut Interner, choices: &[Choice]) -> Result<Members, CordError>
+fn joined(alloc: Global, interner: &mut Interner, choices: &[Choice]) -> Result<Members, AllocError>
     ensures made { IfOk result (λ ms. members_view ms ≡ members (map expr_of (map choice_view choices.now))) }
-    ensures refused { IsOkUnless result CordError.NoMemory }
 {
     let mut members = Members::nothing();
     'choices: for choice in choices {
@@ -86,9 +80,8 @@ fn joined(alloc: Global, interner: &mut Interner, choices: &[Choice]) -> Result<
 }
 
 // `cat` of the members that these expressions give: others share them, where the first of them are another line's.
-fn cat_of(alloc: Global, choices: &[Choice], members: Members) -> Result<Expr, CordError>
+fn cat_of(alloc: Global, choices: &[Choice], members: Members) -> Result<Expr, AllocError>
     ensures made { IfOk result (λ e. expr_view e ≡ plain.cat (members_view members)) }
-    ensures refused { IsOkUnless result CordError.NoMemory }
 {
     match choices {
         [Choice::Replaced(..), ..] => Ok(Expr::Cat(members.to_share(alloc)?)),
@@ -97,12 +90,15 @@ fn cat_of(alloc: Global, choices: &[Choice], members: Members) -> Result<Expr, C
 }
 
 // `cat` of these expressions.
-fn joined_all(alloc: Global, interner: &mut Interner, choices: &[Choice]) -> Result<Expr, CordError>
+fn joined_all(
+    alloc: Global,
+    interner: &mut Interner,
+    choices: &[Choice],
+) -> Result<Expr, AllocError>
     ensures made { IfOk result (λ e. expr_view e ≡ plain.cat (members (map expr_of (map choice_view choices.now)))) }
-    ensures refused { IsOkUnless result CordError.NoMemory }
 {
     let members = joined(alloc, interner, choices)?;
-    Ok(cat_of(alloc, choices, members)?)
+    cat_of(alloc, choices, members)
 }
 
 // `cat` of these expressions and one byte.
@@ -111,10 +107,9 @@ fn joined_with(
     interner: &mut Interner,
     choices: &[Choice],
     byte: &Number,
-) -> Result<Expr, CordError>
+) -> Result<Expr, AllocError>
     ensures made { IfOk result (λ e. expr_view e ≡ plain.cat
         (members (map expr_of (map choice_view choices.now) ++ plain.run byte.now (Numeral (pos 1)) ∷ []))) }
-    ensures refused { IsOkUnless result CordError.NoMemory }
 {
     let members = joined(alloc, interner, choices)?;
     let all = members.with(alloc, interner.byte(alloc, byte)?)?;
@@ -126,9 +121,8 @@ fn shared_expression(
     alloc: Global,
     interner: &mut Interner,
     choice: &Choice,
-) -> Result<Rc<Expr>, CordError>
+) -> Result<Rc<Expr>, AllocError>
     ensures made { IfOk result (λ e. shared_view e ≡ expr_of (choice_view choice.now)) }
-    ensures refused { IsOkUnless result CordError.NoMemory }
 {
     match choice {
         Choice::Named(name) => interner.name(alloc, name),
@@ -143,9 +137,8 @@ fn part(
     choice: &Choice,
     start: &Number,
     count: &Number,
-) -> Result<Expr, CordError>
+) -> Result<Expr, AllocError>
     ensures made { IfOk result (λ e. expr_view e ≡ plain.sub (expr_of (choice_view choice.now)) start.now count.now) }
-    ensures refused { IsOkUnless result CordError.NoMemory }
 {
     sub_of(shared_expression(alloc, interner, choice)?, start, count)
 }
@@ -157,10 +150,9 @@ pub(crate) fn expression_with(
     interner: &mut Interner,
     statement: &Statement,
     choices: &[Choice],
-) -> Result<Option<Expr>, CordError>
+) -> Result<Option<Expr>, AllocError>
     ensures made { IfOk result (λ e. option_map expr_view e
         ≡ expr_with statement.now (map expr_of (map choice_view choices.now))) }
-    ensures refused { IsOkUnless result CordError.NoMemory }
 {
     match statement {
         Statement::Cat { .. } | Statement::Catn { .. } => Ok(Some(joined_all(
@@ -195,14 +187,13 @@ fn all_named<'a>(alloc: Global, names: &'a [Name]) -> Result<Vec<Choice<'a>>, Al
     Ok(choices)
 }
 
-/// The defining expression of a simple statement; of any other there is none. Refused only with `NoMemory`.
+/// The defining expression of a simple statement; of any other there is none.
 pub(crate) fn defining_expression(
     alloc: Global,
     interner: &mut Interner,
     statement: &Statement,
-) -> Result<Option<Expr>, CordError>
+) -> Result<Option<Expr>, AllocError>
     ensures made { IfOk result (λ e. option_map expr_view e ≡ defining statement.now) }
-    ensures refused { IsOkUnless result CordError.NoMemory }
 {
     match operands_of(statement) {
         None => Ok(None),

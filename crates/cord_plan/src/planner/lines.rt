@@ -1,65 +1,43 @@
 // The operation of a line.
-ghost use Rattle.std.specs.Prelude.{◌≡◌, Bool, false, IfOk, IsOkUnless, option_map};
+ghost use Rattle.std.specs.Prelude.{◌≡◌, Bool, IfOk, option_map};
 ghost use Rattle.cord_syntax.specs.Families.{statement_of};
 ghost use Rattle.cord_plan.specs.Exprs as plain;
 ghost use Rattle.cord_plan.specs.Planned as plan;
 ghost use Rattle.cord_plan.specs.Views.{expr_view, made_view, operation_view};
 
 use crate::{Expr, Made, Members, Operation};
-use cord_io::CordError;
 use cord_printf::Format;
 use cord_script::{Arguments, Name, Shared, Statement, Text};
 use cord_syntax::{Composition, Derivation, Family, Origin};
+use std::alloc::AllocError;
 
-/// The operation of a line whose expression is this one.
-///
-/// A line whose target is dead computes the length alone. Refused only with `NoMemory`.
+/// The operation of a line whose expression is this one, which it takes. A line whose target is dead, or whose expression
+/// a later line takes, computes the length alone.
 pub(crate) fn operation_of(
     statement: &Statement,
-    expression: Option<Expr>,
+    expression: &mut Option<Expr>,
     dead: bool,
-) -> Result<Operation, CordError>
+    paired: bool,
+) -> Result<Operation, AllocError>
     ensures made { IfOk result (λ o. operation_view o ≡ plan.operation statement.now
-        (plan.or_nothing (option_map expr_view expression)) dead false) }
-    ensures refused { IsOkUnless result CordError.NoMemory }
+        (plan.or_nothing (option_map expr_view expression.old)) dead paired) }
 {
     let line = statement.line();
     match statement.family() {
         Family::Composition(composition) => {
-            operation_of_composition(line, composition, expression, dead)
+            operation_of_composition(line, composition, expression, dead, paired)
         }
         Family::Put { .. } => Ok(Operation::Write {
             line,
-            expression: or_nothing(expression),
+            expression: or_nothing(expression.take()),
         }),
-        Family::Origin(origin) => {
-            drop(expression);
-            operation_of_origin(line, origin, dead)
-        }
-        Family::Derivation(derivation) => {
-            drop(expression);
-            operation_of_derivation(line, derivation, dead)
-        }
-        Family::Computation(computation) => {
-            drop(expression);
-            Ok(Operation::Keep(computation.copied(line)?))
-        }
-        Family::Look(look) => {
-            drop(expression);
-            Ok(Operation::Keep(look.copied(line)?))
-        }
-        Family::Search(sought) => {
-            drop(expression);
-            Ok(Operation::Keep(sought.copied(line)?))
-        }
-        Family::Growth(growth) => {
-            drop(expression);
-            Ok(Operation::Keep(growth.copied(line)?))
-        }
-        Family::Control(control) => {
-            drop(expression);
-            Ok(Operation::Keep(control.copied(line)?))
-        }
+        Family::Origin(origin) => operation_of_origin(line, origin, dead),
+        Family::Derivation(derivation) => operation_of_derivation(line, derivation, dead),
+        Family::Computation(computation) => Ok(Operation::Keep(computation.copied(line)?)),
+        Family::Look(look) => Ok(Operation::Keep(look.copied(line)?)),
+        Family::Search(sought) => Ok(Operation::Keep(sought.copied(line)?)),
+        Family::Growth(growth) => Ok(Operation::Keep(growth.copied(line)?)),
+        Family::Control(control) => Ok(Operation::Keep(control.copied(line)?)),
     }
 }
 
@@ -67,13 +45,13 @@ pub(crate) fn operation_of(
 fn operation_of_composition(
     line: u32,
     composition: Composition,
-    expression: Option<Expr>,
+    expression: &mut Option<Expr>,
     dead: bool,
-) -> Result<Operation, CordError>
+    paired: bool,
+) -> Result<Operation, AllocError>
     ensures made { IfOk result (λ o. operation_view o
         ≡ plan.operation (statement_of line (Family.Composition composition.entry))
-        (plan.or_nothing (option_map expr_view expression)) dead false) }
-    ensures refused { IsOkUnless result CordError.NoMemory }
+        (plan.or_nothing (option_map expr_view expression.old)) dead paired) }
 {
     match composition {
         Composition::Chars { target, .. }
@@ -82,17 +60,16 @@ fn operation_of_composition(
         | Composition::Catn { target, .. }
         | Composition::Catc { target, .. }
         | Composition::Substr { target, .. } => {
-            let made = Made::Joined(or_nothing(expression));
-            copied_assignment(dead, line, target, made)
+            let made = Made::Joined(or_nothing(expression.take()));
+            copied_assignment(dead || paired, line, target, made)
         }
     }
 }
 
 // The operation of a line that makes a cord of none.
-fn operation_of_origin(line: u32, origin: Origin, dead: bool) -> Result<Operation, CordError>
+fn operation_of_origin(line: u32, origin: Origin, dead: bool) -> Result<Operation, AllocError>
     ensures made { IfOk result (λ o. (e : plain.Expr) (paired : Bool) →
         operation_view o ≡ plan.operation (statement_of line (Family.Origin origin.entry)) e dead paired) }
-    ensures refused { IsOkUnless result CordError.NoMemory }
 {
     match origin {
         Origin::Let { target, text } => {
@@ -123,10 +100,9 @@ fn operation_of_derivation(
     line: u32,
     derivation: Derivation,
     dead: bool,
-) -> Result<Operation, CordError>
+) -> Result<Operation, AllocError>
     ensures made { IfOk result (λ o. (e : plain.Expr) (paired : Bool) →
         operation_view o ≡ plan.operation (statement_of line (Family.Derivation derivation.entry)) e dead paired) }
-    ensures refused { IsOkUnless result CordError.NoMemory }
 {
     match derivation {
         Derivation::Balance { target, operand } => {
@@ -149,9 +125,8 @@ fn printed(
     text: &Shared<Text>,
     format: &Shared<Format>,
     arguments: &Shared<Arguments>,
-) -> Result<Made, CordError>
+) -> Result<Made, AllocError>
     ensures made { IfOk result (λ m. made_view m ≡ plan.Printed text.now format.now arguments.now) }
-    ensures refused { IsOkUnless result CordError.NoMemory }
 {
     let (text, arguments) = (text.clone()?, arguments.clone()?);
     Ok(Made::Printed(text, format.clone()?, arguments))
@@ -163,15 +138,14 @@ fn copied_assignment(
     line: u32,
     target: &Name,
     made: Made,
-) -> Result<Operation, CordError>
+) -> Result<Operation, AllocError>
     ensures made { IfOk result (λ o. operation_view o ≡ plan.gives measures line target.now (made_view made)) }
-    ensures refused { IsOkUnless result CordError.NoMemory }
 {
     match target.clone() {
         Ok(target) => Ok(assignment(measures, line, target, made)),
         Err(error) => {
             drop(made);
-            Err(error.into())
+            Err(error)
         }
     }
 }

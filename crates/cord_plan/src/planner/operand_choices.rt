@@ -14,15 +14,15 @@ ghost use Rattle.cord_plan.specs.inner.ExpressionFacts.{IsFacts, AreFactsOf};
 ghost use Rattle.cord_plan.specs.inner.Liveness.{reports, IsReported};
 ghost use Rattle.cord_plan.specs.inner.Numbering.{IsNumbered};
 ghost use Rattle.cord_plan.specs.inner.Recent.{IsRecent};
-ghost use Rattle.cord_plan.specs.inner.Steps.{is_cat, is_last, is_named, made_expression, operation_expression};
-ghost use Rattle.cord_plan.specs.Views.{expr_view, made_view, operation_view};
+ghost use Rattle.cord_plan.specs.inner.Steps.{is_cat, is_last, is_named, table_view};
+ghost use Rattle.cord_plan.specs.Views.{expr_view};
 ghost use Rattle.std.specs.Str.{bytes_eq};
 
 use crate::flow::{LineNumbers, Recent, assigns, number_at};
 use crate::planner::expression_facts::{ExpressionFacts, Facts};
 use crate::planner::parts::room_left;
 use crate::planner::unchanged::{nearest, stays};
-use crate::{Expr, MAX_EXPR_PARTS, Made, Operation};
+use crate::{Expr, MAX_EXPR_PARTS};
 use cord_script::{Name, Statement};
 use cord_syntax::Operands;
 use std::alloc::{AllocError, Global};
@@ -154,35 +154,12 @@ fn stays_small(line: &Line, chosen: &[Choice], expression: &Expr, facts: Option<
     }
 }
 
-// The expression of the operation at a place, where it has one.
-fn expression_at(operations: &[Operation], place: usize) -> Option<&Expr>
-    ensures { option_map (λ e. expr_view e.now) result
-        ≡ expression_in (map operation_expression (map operation_view operations.now)) place }
+// The expression of the line at a place, where it has one.
+fn expression_at(expressions: &[Option<Expr>], place: usize) -> Option<&Expr>
+    ensures { option_map (λ e. expr_view e.now) result ≡ expression_in (table_view expressions.now) place }
 {
-    match operations.get(place) {
-        Some(operation) => expression_of(operation),
-        None => None,
-    }
-}
-
-// The expression of an operation, where it has one.
-fn expression_of(operation: &Operation) -> Option<&Expr>
-    ensures { option_map (λ e. expr_view e.now) result ≡ operation_expression (operation_view operation.now) }
-{
-    match operation {
-        Operation::Build { made, .. } => joined_of(made),
-        Operation::Measure { made, .. } => joined_of(made),
-        Operation::Write { expression, .. } => Some(expression),
-        Operation::Keep(_) => None,
-    }
-}
-
-// The expression that a name is made of, where it is one.
-fn joined_of(made: &Made) -> Option<&Expr>
-    ensures { option_map (λ e. expr_view e.now) result ≡ made_expression (made_view made.now) }
-{
-    match made {
-        Made::Joined(expression) => Some(expression),
+    match expressions.get(place) {
+        Some(Some(expression)) => Some(expression),
         _ => None,
     }
 }
@@ -208,17 +185,17 @@ fn stands(
 }
 
 /// What stands for the next operand of a line, after those that were chosen for, where the lines before it have these
-/// operations.
+/// expressions.
 pub(crate) fn choose<'a>(
     line: &Line,
     known: &ExpressionFacts,
     operand: &'a Name,
-    operations: &'a [Operation],
+    expressions: &'a [Option<Expr>],
     chosen: &[Choice],
 ) -> Choice<'a>
     requires numbers { IsNumbered line.now.recent.now.later.now.numbering line.now.statement.now line.now.numbers }
     requires known { AreFactsOf line.now.recent.now.later.now.numbering
-        (map operation_expression (map operation_view operations.now)) known.now }
+        (table_view expressions.now) known.now }
     requires place { line.now.place ≤ length line.now.statements.now }
     requires recent { IsRecent line.now.statements.now line.now.place line.now.recent.now }
     requires operands { simple_operands line.now.statement.now ≡ Some (operand_names line.now.operands) }
@@ -227,13 +204,13 @@ pub(crate) fn choose<'a>(
     requires reported { IsReported line.now.recent.now.later.now line.now.statement.now line.now.place }
     ensures { IsChoice line.now.statements.now (reports line.now.recent.now.later.now) line.now.place
         line.now.statement.now (operand_names line.now.operands) operand.now
-        (map operation_expression (map operation_view operations.now))
+        (table_view expressions.now)
         (map choice_view chosen.now) (choice_view result) }
 {
     let number = number_at(line.numbers.read, chosen.len());
     match nearest(line, number) {
         None => Choice::Named(operand),
-        Some(source) => match expression_at(operations, source) {
+        Some(source) => match expression_at(expressions, source) {
             None => Choice::Named(operand),
             Some(expression) => {
                 let later = line.recent.later;
@@ -285,16 +262,16 @@ pub(crate) fn is_named(choice: &Choice) -> bool
     }
 }
 
-/// What stands for each operand of a line, where the lines before it have these operations.
+/// What stands for each operand of a line, where the lines before it have these expressions.
 pub(crate) fn choose_all<'a>(
     alloc: Global,
     line: &Line<'a>,
     known: &ExpressionFacts,
     operands: &'a [Name],
-    operations: &'a [Operation],
+    expressions: &'a [Option<Expr>],
 ) -> Result<Vec<Choice<'a>>, AllocError>
     requires known { AreFactsOf line.now.recent.now.later.now.numbering
-        (map operation_expression (map operation_view operations.now)) known.now }
+        (table_view expressions.now) known.now }
     requires place { line.now.place ≤ length line.now.statements.now }
     requires recent { IsRecent line.now.statements.now line.now.place line.now.recent.now }
     requires listed { operand_names line.now.operands ≡ operands.now }
@@ -303,11 +280,11 @@ pub(crate) fn choose_all<'a>(
     requires reported { IsReported line.now.recent.now.later.now line.now.statement.now line.now.place }
     ensures { IfOk result (λ cs. AreChoices line.now.statements.now
         (reports line.now.recent.now.later.now) line.now.place line.now.statement.now
-        (map operation_expression (map operation_view operations.now)) (map choice_view cs.items)) }
+        (table_view expressions.now) (map choice_view cs.items)) }
 {
     let mut chosen = Vec::with_capacity(alloc, operands.len())?;
     for operand in operands {
-        let choice = choose(line, known, operand, operations, &chosen);
+        let choice = choose(line, known, operand, expressions, &chosen);
         chosen.push(choice)?;
     }
     Ok(chosen)

@@ -1,12 +1,12 @@
 // Walks over expressions: their parts, copies of them.
-ghost use Rattle.std.specs.Prelude.{◌≡◌, IfOk, IsOkUnless, map};
+ghost use Rattle.std.specs.Prelude.{◌≡◌, IfOk, map};
 ghost use Rattle.cord_plan.specs.Exprs.{parts, parts_of};
 ghost use Rattle.cord_plan.specs.inner.Choices.{room_left};
 ghost use Rattle.cord_plan.specs.Views.{expr_view, members_of, members_view, shared_view};
 
 use crate::planner::constructors::{named, run_of, sub_of};
 use crate::{Expr, Members};
-use cord_io::CordError;
+use std::alloc::AllocError;
 use std::rc::Rc;
 
 /// How much of a room is left after the parts of an expression, where they find room.
@@ -59,10 +59,9 @@ fn room_left_all(members: &[Rc<Expr>], room: u32) -> Option<u32>
     Some(rest)
 }
 
-/// A copy of an expression, which shares the members of a `cat` and what a `sub` is of. Refused only with `NoMemory`.
-pub(crate) fn copy(expression: &Expr) -> Result<Expr, CordError>
+/// A copy of an expression, which shares the members of a `cat` and what a `sub` is of.
+pub(crate) fn copy(expression: &Expr) -> Result<Expr, AllocError>
     ensures made { IfOk result (λ e. expr_view e ≡ expr_view expression.now) }
-    ensures refused { IsOkUnless result CordError.NoMemory }
 {
     match expression {
         Expr::Name(name) => named(name),

@@ -2,9 +2,11 @@ use Rattle.std.proofs.Common.{List, sym, subst}
 use Rattle.std.specs.Prelude.{All}
 use Rattle.cord_syntax.specs.declared.statements.Statement.{Statement}
 use Rattle.cord_plan.specs.Verbatim.{KeepsNoOther}
+use Rattle.cord_plan.specs.inner.Extensions.{AreExtending}
 use Rattle.cord_plan.specs.inner.Liveness.{reports}
 use Rattle.cord_plan.specs.Planned.{Operation}
 use Rattle.cord_plan.specs.Liveness.{IsLater}
+use Rattle.cord_plan.proofs.Extending.{all_extending}
 use Rattle.cord_plan.proofs.MeaningKept.{planned_keeps}
 use Rattle.cord_plan.proofs.OnlyKept.{kept_planned}
 use Rattle.cord_plan.proofs.planner.plan.Goals as goal
@@ -14,14 +16,17 @@ returns-clause-means c = λ g text read limit most files.
     let later = reports c.in_ok-later.later in
     let is : IsLater c.args.script.now later =
     subst (λ (s : List Statement). IsLater s later) c.statements-statements.ensures c.in_ok-later.ensures.later in
-    rw (c.of-2.ensures, c.in_ok-planned.ensures.made, c.statements-statements.ensures)
+    rw (c.of-2.ensures, c.in_ok-operations.ensures, c.statements-statements.ensures)
     (planned_keeps limit most files c.args.script.now g text later read is)
 
 pub of-requires-2 : goal.of-requires-2
 of-requires-2 c =
+    let s = c.statements-statements.result.now in
+    let later = reports c.in_ok-later.later in
     record {
-      kept = subst (λ (os : List Operation). All KeepsNoOther os) (sym c.in_ok-planned.ensures.made)
-          (kept_planned c.statements-statements.result.now (reports c.in_ok-later.later));
-      extending = c.in_ok-planned.ensures.extending;
+      kept = subst (λ (os : List Operation). All KeepsNoOther os) (sym c.in_ok-operations.ensures) (kept_planned s later);
+      extending = subst (λ (os : List Operation). AreExtending c.in_ok-expressions.field-0.extending.items os)
+          (sym c.in_ok-operations.ensures)
+          (all_extending s later c.in_ok-expressions.field-0.extending.items c.in_ok-expressions.ensures.extending);
       distinct = c.into_names.ensures;
     }

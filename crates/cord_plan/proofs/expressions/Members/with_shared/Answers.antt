@@ -4,9 +4,11 @@ use Rattle.cord_plan.specs.Views.{members_view}
 use Rattle.cord_plan.proofs.Sharing.{made_as, nothing_is}
 use Rattle.cord_plan.proofs.expressions.Members.with_shared.Goals as goal
 
-pub returns-then-is_nothing-clause-made : goal.returns-then-is_nothing-clause-made
-returns-then-is_nothing-clause-made c =
-    made_as c.shared.result _ _
-    (ap (λ (es : Exprs). append es (members_view c.args.others.now))
-    (sym (nothing_is (members_view c.args.self) (sym c.is_nothing.ensures ∙ c.if-is_nothing.true))))
-    c.shared.ensures.made
+pub returns-then-is_nothing : goal.returns-then-is_nothing
+returns-then-is_nothing c =
+    record {
+      made = made_as c.shared.result _ _
+          (ap (λ (es : Exprs). append es (members_view c.args.others.now))
+          (sym (nothing_is (members_view c.args.self) (sym c.is_nothing.ensures ∙ c.if-is_nothing.true))))
+          c.shared.ensures.made;
+    }

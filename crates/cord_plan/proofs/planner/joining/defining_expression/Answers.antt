@@ -9,8 +9,8 @@ use Rattle.cord_plan.specs.inner.Choices.{choice_view, simple_operands}
 use Rattle.cord_plan.proofs.Choices.{defining_named}
 use Rattle.cord_plan.proofs.planner.joining.defining_expression.Goals as goal
 
-pub returns-in_ok-choices-in-Some-Listed-clause-made : goal.returns-in_ok-choices-in-Some-Listed-clause-made
-returns-in_ok-choices-in-Some-Listed-clause-made c =
+pub returns-in_ok-choices-in-Some-Listed : goal.returns-in_ok-choices-in-Some-Listed
+returns-in_ok-choices-in-Some-Listed c =
     let l = c.args.statement.now in
     let xs = c.in-Some-Listed.names.now in
     let simple : simple_operands l ≡ Some xs =
@@ -18,5 +18,7 @@ returns-in_ok-choices-in-Some-Listed-clause-made c =
     ∙ ap (λ (o : Operands). Some (operand_names o)) c.in-Some-Listed.field-0-is) in
     let named : map choice_view c.deref.result.now ≡ map (λ x. plain.named x) xs =
     rw c.deref.ensures.value c.in_ok-choices-in-Some-Listed.ensures in
-    subst (λ (o : Option Expr). IfOk c.expression_with-in-Some-Listed.result (λ e. option_map expr_view e ≡ o))
-    (defining_named l xs (map choice_view c.deref.result.now) simple named) c.expression_with-in-Some-Listed.ensures.made
+    record {
+      made = subst (λ (o : Option Expr). IfOk c.expression_with-in-Some-Listed.result (λ e. option_map expr_view e ≡ o))
+          (defining_named l xs (map choice_view c.deref.result.now) simple named) c.expression_with-in-Some-Listed.ensures.made;
+    }

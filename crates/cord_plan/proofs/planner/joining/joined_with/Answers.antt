@@ -6,9 +6,11 @@ use Rattle.cord_plan.specs.Views.{members_view, shared_view}
 use Rattle.cord_plan.proofs.Joined.{joined_more}
 use Rattle.cord_plan.proofs.planner.joining.joined_with.Goals as goal
 
-pub returns-clause-made : goal.returns-clause-made
-returns-clause-made c =
-    c.in_ok-cat_of.ensures.made
-    ∙ joined_more (map (λ d. expr_of d) (map choice_view c.args.choices.now)) (members_view c.in_ok-members.members)
-    (members_view c.in_ok-all.all) (shared_view c.in_ok-byte.field-0) c.args.byte.now (Numeral (pos 1)) c.in_ok-members.ensures.made
-    c.in_ok-all.ensures.made c.in_ok-byte.ensures.made
+pub returns : goal.returns
+returns c =
+    record {
+      made = c.in_ok-cat_of.ensures.made
+          ∙ joined_more (map (λ d. expr_of d) (map choice_view c.args.choices.now)) (members_view c.in_ok-members.members)
+          (members_view c.in_ok-all.all) (shared_view c.in_ok-byte.field-0) c.args.byte.now (Numeral (pos 1)) c.in_ok-members.ensures.made
+          c.in_ok-all.ensures.made c.in_ok-byte.ensures.made;
+    }

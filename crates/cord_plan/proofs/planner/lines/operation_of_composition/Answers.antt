@@ -2,5 +2,5 @@ use Rattle.std.proofs.Common.{rules}
 use Rattle.cord_plan.proofs.planner.lines.operation_of_composition.Goals as goal
 
 -- a must-fail edit breaks it
-pub returns-clause-made : goal.returns-clause-made
-returns-clause-made c = search rules
+pub returns : goal.returns
+returns c = search rules

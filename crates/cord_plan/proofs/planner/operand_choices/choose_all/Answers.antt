@@ -7,8 +7,7 @@ use Rattle.cord_plan.specs.inner.Choices.{choice_view, IsChoice}
 use Rattle.cord_syntax.specs.Readings.{operand_names}
 use Rattle.cord_plan.specs.Inlined as plain
 use Rattle.cord_plan.specs.inner.Liveness.{reports}
-use Rattle.cord_plan.specs.inner.Steps.{operation_expression}
-use Rattle.cord_plan.specs.Views.{operation_view}
+use Rattle.cord_plan.specs.inner.Steps.{table_view}
 use Rattle.cord_plan.proofs.Choices.{more_chosen, simple_reads}
 use Rattle.cord_plan.proofs.planner.operand_choices.choose_all.Goals as goal
 
@@ -29,12 +28,12 @@ loop-operand-preserved c =
     let i = c.loop-operand.operand-index in
     let x = c.operand-item.result in
     let done = map choice_view c.loop-operand.chosen.items in
-    let made : IsChoice s later b l xs x (map operation_expression (map operation_view c.args.operations.now)) done
+    let made : IsChoice s later b l xs x (table_view c.args.expressions.now) done
     (choice_view c.choose-choice.result) =
-    subst (λ (ys : List (List ℕ)). IsChoice s later b l ys x (map operation_expression (map operation_view c.args.operations.now)) done
+    subst (λ (ys : List (List ℕ)). IsChoice s later b l ys x (table_view c.args.expressions.now) done
     (choice_view c.choose-choice.result)) c.requires.listed
     (subst (λ (cs : List Choice). IsChoice s later b l (operand_names line.operands) x
-    (map operation_expression (map operation_view c.args.operations.now))
+    (table_view c.args.expressions.now)
     (map choice_view cs) (choice_view c.choose-choice.result)) c.deref.ensures.value c.choose-choice.ensures) in
     let size : length done ≡ i = length-map c.loop-operand.chosen.items choice_view ∙ c.loop-operand.invariant.size in
     let long : length c.push.new.self.items ≡ length c.loop-operand.chosen.items + 1 =

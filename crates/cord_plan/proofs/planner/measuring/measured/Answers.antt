@@ -1,6 +1,0 @@
-use Rattle.std.proofs.Common.{rules}
-use Rattle.cord_plan.proofs.planner.measuring.measured.Goals as goal
-
--- a must-fail edit breaks it
-pub returns-in-Joined : goal.returns-in-Joined
-returns-in-Joined c = search rules
