@@ -92,20 +92,14 @@ fn drive_fused(
     drive_over(rt, words, FuseFiles::new(files, passes))
 }
 
-// The same both ways, where the files fail.
-fn expect_fused(rt: &(impl AllocGlobal + Abort), case: &Failing) {
-    let &(name, printed, count, passes, reported, most) = case;
-    let file = numbered(rt, count);
-    for &words in WAYS {
-        let come = drive_fused(rt, words, printed, &file, passes);
-        expect_failed(rt, name, &come, reported, &file, most);
-    }
-}
-
 #[test]
 fn drive_files_fail(rt: HostRuntime) {
-    for case in FAILING {
-        expect_fused(&rt, case);
+    for &(name, printed, count, passes, reported, most) in FAILING {
+        let file = numbered(&rt, count);
+        for &words in WAYS {
+            let come = drive_fused(&rt, words, printed, &file, passes);
+            expect_failed(&rt, name, &come, reported, &file, most);
+        }
     }
 }
 
@@ -169,14 +163,8 @@ fn blocks_by_entry(rt: HostRuntime) {
         r#"lazy x "a" ; lazy y "b" ; substr u x 550 10 ; substr v y 550 10 ; put u ; put v"#;
     for &words in WAYS {
         let come = drive_two(&rt, words, printed);
-        expect_come(
-            &rt,
-            "blocks-by-entry",
-            &come,
-            0,
-            b"aaaaaaaaaabbbbbbbbbb",
-            b"",
-        );
+        let written = b"aaaaaaaaaabbbbbbbbbb";
+        expect_come(&rt, "blocks-by-entry", &come, 0, written, b"");
     }
 }
 

@@ -153,58 +153,61 @@ fn expect_done(rt: &(impl AllocGlobal + Abort), hostile: &Hostile<'_>, run: &Fus
     assert!(rt; (run.files_failed, run.out.failures()) == (0, 0));
 }
 
-// Lets the files fail at each call until the run is done. The first two calls open and read the script.
-fn fuse_files(rt: &(impl AllocGlobal + Abort), hostile: &Hostile<'_>, words: &[&str], most: u64) {
-    for k in 0..1_000 {
-        let run = run_fused(rt, hostile, words, (k, u64::MAX), most);
-        if run.status == 0 {
-            expect_done(rt, hostile, &run);
-            assert!(rt; k >= 2);
-            return;
-        }
-        assert!(rt; run.status == 4);
-        let line = expect_stopped(
-            rt,
-            hostile,
-            run.status,
-            run.out.inner().bytes(),
-            run.err.bytes(),
-        );
-        assert!(rt; (line == 0) == (k < 2));
-        assert!(rt; (run.files_failed, run.out.failures()) == (1, 0));
-    }
-    panic!(rt; "not done");
-}
-
 // Whether so many calls that were served have taken these bytes of all: each call takes one of them at least, and so
 // many at most.
 fn is_taken_by(calls: u64, most: u64, out: usize, all: usize) -> bool {
     out as u64 >= calls.min(all as u64) && out as u64 <= calls.saturating_mul(most)
 }
 
-// Lets the output fail at each call until the run is done. The last call is that of the end.
-fn fuse_out(rt: &(impl AllocGlobal + Abort), hostile: &Hostile<'_>, words: &[&str], most: u64) {
-    let all = whole(rt, hostile);
-    for k in 0..1_000 {
-        let run = run_fused(rt, hostile, words, (u64::MAX, k), most);
-        if run.status == 0 {
-            expect_done(rt, hostile, &run);
-            return;
-        }
-        assert!(rt; run.status == 5);
-        let out = run.out.inner().bytes();
-        let line = expect_stopped(rt, hostile, run.status, out, run.err.bytes());
+// What is known of a run that a device stopped at its call `k`. The first two calls of the files open and read the
+// script, and the last call of the output is that of the end.
+fn expect_fused(
+    rt: &(impl AllocGlobal + Abort),
+    hostile: &Hostile<'_>,
+    run: &Fused,
+    k: u64,
+    most: u64,
+    by_out: bool,
+) {
+    let out = run.out.inner().bytes();
+    let line = expect_stopped(rt, hostile, run.status, out, run.err.bytes());
+    let failed = (run.files_failed, run.out.failures());
+    if by_out {
+        let all = whole(rt, hostile);
+        assert!(rt; run.status == 5 && failed == (0, 1));
         assert!(rt; (line == 0) == (out.len() == all.len()));
         assert!(rt; is_taken_by(k, most, out.len(), all.len()));
-        assert!(rt; (run.files_failed, run.out.failures()) == (0, 1));
+    } else {
+        assert!(rt; run.status == 4 && failed == (1, 0));
+        assert!(rt; (line == 0) == (k < 2));
+    }
+}
+
+// Lets the files, or the output, fail at each call until the run is done.
+fn fuse(
+    rt: &(impl AllocGlobal + Abort),
+    hostile: &Hostile<'_>,
+    words: &[&str],
+    most: u64,
+    by_out: bool,
+) {
+    for k in 0..1_000 {
+        let passes = if by_out { (u64::MAX, k) } else { (k, u64::MAX) };
+        let run = run_fused(rt, hostile, words, passes, most);
+        if run.status == 0 {
+            expect_done(rt, hostile, &run);
+            assert!(rt; by_out || k >= 2);
+            return;
+        }
+        expect_fused(rt, hostile, &run, k, most, by_out);
     }
     panic!(rt; "not done");
 }
 
 fn fuse_each(rt: &(impl AllocGlobal + Abort), hostile: &Hostile<'_>, most: u64) {
     for &words in WAYS {
-        fuse_files(rt, hostile, words, most);
-        fuse_out(rt, hostile, words, most);
+        fuse(rt, hostile, words, most, false);
+        fuse(rt, hostile, words, most, true);
     }
 }
 

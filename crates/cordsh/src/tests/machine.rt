@@ -6,27 +6,12 @@ use std::os::unix::fs::FileExt;
 use std::process::Abort;
 use std::{fs, rt};
 
-// A stream that takes all bytes and can't be flushed.
-#[derive(Drop)]
-struct Unflushed {
-    taken: Vec<u8>,
-}
-
-impl Write for Unflushed {
-    fn write(&mut self, buf: &[u8]) -> io::Result<usize> {
-        self.taken.write(buf)
-    }
-
-    fn flush(&mut self) -> io::Result<()> {
-        Err(io::Error::from(ErrorKind::StorageFull))
-    }
-}
-
-// A stream that empties a file of the machine whenever it takes bytes.
+// A stream that empties a file of the machine whenever it takes bytes, and can be flushed or not.
 #[derive(Drop)]
 struct Emptying<'a, R> {
     runtime: R,
     path: &'a str,
+    is_flushed: bool,
     taken: Vec<u8>,
 }
 
@@ -37,7 +22,11 @@ impl<R: rt::Files> Write for Emptying<'_, R> {
     }
 
     fn flush(&mut self) -> io::Result<()> {
-        Ok(())
+        if self.is_flushed {
+            Ok(())
+        } else {
+            Err(io::Error::from(ErrorKind::StorageFull))
+        }
     }
 }
 
@@ -138,6 +127,7 @@ fn file_cut_while_it_is_read(rt: HostRuntime) {
     let mut out = Emptying {
         runtime: rt.clone().expect(&rt, "no runtime"),
         path,
+        is_flushed: true,
         taken: Vec::new(rt.alloc()),
     };
     let (status, err) = run_over(&rt, &["cordsh_test_emptying"], &mut out);
@@ -149,13 +139,17 @@ fn file_cut_while_it_is_read(rt: HostRuntime) {
     assert!(rt; file.as_slice().starts_with(out.taken.as_slice()));
 }
 
-// A script that meets a fault, on a stream that can't be flushed: the failed write is named.
+// A script that meets a fault, on a stream that can't be flushed: the failed write is named. The script's own file is
+// emptied, which was read before.
 #[test]
 fn fault_into_a_sink_that_cannot_finish(rt: HostRuntime) {
     let path = "cordsh_test_fault";
     let script = lines(&rt, r#"let x "ab" ; put x ; fetch n x 2"#);
     write_file(&rt, path, &script);
-    let mut out = Unflushed {
+    let mut out = Emptying {
+        runtime: rt.clone().expect(&rt, "no runtime"),
+        path,
+        is_flushed: false,
         taken: Vec::new(rt.alloc()),
     };
     let (status, err) = run_over(&rt, &[path], &mut out);

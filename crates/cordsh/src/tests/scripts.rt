@@ -72,13 +72,6 @@ const SCRIPTS: &[Script] = &[
     ),
 ];
 
-#[test]
-fn scripts(rt: HostRuntime) {
-    for &(name, script, status, written, reported) in SCRIPTS {
-        expect_both(&rt, name, script, status, written, reported);
-    }
-}
-
 // A name, a text and so many copies of a byte after it, which are the script, the status and what is reported.
 type Size = (&'static str, &'static [u8], u8, usize, u8, &'static [u8]);
 
@@ -112,16 +105,13 @@ const SIZES: &[Size] = &[
 ];
 
 #[test]
-fn sizes(rt: HostRuntime) {
+fn scripts_and_sizes(rt: HostRuntime) {
+    for &(name, script, status, written, reported) in SCRIPTS {
+        expect_both(&rt, name, script, status, written, reported);
+    }
     for &(name, text, byte, count, status, reported) in SIZES {
-        expect_both(
-            &rt,
-            name,
-            &filled(&rt, text, byte, count),
-            status,
-            b"",
-            reported,
-        );
+        let script = filled(&rt, text, byte, count);
+        expect_both(&rt, name, &script, status, b"", reported);
     }
 }
 
@@ -137,27 +127,24 @@ fn names(rt: &(impl AllocGlobal + Abort)) -> Vec<u8> {
     script
 }
 
-// Appends 200 lines, which make substrings of a text.
-fn add_substrings(rt: &(impl AllocGlobal + Abort), script: &mut Vec<u8>) {
+// Appends 200 lines, which make substrings of a text, or fetch the first byte of each.
+fn add_lines(rt: &(impl AllocGlobal + Abort), script: &mut Vec<u8>, is_fetch: bool) {
+    let alloc = rt.alloc();
     for k in 1..=200 {
-        let line = format!(in rt.alloc(); "substr y{k} x {k} 2147483000\n").expect(rt, "no memory");
-        add(rt, script, line.as_bytes());
-    }
-}
-
-// Appends 200 lines, which fetch the first byte of each.
-fn add_fetches(rt: &(impl AllocGlobal + Abort), script: &mut Vec<u8>) {
-    for k in 1..=200 {
-        let line = format!(in rt.alloc(); "fetch n y{k} 0\n").expect(rt, "no memory");
-        add(rt, script, line.as_bytes());
+        let line = if is_fetch {
+            format!(in alloc; "fetch n y{k} 0\n")
+        } else {
+            format!(in alloc; "substr y{k} x {k} 2147483000\n")
+        };
+        add(rt, script, line.expect(rt, "no memory").as_bytes());
     }
 }
 
 // A text of two gigabytes, 200 substrings of it, and the first byte of each.
 fn substrings(rt: &(impl AllocGlobal + Abort)) -> Vec<u8> {
     let mut script = lines(rt, r#"let x "ab" ; repeat 30 ; cat x x x ; end"#);
-    add_substrings(rt, &mut script);
-    add_fetches(rt, &mut script);
+    add_lines(rt, &mut script, false);
+    add_lines(rt, &mut script, true);
     add(rt, &mut script, b"sprintf z \"%d\" n\nput z\n");
     script
 }

@@ -184,21 +184,14 @@ const SERVED: &[Case] = &[
     ),
 ];
 
-fn expect_cases(rt: &(impl AllocGlobal + Abort), cases: &[Case]) {
-    for &(name, words, script, status, written, reported) in cases {
-        let come = drive_over(rt, words, files_with(rt, script));
-        expect_come(rt, name, &come, status, written, reported);
+#[test]
+fn words(rt: HostRuntime) {
+    for cases in [REFUSALS, SERVED] {
+        for &(name, words, script, status, written, reported) in cases {
+            let come = drive_over(&rt, words, files_with(&rt, script));
+            expect_come(&rt, name, &come, status, written, reported);
+        }
     }
-}
-
-#[test]
-fn words_refused(rt: HostRuntime) {
-    expect_cases(&rt, REFUSALS);
-}
-
-#[test]
-fn words_served(rt: HostRuntime) {
-    expect_cases(&rt, SERVED);
 }
 
 // What the words write to an output in memory, with status 0 and nothing reported.

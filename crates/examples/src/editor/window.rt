@@ -9,17 +9,40 @@ const BESIDE: u64 = 2;
 /// The line that holds the byte at a place, and those beside it, each after its number; `>` marks the line itself.
 pub fn window_of(alloc: Global, text: &Text, place: u64) -> Result<Text, CordError> {
     let index = LineIndex::of(alloc, text)?;
-    let at = index.line_of(text, place);
     let mut window = TextBuilder::new(alloc)?;
+    push_lines(alloc, &mut window, text, &index, index.line_of(text, place))?;
+    Ok(window.to_text(alloc)?)
+}
+
+/// Adds a line and those beside it to a window.
+fn push_lines(
+    alloc: Global,
+    window: &mut TextBuilder,
+    text: &Text,
+    index: &LineIndex,
+    at: u64,
+) -> Result<(), CordError> {
     for number in at.saturating_sub(BESIDE)..at.saturating_add(BESIDE + 1) {
         let Some(line) = index.line(alloc, text, number)? else {
             break;
         };
         let mark = if number == at { '>' } else { ' ' };
-        let head = format!(in alloc; "{number}{mark}")?;
-        window.push_bytes(alloc, head.as_str().as_bytes())?;
-        window.push_text(alloc, &line)?;
-        window.push(alloc, b'\n')?;
+        push_line(alloc, window, number, mark, &line)?;
     }
-    window.to_text(alloc)
+    Ok(())
+}
+
+/// Adds a line after its number and its mark to a window.
+fn push_line(
+    alloc: Global,
+    window: &mut TextBuilder,
+    number: u64,
+    mark: char,
+    line: &Text,
+) -> Result<(), CordError> {
+    let head = format!(in alloc; "{number}{mark}")?;
+    window.push_bytes(alloc, head.as_bytes())?;
+    window.push_text(alloc, line)?;
+    window.push(alloc, b'\n')?;
+    Ok(())
 }

@@ -52,27 +52,15 @@ impl<'a> Source for ByteSource<'a> {
     }
 }
 
-impl<'a> ByteSource<'a> {
-    // A source of these bytes, which can be read so often.
-    pub(super) fn new(bytes: &'a [u8], reads: u64) -> ByteSource<'a>
-        ensures { result.bytes.now ≡ bytes.now }
-    {
-        ByteSource {
-            bytes,
-            cut: u64::MAX,
-            reads,
-            failures: 0,
-        }
-    }
-}
-
 // Six hundred bytes, which can be read so often, and those before a place alone.
-pub(super) fn six_hundred(case: (u64, u64)) -> ByteSource<'static>
+pub(super) fn six_hundred(given: (u64, u64)) -> ByteSource<'static>
     ensures { 600 ≤ length result.bytes.now }
 {
-    let (reads, cut) = case;
+    let (reads, cut) = given;
     ByteSource {
+        bytes: &[120; 600],
         cut,
-        ..ByteSource::new(&[120; 600], reads)
+        reads,
+        failures: 0,
     }
 }

@@ -1,11 +1,22 @@
 // Calls that make a cord of another one, and what a cord is.
 use super::cases::expect_case;
 use super::made::{Parts, made};
-use super::trees::{expect_text, run_fields};
-use cord_core::{Cord, Node};
+use super::trees::{Shape, expect_text, is_cord, share_of};
+use cord_core::Cord;
+use cord_ec::ExtCord;
 use cord_io::CordError;
+use cord_printf::{Arg, Format, sprintf};
 use std::alloc::Global;
 use std::process::Abort;
+
+// What is done to an extensible cord.
+pub(super) enum Growth {
+    Byte(u8),
+    // The cord that it is made of is appended.
+    It,
+    // A cord is made of it.
+    ToCord,
+}
 
 // What is made of a cord.
 #[derive(Clone, Copy)]
@@ -28,41 +39,16 @@ pub(super) enum Call {
     FromEnd(u64, u64),
     Share,
     Balance,
-}
-
-// What a cord is.
-#[derive(Clone, Copy)]
-pub(super) enum Shape {
-    // No byte and no node.
-    Nothing,
-    // One leaf of these bytes, its start and its length.
-    Leaf(&'static [u8], u64, u64),
-    // So many times a byte.
-    Run(u8, u64),
-    // Leaves and runs of this text.
-    Text(&'static [u8]),
-    // So long and so deep.
-    Size(u64, u32),
-}
-
-// The bytes, the start and the length of a cord that is one leaf.
-pub(super) fn leaf_fields(cord: &Cord) -> Option<(&[u8], u64, u64)> {
-    match cord.root()?.as_ref() {
-        Node::Leaf {
-            bytes,
-            start,
-            len,
-            ..
-        } => Some((bytes.as_slice(), *start, *len)),
-        _ => None,
-    }
+    // What an extensible cord that grew so has in the end.
+    Grown(&'static [Growth]),
+    // What a format of two conversions prints of it and of it again.
+    Printed(&'static [u8]),
 }
 
 fn copies(rt: &impl Abort, alloc: Global, cord: &Cord, count: usize) -> Vec<Cord> {
     let mut all = Vec::new(alloc);
     for _ in 0..count {
-        let copy = cord.share(alloc).expect(rt, "no memory");
-        all.push(copy).expect(rt, "no memory");
+        all.push(share_of(rt, alloc, cord)).expect(rt, "no memory");
     }
     all
 }
@@ -73,6 +59,27 @@ fn repeated(alloc: Global, cord: &Cord, count: u32) -> Result<Cord, CordError> {
         all = Cord::cat(alloc, &all, cord)?;
     }
     Ok(all)
+}
+
+fn grown(rt: &impl Abort, alloc: Global, cord: &Cord, steps: &[Growth]) -> Result<Cord, CordError> {
+    let mut ext = ExtCord::new(alloc).expect(rt, "no memory");
+    for step in steps {
+        match step {
+            Growth::Byte(byte) => ext.append(alloc, *byte).expect(rt, "no memory"),
+            Growth::It => ext.append_cord(alloc, cord).expect(rt, "no memory"),
+            Growth::ToCord => drop(ext.to_cord(alloc).expect(rt, "no memory")),
+        }
+    }
+    ext.to_cord(alloc)
+}
+
+fn printed(rt: &impl Abort, alloc: Global, cord: &Cord, format: &[u8]) -> Cord {
+    let format = Format::parse(alloc, format).expect(rt, "no memory");
+    let args = [
+        Arg::Cord(share_of(rt, alloc, cord)),
+        Arg::Cord(share_of(rt, alloc, cord)),
+    ];
+    sprintf(alloc, &format, &args).expect(rt, "no memory")
 }
 
 pub(super) fn answer_of(
@@ -97,6 +104,8 @@ pub(super) fn answer_of(
         Call::FromEnd(back, count) => cord.substr(alloc, cord.len().saturating_sub(back), count),
         Call::Share => cord.share(alloc),
         Call::Balance => cord.balance(alloc),
+        Call::Grown(steps) => grown(rt, alloc, cord, steps),
+        Call::Printed(format) => Ok(printed(rt, alloc, cord, format)),
     }
 }
 
@@ -109,22 +118,8 @@ pub(super) fn after(rt: &impl Abort, alloc: Global, first: Cord, calls: &[Call])
     cord
 }
 
-fn is_nothing(cord: &Cord) -> bool {
-    cord.root().is_none() && cord.len() == 0 && cord.depth() == 0
-}
-
-fn has_shape(cord: &Cord, shape: Shape) -> bool {
-    match shape {
-        Shape::Nothing => is_nothing(cord),
-        Shape::Leaf(bytes, start, len) => leaf_fields(cord) == Some((bytes, start, len)),
-        Shape::Run(byte, len) => run_fields(cord) == Some((byte, len)),
-        Shape::Text(text) => cord.len() == text.len() as u64,
-        Shape::Size(len, depth) => cord.len() == len && cord.depth() == depth,
-    }
-}
-
-pub(super) fn expect_shape(rt: &impl Abort, alloc: Global, name: &str, cord: &Cord, shape: Shape) {
-    expect_case(rt, has_shape(cord, shape), name, cord.len());
+pub(super) fn expect_shape(rt: &impl Abort, alloc: Global, name: &str, cord: &Cord, shape: &Shape) {
+    expect_case(rt, is_cord(cord, shape), name, cord.len());
     if let Shape::Text(text) = shape {
         expect_text(rt, alloc, cord, text);
     }

@@ -1,9 +1,9 @@
 // Cases of worked examples, and what sharing shows.
-use super::calls::{Call, Shape, after, answer_of, expect_shape, leaf_fields};
+use super::calls::{Call, after, answer_of, expect_shape};
 use super::cases::expect_case;
 use super::made::{Part, Parts, made};
-use super::trees::{cord_of, func_fields, is_one, joined, part_of, run_of};
-use Call::{Balance, Cat, CatBytes, CatChar, CatTo, Catn, Share, Substr};
+use super::trees::{Shape, balanced, cord_of, is_one, joined, part_of, run_of};
+use Call::{Balance, Cat, CatBytes, CatChar, CatTo, Catn, Share, Substr, Times};
 use Part::{Leaf, Run};
 use Shape::{Nothing, Size, Text};
 use cord_core::{Cord, Node};
@@ -62,7 +62,7 @@ const MADE: &[(&str, Parts, &[Call], Shape)] = &[
 
 #[test]
 fn cases_of_cords(rt: HostRuntime) {
-    for &(name, parts, calls, shape) in MADE {
+    for (name, parts, calls, shape) in MADE {
         let cord = after(&rt, rt.alloc(), made(&rt, rt.alloc(), parts), calls);
         expect_shape(&rt, rt.alloc(), name, &cord, shape);
     }
@@ -73,25 +73,18 @@ const SHARED: &[(&str, Parts, Call)] = &[
     ("share", ABCCDEF, Share),
     ("substr", ABCCDEF, Substr(0, 7)),
     ("catn", ABCCDEF, Catn(1)),
+    ("cat", ABCCDEF, Cat(&[])),
     ("cat", ABCCDEF, CatTo(&[])),
     ("balance", &[Leaf(&[7; 100]), Run(0, 1000)], Balance),
 ];
 
-// That a call gives the very cord that it was given.
-fn expect_one(rt: &impl Abort, call: &str, answer: &Cord, cord: &Cord) {
-    expect_case(rt, is_one(answer, cord), call, cord.len());
-}
-
-fn expect_itself(rt: &impl Abort, alloc: Global, name: &str, parts: Parts, call: Call) {
-    let cord = made(rt, alloc, parts);
-    let answer = answer_of(rt, alloc, &cord, call).expect(rt, "no cord");
-    expect_one(rt, name, &answer, &cord);
-}
-
 #[test]
 fn whole_cords_are_shared(rt: HostRuntime) {
+    let alloc = rt.alloc();
     for &(name, parts, call) in SHARED {
-        expect_itself(&rt, rt.alloc(), name, parts, call);
+        let cord = made(&rt, alloc, parts);
+        let answer = answer_of(&rt, alloc, &cord, call).expect(&rt, "no cord");
+        expect_case(&rt, is_one(&answer, &cord), name, cord.len());
     }
 }
 
@@ -102,41 +95,25 @@ const TOO_LONG: &[(&str, Call)] = &[
     ("cat_bytes", CatBytes(b"a")),
 ];
 
-fn is_too_long(answer: Result<Cord, CordError>) -> bool {
-    answer.err() == Some(CordError::TooLong)
-}
-
-fn expect_too_long(rt: &impl Abort, alloc: Global, name: &str, call: Call) {
-    let longest = made(rt, alloc, LONGEST);
-    let refused = is_too_long(answer_of(rt, alloc, &longest, call));
-    expect_case(rt, refused, name, MAX_LEN);
-    expect_shape(rt, alloc, name, &longest, Shape::Run(0, MAX_LEN));
-}
-
 #[test]
 fn too_long_unchanged(rt: HostRuntime) {
-    for &(name, call) in TOO_LONG {
-        expect_too_long(&rt, rt.alloc(), name, call);
-    }
-}
-
-// That two cords are the longest run and "a".
-fn expect_both(rt: &impl Abort, alloc: Global, cords: &[Cord; 2]) {
-    expect_shape(rt, alloc, "first", &cords[0], Shape::Run(0, MAX_LEN));
-    expect_shape(rt, alloc, "second", &cords[1], Shape::Leaf(b"a", 0, 1));
-}
-
-#[test]
-fn too_many_bytes(rt: HostRuntime) {
     let alloc = rt.alloc();
-    let refused = is_too_long(Cord::chars(alloc, 0, MAX_LEN + 1));
-    expect_case(&rt, refused, "chars", MAX_LEN);
+    let too_long = Some(CordError::TooLong);
+    for &(name, call) in TOO_LONG {
+        let longest = made(&rt, alloc, LONGEST);
+        let refused = answer_of(&rt, alloc, &longest, call).err();
+        expect_case(&rt, refused == too_long, name, MAX_LEN);
+        expect_shape(&rt, alloc, name, &longest, &Shape::Run(0, MAX_LEN));
+    }
+    let refused = Cord::chars(alloc, 0, MAX_LEN + 1).err();
+    expect_case(&rt, refused == too_long, "chars", MAX_LEN);
     let cords = [run_of(&rt, alloc, 0, MAX_LEN), cord_of(&rt, alloc, b"a")];
-    let refused = is_too_long(Cord::catn(alloc, &cords));
-    expect_case(&rt, refused, "catn", MAX_LEN);
-    let refused = is_too_long(Cord::cat(alloc, &cords[0], &cords[1]));
-    expect_case(&rt, refused, "cat", MAX_LEN);
-    expect_both(&rt, alloc, &cords);
+    let refused = Cord::catn(alloc, &cords).err();
+    expect_case(&rt, refused == too_long, "catn", MAX_LEN);
+    let refused = Cord::cat(alloc, &cords[0], &cords[1]).err();
+    expect_case(&rt, refused == too_long, "cat", MAX_LEN);
+    expect_shape(&rt, alloc, "first", &cords[0], &Shape::Run(0, MAX_LEN));
+    expect_shape(&rt, alloc, "second", &cords[1], &Shape::Leaf(b"a", 0, 1));
 }
 
 // A cord of a shared slice.
@@ -145,37 +122,23 @@ fn shared_cord(rt: &impl Abort, alloc: Global, bytes: &[u8]) -> Cord {
     Cord::from_shared(alloc, shared).expect(rt, "no memory")
 }
 
-// A part of a function.
-fn func_of(rt: &impl Abort, alloc: Global, id: u32, start: u64, count: u64) -> Cord {
-    assert!(rt; start <= 10 && count <= 10);
-    Cord::from_fn(alloc, SourceId(id), start, count).expect(rt, "no memory")
-}
-
 #[test]
-fn nothing_has_no_root(rt: HostRuntime) {
+fn cords_by_one_call(rt: HostRuntime) {
     let alloc = rt.alloc();
-    let nothing = [
-        Cord::empty(),
-        cord_of(&rt, alloc, b""),
-        shared_cord(&rt, alloc, b""),
-        run_of(&rt, alloc, 1, 0),
-        func_of(&rt, alloc, 9, 5, 0),
+    let no_byte = Cord::from_fn(alloc, SourceId(9), 5, 0).expect(&rt, "no memory");
+    let digits = Cord::from_fn(alloc, SourceId(0), 8, 3).expect(&rt, "no memory");
+    let cases = [
+        (Cord::empty(), Nothing),
+        (cord_of(&rt, alloc, b""), Nothing),
+        (shared_cord(&rt, alloc, b""), Nothing),
+        (run_of(&rt, alloc, 1, 0), Nothing),
+        (no_byte, Nothing),
+        (digits, Shape::Func(0, 8, 3)),
+        (shared_cord(&rt, alloc, b"abc"), Shape::Leaf(b"abc", 0, 3)),
     ];
-    for cord in &nothing {
-        expect_shape(&rt, alloc, "nothing_has_no_root", cord, Nothing);
+    for (cord, shape) in &cases {
+        expect_shape(&rt, alloc, "a cord by one call", cord, shape);
     }
-}
-
-#[test]
-fn digits_of_a_function(rt: HostRuntime) {
-    let digits = func_of(&rt, rt.alloc(), 0, 8, 3);
-    assert!(rt; func_fields(&digits) == Some((SourceId(0), 8, 3)));
-}
-
-#[test]
-fn a_shared_slice_is_a_leaf(rt: HostRuntime) {
-    let shared = shared_cord(&rt, rt.alloc(), b"abc");
-    assert!(rt; leaf_fields(&shared) == Some((b"abc", 0, 3)));
 }
 
 #[test]
@@ -183,13 +146,10 @@ fn parts_are_shared(rt: HostRuntime) {
     let alloc = rt.alloc();
     let part = cord_of(&rt, alloc, &[7; 100]);
     let cord = joined(&rt, alloc, &part, &run_of(&rt, alloc, 0, 1000));
-    expect_one(&rt, "substr", &part_of(&rt, alloc, &cord, 0, 100), &part);
+    let prefix = part_of(&rt, alloc, &cord, 0, 100);
+    expect_case(&rt, is_one(&prefix, &part), "substr", 100);
     let equal = cord_of(&rt, alloc, &[7; 100]);
     expect_case(&rt, !is_one(&equal, &part), "two leaves", 100);
-}
-
-fn balanced(rt: &impl Abort, alloc: Global, cord: &Cord) -> Cord {
-    cord.balance(alloc).expect(rt, "no memory")
 }
 
 // Whether a tree is this node, over and over.
@@ -211,59 +171,33 @@ fn repeats(cord: &Cord, piece: &Cord) -> bool {
     }
 }
 
-// Two leaves that are one, and this so often more after it.
-fn repeated(rt: &impl Abort, alloc: Global, piece: &Cord) -> Cord {
-    let mut cord = joined(rt, alloc, piece, &Cord::empty());
-    for _ in 0..40 {
-        cord = joined(rt, alloc, &cord, piece);
-    }
-    cord
-}
-
 #[test]
 fn subtrees_are_shared(rt: HostRuntime) {
     let alloc = rt.alloc();
     let leaf = cord_of(&rt, alloc, &[7; 100]);
     let piece = joined(&rt, alloc, &leaf, &leaf);
-    let cord = repeated(&rt, alloc, &piece);
+    let cord = answer_of(&rt, alloc, &piece, Times(41)).expect(&rt, "no cord");
     assert!(rt; cord.depth() == 41);
     assert!(rt; repeats(&part_of(&rt, alloc, &cord, 200, 6000), &piece));
     assert!(rt; repeats(&part_of(&rt, alloc, &cord, 100, 7900), &leaf));
-}
-
-#[test]
-fn balanced_subtrees_are_shared(rt: HostRuntime) {
-    let alloc = rt.alloc();
-    let leaf = cord_of(&rt, alloc, &[7; 100]);
-    let piece = joined(&rt, alloc, &leaf, &leaf);
-    let once = balanced(&rt, alloc, &repeated(&rt, alloc, &piece));
+    let once = balanced(&rt, alloc, &cord);
     assert!(rt; once.depth() < 20);
     assert!(rt; repeats(&once, &piece));
-    let again = balanced(&rt, alloc, &once);
-    expect_one(
-        &rt,
-        "substr",
-        &part_of(&rt, alloc, &again, 200, 200),
-        &piece,
-    );
+    let part = part_of(&rt, alloc, &balanced(&rt, alloc, &once), 200, 200);
+    expect_case(&rt, is_one(&part, &piece), "substr", 200);
 }
 
 // One byte, and 38 times over what there is, a byte, and what there is; it never is deeper than 60.
-fn doubled(rt: &impl Abort, alloc: Global) -> Cord {
-    let one = run_of(rt, alloc, 66, 1);
-    let mut cord = run_of(rt, alloc, 65, 1);
-    for _ in 0..38 {
-        let longer = joined(rt, alloc, &cord, &one);
-        cord = joined(rt, alloc, &longer, &cord);
-        assert!(rt; cord.depth() <= 60);
-    }
-    cord
-}
-
 #[test]
 fn a_shared_subtree_is_balanced_once(rt: HostRuntime) {
     let alloc = rt.alloc();
-    let cord = doubled(&rt, alloc);
+    let one = run_of(&rt, alloc, 66, 1);
+    let mut cord = run_of(&rt, alloc, 65, 1);
+    for _ in 0..38 {
+        let longer = joined(&rt, alloc, &cord, &one);
+        cord = joined(&rt, alloc, &longer, &cord);
+        assert!(rt; cord.depth() <= 60);
+    }
     assert!(rt; cord.len() == 549_755_813_887);
     assert!(rt; balanced(&rt, alloc, &cord).depth() <= 57);
 }

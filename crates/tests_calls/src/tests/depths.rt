@@ -1,6 +1,6 @@
 // How deep ropes are, by the order in which they were built, and after many edits.
 use super::cases::expect_case;
-use super::trees::{cord_of, joined, part_of};
+use super::trees::{balanced, cord_of, joined, part_of, splice};
 use cord_balance::slot_of;
 use cord_core::Cord;
 use cord_io::{MAX_DEPTH, MAX_LEN};
@@ -9,7 +9,6 @@ use std::alloc::Global;
 use std::process::Abort;
 
 // Where the next leaf goes.
-#[derive(Clone, Copy)]
 enum Order {
     Append,
     Prepend,
@@ -30,10 +29,6 @@ const ORDERS: &[(Order, u64, u32, u32)] = &[
     (Order::Turns, 8_389, 27, 19),
 ];
 
-fn balance_of(rt: &impl Abort, alloc: Global, cord: &Cord) -> Cord {
-    cord.balance(alloc).expect(rt, "no memory")
-}
-
 // How many parts a node has, counted one by one.
 fn counted(node: &Node) -> u64 {
     match node {
@@ -44,8 +39,8 @@ fn counted(node: &Node) -> u64 {
 
 // That a cord has so many parts as it stores, and is no deeper than their slot once it is balanced.
 fn expect_shallow(rt: &impl Abort, alloc: Global, cord: &Cord, name: &str) {
-    let balanced = balance_of(rt, alloc, cord);
-    let parts = match balanced.root() {
+    let shallow = balanced(rt, alloc, cord);
+    let parts = match shallow.root() {
         None => 0,
         Some(node) => {
             let parts = counted(node);
@@ -54,12 +49,12 @@ fn expect_shallow(rt: &impl Abort, alloc: Global, cord: &Cord, name: &str) {
         }
     };
     assert!(rt; 0 < parts && parts <= MAX_LEN);
-    expect_case(rt, balanced.depth() <= slot_of(parts), name, parts);
+    expect_case(rt, shallow.depth() <= slot_of(parts), name, parts);
     expect_case(rt, cord.depth() <= MAX_DEPTH, name, parts);
 }
 
 // So many leaves in an order.
-fn grown(rt: &impl Abort, alloc: Global, order: Order, count: u64) -> Cord {
+fn grown(rt: &impl Abort, alloc: Global, order: &Order, count: u64) -> Cord {
     let leaf = cord_of(rt, alloc, &[7; 65]);
     let mut cord = Cord::empty();
     for turn in 0..count {
@@ -80,15 +75,11 @@ fn grown(rt: &impl Abort, alloc: Global, order: Order, count: u64) -> Cord {
 #[test]
 fn grown_ropes(rt: HostRuntime) {
     let alloc = rt.alloc();
-    for (order, count, depth, balanced) in ORDERS {
-        let cord = grown(&rt, alloc, *order, *count);
+    for (order, count, depth, shallow) in ORDERS {
+        let cord = grown(&rt, alloc, order, *count);
         expect_case(&rt, cord.depth() == *depth, "grown", *count);
-        expect_case(
-            &rt,
-            balance_of(&rt, alloc, &cord).depth() == *balanced,
-            "balanced",
-            *count,
-        );
+        let reached = balanced(&rt, alloc, &cord).depth();
+        expect_case(&rt, reached == *shallow, "balanced", *count);
         expect_shallow(&rt, alloc, &cord, "grown and balanced");
     }
 }
@@ -100,20 +91,11 @@ fn doubled_ropes(rt: HostRuntime) {
     let mut cord = cord_of(&rt, alloc, &[7; 65]);
     for turn in 0..12 {
         expect_case(&rt, cord.depth() == turn, "doubled", cord.len());
-        expect_case(
-            &rt,
-            balance_of(&rt, alloc, &cord).depth() == turn,
-            "balanced",
-            cord.len(),
-        );
+        let reached = balanced(&rt, alloc, &cord).depth();
+        expect_case(&rt, reached == turn, "balanced", cord.len());
         cord = joined(&rt, alloc, &cord, &cord);
     }
     expect_shallow(&rt, alloc, &cord, "doubled");
-}
-
-// A place that looks random.
-fn place_of(turn: u64, len: u64) -> u64 {
-    turn.wrapping_mul(7_919_003) % len.max(1)
 }
 
 // Words put in at random places, by cutting and joining.
@@ -122,9 +104,9 @@ fn inserted_at_random(rt: HostRuntime) {
     let alloc = rt.alloc();
     let word = cord_of(&rt, alloc, b"ten bytes.");
     let mut cord = cord_of(&rt, alloc, &[7; 10_000]);
-    for turn in 0..2_000 {
+    for turn in 0..2_000u64 {
         let len = cord.len();
-        let place = place_of(turn, len);
+        let place = turn.wrapping_mul(7_919_003) % len.max(1);
         let prefix = joined(&rt, alloc, &part_of(&rt, alloc, &cord, 0, place), &word);
         cord = joined(&rt, alloc, &prefix, &part_of(&rt, alloc, &cord, place, len));
     }
@@ -132,18 +114,19 @@ fn inserted_at_random(rt: HostRuntime) {
     expect_shallow(&rt, alloc, &cord, "inserted at random");
 }
 
-fn splice(rt: &impl Abort, alloc: Global, cord: &mut Cord, start: u64, count: u64, middle: &Cord) {
-    cord.splice(alloc, start, count, middle)
-        .expect(rt, "no memory");
-}
-
 #[test]
 fn edited_at_one_place(rt: HostRuntime) {
     let alloc = rt.alloc();
     let byte = cord_of(&rt, alloc, b"x");
-    let mut cord = grown(&rt, alloc, Order::Append, 1_000);
+    let mut cord = grown(&rt, alloc, &Order::Append, 1_000);
     for turn in 0..100_000u64 {
-        splice(&rt, alloc, &mut cord, turn.saturating_add(32_000), 0, &byte);
+        splice(
+            &rt,
+            alloc,
+            &mut cord,
+            (turn.saturating_add(32_000), 0),
+            &byte,
+        );
     }
     assert!(rt; cord.len() == 165_000);
     expect_shallow(&rt, alloc, &cord, "edited at one place");
@@ -158,13 +141,13 @@ fn edited_at_one_place(rt: HostRuntime) {
 fn edited_at_random(rt: HostRuntime) {
     let alloc = rt.alloc();
     let byte = cord_of(&rt, alloc, b"x");
-    let mut cord = grown(&rt, alloc, Order::Append, 1_000);
-    for turn in 0..100_000 {
-        let place = place_of(turn, cord.len());
+    let mut cord = grown(&rt, alloc, &Order::Append, 1_000);
+    for turn in 0..100_000u64 {
+        let place = turn.wrapping_mul(7_919_003) % cord.len().max(1);
         if turn % 2 == 0 {
-            splice(&rt, alloc, &mut cord, place, 0, &byte);
+            splice(&rt, alloc, &mut cord, (place, 0), &byte);
         } else {
-            splice(&rt, alloc, &mut cord, place, 1, &Cord::empty());
+            splice(&rt, alloc, &mut cord, (place, 1), &Cord::empty());
         }
     }
     expect_shallow(&rt, alloc, &cord, "edited at random");
@@ -187,7 +170,7 @@ fn short_neighbours_become_one(rt: HostRuntime) {
         (35, 26, &word, true),
     ] {
         let mut cord = joined(&rt, alloc, &leaf, &leaf);
-        splice(&rt, alloc, &mut cord, start, count, middle);
+        splice(&rt, alloc, &mut cord, (start, count), middle);
         expect_case(&rt, (cord.depth() == 0) == is_one, "leaves", start);
     }
 }

@@ -1,6 +1,6 @@
 // Cases of worked examples, and what sharing shows.
 use super::cases::expect_case;
-use super::trees::{cord_of, expect_text, is_one, part_of, pattern, run_fields, run_of};
+use super::trees::{Shape, cord_of, expect_text, is_cord, is_one, part_of, pattern, run_of};
 use cord_core::Cord;
 use cord_ec::ExtCord;
 use cord_io::{CordError, MAX_LEN};
@@ -9,7 +9,7 @@ use std::process::Abort;
 use std::rt::HostRuntime;
 
 // What is added to an extensible cord, or the text that it has.
-#[derive(Clone, Copy)]
+#[derive(Drop)]
 enum Step {
     // A byte, so many times.
     Byte(u8, usize),
@@ -37,82 +37,73 @@ const TEXTS: &[&[Step]] = &[
     ],
 ];
 
-fn empty_ext(rt: &impl Abort, alloc: Global) -> ExtCord {
-    ExtCord::new(alloc).expect(rt, "no memory")
-}
-
-fn add_byte(rt: &impl Abort, alloc: Global, ext: &mut ExtCord, byte: u8) {
-    ext.append(alloc, byte).expect(rt, "no memory");
-}
-
-fn add_bytes(rt: &impl Abort, alloc: Global, ext: &mut ExtCord, bytes: &[u8]) {
-    ext.append_bytes(alloc, bytes).expect(rt, "no memory");
-}
-
-fn add_cord(rt: &impl Abort, alloc: Global, ext: &mut ExtCord, cord: &Cord) {
-    ext.append_cord(alloc, cord).expect(rt, "no memory");
-}
-
 fn cord_in(rt: &impl Abort, alloc: Global, ext: &mut ExtCord) -> Cord {
     ext.to_cord(alloc).expect(rt, "no memory")
 }
 
-// That an extensible cord has this text, and its length.
-fn expect_ext(rt: &impl Abort, alloc: Global, ext: &mut ExtCord, text: &[u8]) {
-    assert!(rt; ext.len() == text.len() as u64);
-    expect_text(rt, alloc, &cord_in(rt, alloc, ext), text);
-}
-
-// A byte so many times, one by one.
-fn add_times(rt: &impl Abort, alloc: Global, ext: &mut ExtCord, byte: u8, count: usize) {
-    for _ in 0..count {
-        add_byte(rt, alloc, ext, byte);
-    }
-}
-
-// So many times the byte "A".
-fn ext_of(rt: &impl Abort, alloc: Global, count: usize) -> ExtCord {
-    let mut ext = empty_ext(rt, alloc);
-    add_times(rt, alloc, &mut ext, 65, count);
-    ext
-}
-
-fn take_step(rt: &impl Abort, alloc: Global, ext: &mut ExtCord, step: Step) {
+fn take_step(rt: &impl Abort, alloc: Global, ext: &mut ExtCord, step: &Step) {
     match step {
-        Byte(byte, count) => add_times(rt, alloc, ext, byte, count),
-        Bytes(bytes) => add_bytes(rt, alloc, ext, bytes),
-        Step::Cord(bytes) => add_cord(rt, alloc, ext, &cord_of(rt, alloc, bytes)),
-        Text(text) => expect_ext(rt, alloc, ext, text),
+        Byte(byte, count) => {
+            for _ in 0..*count {
+                ext.append(alloc, *byte).expect(rt, "no memory");
+            }
+        }
+        Bytes(bytes) => ext.append_bytes(alloc, bytes).expect(rt, "no memory"),
+        Step::Cord(bytes) => {
+            let cord = cord_of(rt, alloc, bytes);
+            ext.append_cord(alloc, &cord).expect(rt, "no memory");
+        }
+        Text(text) => {
+            assert!(rt; ext.len() == text.len() as u64);
+            expect_text(rt, alloc, &cord_in(rt, alloc, ext), text);
+        }
     }
+}
+
+// An extensible cord after these steps.
+fn grown(rt: &impl Abort, alloc: Global, steps: &[Step]) -> ExtCord {
+    let mut ext = ExtCord::new(alloc).expect(rt, "no memory");
+    for step in steps {
+        take_step(rt, alloc, &mut ext, step);
+    }
+    ext
 }
 
 #[test]
 fn texts_of_steps(rt: HostRuntime) {
+    let alloc = rt.alloc();
     for steps in TEXTS {
-        let mut ext = empty_ext(&rt, rt.alloc());
-        for step in *steps {
-            take_step(&rt, rt.alloc(), &mut ext, *step);
-        }
+        drop(grown(&rt, alloc, steps));
     }
+    let text = pattern(alloc, 10_100).expect(&rt, "no memory");
+    let mut ext = ExtCord::new(alloc).expect(&rt, "no memory");
+    for part in [&text[..100], &text[100..]] {
+        ext.append_bytes(alloc, part).expect(&rt, "no memory");
+    }
+    assert!(rt; ext.len() == 10_100);
+    expect_text(&rt, alloc, &cord_in(&rt, alloc, &mut ext), &text);
 }
 
 #[test]
 fn a_cord_stays_while_more_is_added(rt: HostRuntime) {
     let alloc = rt.alloc();
-    let mut ext = ext_of(&rt, alloc, 5);
+    let mut ext = grown(&rt, alloc, &[Byte(65, 5)]);
     let cord = cord_in(&rt, alloc, &mut ext);
-    add_byte(&rt, alloc, &mut ext, 66);
-    expect_ext(&rt, alloc, &mut ext, b"AAAAAB");
+    take_step(&rt, alloc, &mut ext, &Byte(66, 1));
+    take_step(&rt, alloc, &mut ext, &Text(b"AAAAAB"));
     expect_text(&rt, alloc, &cord, b"AAAAA");
+    let mut same = grown(&rt, alloc, &[Bytes(&[7; 5000]), Byte(8, 1)]);
+    let first = cord_in(&rt, alloc, &mut same);
+    assert!(rt; is_one(&first, &cord_in(&rt, alloc, &mut same)));
 }
 
 #[test]
 fn ext_cord_leaf_size(rt: HostRuntime) {
     let alloc = rt.alloc();
     for (count, depth) in [(4096, 0), (4097, 1)] {
-        let cord = cord_in(&rt, alloc, &mut ext_of(&rt, alloc, count));
-        expect_case(&rt, cord.depth() == depth, "bytes", count as u64);
-        assert!(rt; cord.len() == count as u64);
+        let cord = cord_in(&rt, alloc, &mut grown(&rt, alloc, &[Byte(65, count)]));
+        let shape = Shape::Size(count as u64, depth);
+        expect_case(&rt, is_cord(&cord, &shape), "bytes", count as u64);
     }
 }
 
@@ -139,43 +130,20 @@ fn expect_full(rt: &impl Abort, alloc: Global, ext: &mut ExtCord, more: &Cord) {
 fn too_long_unchanged(rt: HostRuntime) {
     let alloc = rt.alloc();
     let longest = run_of(&rt, alloc, 0, MAX_LEN);
-    let mut ext = empty_ext(&rt, alloc);
-    add_cord(&rt, alloc, &mut ext, &longest);
+    let mut ext = grown(&rt, alloc, &[]);
+    ext.append_cord(alloc, &longest).expect(&rt, "no memory");
     expect_full(&rt, alloc, &mut ext, &longest);
     let cord = cord_in(&rt, alloc, &mut ext);
-    expect_case(&rt, run_fields(&cord) == Some((0, MAX_LEN)), "run", MAX_LEN);
+    assert!(rt; is_cord(&cord, &Shape::Run(0, MAX_LEN)));
 }
 
 #[test]
 fn cord_calls(rt: HostRuntime) {
     let alloc = rt.alloc();
     let part = part_of(&rt, alloc, &run_of(&rt, alloc, 0, MAX_LEN), 5, 1000);
-    let mut ext = empty_ext(&rt, alloc);
-    add_cord(&rt, alloc, &mut ext, &part);
+    let mut ext = grown(&rt, alloc, &[]);
+    ext.append_cord(alloc, &part).expect(&rt, "no memory");
     let cord = cord_in(&rt, alloc, &mut ext);
-    assert!(rt; run_fields(&cord) == Some((0, 1000)));
+    assert!(rt; is_cord(&cord, &Shape::Run(0, 1000)));
     assert!(rt; is_one(&part, &cord));
-}
-
-#[test]
-fn second_cord_is_the_first_where_nothing_was_added(rt: HostRuntime) {
-    let alloc = rt.alloc();
-    let mut ext = empty_ext(&rt, alloc);
-    add_bytes(&rt, alloc, &mut ext, &[7; 5000]);
-    add_byte(&rt, alloc, &mut ext, 8);
-    let first = cord_in(&rt, alloc, &mut ext);
-    assert!(rt; is_one(&first, &cord_in(&rt, alloc, &mut ext)));
-}
-
-#[test]
-fn many_bytes_follow_a_few(rt: HostRuntime) {
-    let alloc = rt.alloc();
-    let text = pattern(alloc, 10_100).expect(&rt, "no memory");
-    let Some((few, many)) = text.split_at_checked(100) else {
-        panic!(rt; "too short");
-    };
-    let mut ext = empty_ext(&rt, alloc);
-    add_bytes(&rt, alloc, &mut ext, few);
-    add_bytes(&rt, alloc, &mut ext, many);
-    expect_ext(&rt, alloc, &mut ext, &text);
 }

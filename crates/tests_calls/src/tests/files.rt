@@ -5,13 +5,36 @@ ghost use Rattle.std.specs.Prelude.{◌≡◌, ◌≤◌, ℕ, length, None};
 ghost use Rattle.cord_io.specs.MemoryFileSystem.{file_system_in};
 
 use super::cases::expect_case;
-use super::trees::func_fields;
-use cord_core::{Cord, Node};
+use super::trees::{Shape, is_cord};
+use Ask::{Eager, Failures, FromFile, Lazy, Len, Open, Put, Refused, Starts, Taken};
+use cord_core::Cord;
 use cord_file::{FileError, Sources};
 use cord_io::{CutFiles, Files, MemFiles, MemSink, Source, SourceId};
-use reading::expect_put;
+use reading::put_part;
 use std::alloc::Global;
 use std::process::Abort;
+
+// What is asked of a table, and what it answers.
+#[derive(Drop)]
+enum Ask {
+    Open(&'static str, Result<(SourceId, u64), FileError>),
+    // How long a source is, where there is one.
+    Len(u32, Option<u64>),
+    // The cord of a path's bytes, by each call.
+    Eager(&'static str, Shape),
+    Lazy(&'static str, Shape),
+    FromFile(&'static str, Shape),
+    // A path whose file fails to be read whole.
+    Refused(&'static str),
+    // Bytes of the file at a path are put: where they stand, and how many.
+    Put((&'static str, u64, u64), Result<(), FileError>),
+    // What was put is this.
+    Taken(&'static [u8]),
+    // What was put are the first of these bytes; what is put from now on is looked at by itself.
+    Starts(&'static [u8]),
+    // How often a call of the files has failed.
+    Failures(u64),
+}
 
 // Files in memory with one file.
 fn one_file(rt: &impl Abort, alloc: Global, path: &str, bytes: &[u8]) -> MemFiles
@@ -31,36 +54,104 @@ fn table<F: Files + Drop>(rt: &impl Abort, alloc: Global, files: F) -> Sources<F
     }
 }
 
-// A table over the file "p" of `hello`.
-fn hello_table(rt: &impl Abort, alloc: Global) -> Sources<MemFiles> {
-    table(rt, alloc, one_file(rt, alloc, "p", b"hello"))
-}
-
 // That opening a path answers so.
 fn expect_open<F: Files>(
     rt: &impl Abort,
     alloc: Global,
     sources: &mut Sources<F>,
     path: &str,
-    answer: Result<(SourceId, u64), FileError>,
+    answer: &Result<(SourceId, u64), FileError>,
 ) {
     let opened = sources.open(alloc, path);
-    expect_case(rt, opened == answer, path, 0);
+    expect_case(rt, opened == *answer, path, 0);
 }
 
-// That a source is so long, or that there is none.
-fn expect_len<F: Files>(rt: &impl Abort, sources: &Sources<F>, id: u32, len: Option<u64>) {
-    expect_case(
-        rt,
-        sources.entry_len(SourceId(id)) == len,
-        "the source",
-        u64::from(id),
-    );
+// That a cord of a path's bytes is so.
+fn expect_cord(rt: &impl Abort, cord: Result<Cord, FileError>, path: &str, shape: &Shape) {
+    let cord = cord.expect(rt, "no cord");
+    expect_case(rt, is_cord(&cord, shape), path, cord.len());
 }
 
-// That so many calls of the files failed.
-fn expect_failures<F: Files>(rt: &impl Abort, sources: &Sources<F>, count: u64) {
-    assert!(rt; sources.failures() == count);
+fn expect_ask<F: Files>(
+    rt: &impl Abort,
+    alloc: Global,
+    sources: &mut Sources<F>,
+    sink: &mut MemSink,
+    ask: &Ask,
+) {
+    match ask {
+        Open(path, answer) => expect_open(rt, alloc, sources, path, answer),
+        Len(id, len) => {
+            let id = SourceId(*id);
+            expect_case(
+                rt,
+                sources.entry_len(id) == *len,
+                "the source",
+                u64::from(id.0),
+            );
+        }
+        Eager(path, shape) => expect_cord(rt, sources.eager(alloc, path), path, shape),
+        Lazy(path, shape) => expect_cord(rt, sources.lazy(alloc, path), path, shape),
+        FromFile(path, shape) => expect_cord(rt, sources.from_file(alloc, path), path, shape),
+        Refused(path) => {
+            let refused = sources.eager(alloc, path).err();
+            assert!(rt; refused == Some(FileError::ReadFailed));
+        }
+        Put(range, answer) => {
+            let end = put_part(alloc, sources, *range, sink);
+            expect_case(rt, end == *answer, range.0, range.2);
+        }
+        Taken(bytes) => {
+            assert!(rt; bytes.starts_with(sink.bytes()));
+            assert!(rt; sink.bytes().len() == bytes.len());
+        }
+        Starts(bytes) => {
+            assert!(rt; bytes.starts_with(sink.bytes()));
+            *sink = MemSink::new(alloc);
+        }
+        Failures(count) => expect_case(rt, sources.failures() == *count, "failures", *count),
+    }
+}
+
+// What is put by a table over files that is asked so. Closed, the files have failed as often as the table.
+fn answered<F: Files + Drop>(rt: &impl Abort, alloc: Global, files: F, asks: &[Ask]) -> MemSink {
+    let mut sources = table(rt, alloc, files);
+    let mut sink = MemSink::new(alloc);
+    for ask in asks {
+        expect_ask(rt, alloc, &mut sources, &mut sink, ask);
+    }
+    let failures = sources.failures();
+    let files = sources.close();
+    assert!(rt; files.failures() == failures);
+    sink
+}
+
+// What is asked of tables over the file "p" of `hello`.
+const HELLO: &[&[Ask]] = &[
+    &[
+        Len(2, None),
+        Open("p", Ok((SourceId(2), 5))),
+        Open("p", Ok((SourceId(2), 5))),
+        Len(2, Some(5)),
+        Len(3, None),
+        Open("q", Err(FileError::NoFile)),
+        Failures(0),
+    ],
+    &[
+        Eager("p", Shape::Leaf(b"hello", 0, 5)),
+        Lazy("p", Shape::Func(2, 0, 5)),
+        FromFile("p", Shape::Leaf(b"hello", 0, 5)),
+        Failures(0),
+    ],
+    &[Put(("p", 0, 5), Ok(())), Taken(b"hello"), Failures(0)],
+];
+
+#[test]
+fn sources_open(rt: HostRuntime) {
+    let alloc = rt.alloc();
+    for asks in HELLO {
+        drop(answered(&rt, alloc, one_file(&rt, alloc, "p", b"hello"), asks));
+    }
 }
 
 // 65 files in memory of one byte each, at the paths "0" to "64".
@@ -73,83 +164,20 @@ fn numbered_files(rt: &impl Abort, alloc: Global) -> MemFiles {
     files
 }
 
-// Whether a cord is one leaf of these bytes.
-fn is_leaf_of(cord: &Cord, expected: &[u8]) -> bool {
-    let Some(node) = cord.root() else {
-        return false;
-    };
-    match node.as_ref() {
-        Node::Leaf { bytes, .. } => bytes.as_slice() == expected,
-        _ => false,
-    }
-}
-
-#[test]
-fn sources_open(rt: HostRuntime) {
-    let alloc = rt.alloc();
-    let mut sources = hello_table(&rt, alloc);
-    expect_len(&rt, &sources, 2, None);
-    expect_open(&rt, alloc, &mut sources, "p", Ok((SourceId(2), 5)));
-    expect_open(&rt, alloc, &mut sources, "p", Ok((SourceId(2), 5)));
-    expect_len(&rt, &sources, 2, Some(5));
-    expect_len(&rt, &sources, 3, None);
-    expect_open(&rt, alloc, &mut sources, "q", Err(FileError::NoFile));
-    expect_failures(&rt, &sources, 0);
-}
-
-// That a cord of a path's bytes is this leaf.
-fn expect_leaf(rt: &impl Abort, cord: Result<Cord, FileError>, bytes: &[u8]) {
-    let cord = cord.expect(rt, "not read");
-    assert!(rt; is_leaf_of(&cord, bytes));
-}
-
-#[test]
-fn sources_give_cords(rt: HostRuntime) {
-    let alloc = rt.alloc();
-    let mut sources = hello_table(&rt, alloc);
-    expect_leaf(&rt, sources.eager(alloc, "p"), b"hello");
-    let lazy = sources.lazy(alloc, "p").expect(&rt, "not opened");
-    assert!(rt; func_fields(&lazy) == Some((SourceId(2), 0, 5)));
-    expect_leaf(&rt, sources.from_file(alloc, "p"), b"hello");
-    expect_failures(&rt, &sources, 0);
-}
-
-#[test]
-fn sources_are_put_and_closed(rt: HostRuntime) {
-    let alloc = rt.alloc();
-    let mut sources = hello_table(&rt, alloc);
-    let mut sink = MemSink::new(alloc);
-    expect_put(&rt, alloc, &mut sources, ("p", 0, 5), &mut sink);
-    assert!(rt; sink.bytes() == b"hello".as_slice());
-    let files = sources.close();
-    assert!(rt; files.failures() == 0);
-}
-
-// Opens a path of a number, which answers so.
-fn expect_number(
-    rt: &impl Abort,
-    alloc: Global,
-    sources: &mut Sources<MemFiles>,
-    number: u8,
-    answer: Result<(SourceId, u64), FileError>,
-) {
-    let path = format!(in alloc; "{number}").expect(rt, "memory");
-    expect_open(rt, alloc, sources, &path, answer);
-}
-
 #[test]
 fn sixty_five_paths(rt: HostRuntime) {
     let alloc = rt.alloc();
     let mut sources = table(&rt, alloc, numbered_files(&rt, alloc));
     for i in 0..64u8 {
+        let path = format!(in alloc; "{i}").expect(&rt, "memory");
         let id = SourceId(u32::from(i) + 2);
-        expect_number(&rt, alloc, &mut sources, i, Ok((id, 1)));
+        expect_open(&rt, alloc, &mut sources, &path, &Ok((id, 1)));
     }
     let too_many = Err(FileError::TooManyFiles);
-    expect_number(&rt, alloc, &mut sources, 64, too_many);
-    expect_open(&rt, alloc, &mut sources, "none", too_many);
-    expect_number(&rt, alloc, &mut sources, 63, Ok((SourceId(65), 1)));
-    expect_failures(&rt, &sources, 0);
+    expect_open(&rt, alloc, &mut sources, "64", &too_many);
+    expect_open(&rt, alloc, &mut sources, "none", &too_many);
+    expect_open(&rt, alloc, &mut sources, "63", &Ok((SourceId(65), 1)));
+    assert!(rt; sources.failures() == 0);
 }
 
 #[test]
@@ -169,19 +197,17 @@ fn functions_are_read(rt: HostRuntime) {
     assert!(rt; sources.failures() == 0);
 }
 
-// A thousand bytes in the file "p", of which the first 600 alone are read.
-fn cut_table(rt: &impl Abort, alloc: Global) -> Sources<CutFiles<MemFiles>> {
-    let files = one_file(rt, alloc, "p", &[112; 1000]);
-    table(rt, alloc, CutFiles::new(files, 600))
-}
+// Of a thousand bytes in the file "p" the first 600 alone are read.
+const CUT: &[Ask] = &[
+    Refused("p"),
+    Failures(1),
+    Len(2, Some(1000)),
+    Open("p", Ok((SourceId(2), 1000))),
+];
 
 #[test]
 fn cut_eager(rt: HostRuntime) {
     let alloc = rt.alloc();
-    let mut sources = cut_table(&rt, alloc);
-    let refused = sources.eager(alloc, "p").err();
-    assert!(rt; refused == Some(FileError::ReadFailed));
-    expect_failures(&rt, &sources, 1);
-    expect_len(&rt, &sources, 2, Some(1000));
-    expect_open(&rt, alloc, &mut sources, "p", Ok((SourceId(2), 1000)));
+    let files = one_file(&rt, alloc, "p", &[112; 1000]);
+    drop(answered(&rt, alloc, CutFiles::new(files, 600), CUT));
 }

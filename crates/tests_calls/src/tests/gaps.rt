@@ -1,6 +1,6 @@
 // Edits of a text with a gap, against the same edits of a list of bytes, and what the tree shows of the gap.
 use super::cases::expect_case;
-use super::trees::{cord_of, expect_text, is_one, part_of, run_fields, run_of};
+use super::trees::{Shape, cord_of, expect_text, is_cord, is_one, part_of, run_of};
 use cord_core::Cord;
 use cord_edit::EditBuffer;
 use cord_io::{CordError, MAX_LEN};
@@ -9,6 +9,7 @@ use std::process::Abort;
 use std::rt::HostRuntime;
 
 // One edit of a text.
+#[derive(Drop)]
 enum Edit {
     Insert(u64, &'static [u8]),
     Remove(u64, u64),
@@ -17,39 +18,19 @@ enum Edit {
 
 use Edit::{Insert, Remove, Splice};
 
-fn buffer_of(rt: &impl Abort, alloc: Global, cord: &Cord) -> EditBuffer {
-    EditBuffer::of(alloc, cord).expect(rt, "no memory")
-}
-
 fn cord_in(rt: &impl Abort, alloc: Global, buffer: &mut EditBuffer) -> Cord {
     buffer.to_cord(alloc).expect(rt, "no memory")
 }
 
-fn insert(rt: &impl Abort, alloc: Global, buffer: &mut EditBuffer, at: u64, bytes: &[u8]) {
-    buffer.insert(alloc, at, bytes).expect(rt, "no memory");
-}
-
-fn remove(rt: &impl Abort, alloc: Global, buffer: &mut EditBuffer, start: u64, count: u64) {
-    buffer.remove(alloc, start, count).expect(rt, "no memory");
-}
-
 fn make_edit(rt: &impl Abort, alloc: Global, buffer: &mut EditBuffer, edit: &Edit) {
-    match edit {
-        Insert(at, bytes) => insert(rt, alloc, buffer, *at, bytes),
-        Remove(start, count) => remove(rt, alloc, buffer, *start, *count),
+    let made = match edit {
+        Insert(at, bytes) => buffer.insert(alloc, *at, bytes),
+        Remove(start, count) => buffer.remove(alloc, *start, *count),
         Splice(start, count, middle) => {
-            let middle = cord_of(rt, alloc, middle);
-            buffer
-                .splice(alloc, *start, *count, &middle)
-                .expect(rt, "no memory");
+            buffer.splice(alloc, *start, *count, &cord_of(rt, alloc, middle))
         }
-    }
-}
-
-// That a buffer has this text, and its length.
-fn expect_buffer(rt: &impl Abort, alloc: Global, buffer: &mut EditBuffer, text: &[u8]) {
-    assert!(rt; buffer.len() == text.len() as u64);
-    expect_text(rt, alloc, &cord_in(rt, alloc, buffer), text);
+    };
+    made.expect(rt, "no memory");
 }
 
 // What is done to "abcdef", one after another, and the text after all.
@@ -97,7 +78,7 @@ fn edits_of_a_buffer(rt: HostRuntime) {
     let alloc = rt.alloc();
     for (number, (edits, text)) in CASES.iter().enumerate() {
         let whole = cord_of(&rt, alloc, b"abcdef");
-        let mut buffer = buffer_of(&rt, alloc, &whole);
+        let mut buffer = EditBuffer::of(alloc, &whole).expect(&rt, "no memory");
         for edit in *edits {
             make_edit(&rt, alloc, &mut buffer, edit);
         }
@@ -107,16 +88,21 @@ fn edits_of_a_buffer(rt: HostRuntime) {
             "length",
             number as u64,
         );
-        expect_buffer(&rt, alloc, &mut buffer, text);
+        expect_text(&rt, alloc, &cord_in(&rt, alloc, &mut buffer), text);
         expect_text(&rt, alloc, &whole, b"abcdef");
     }
 }
 
 // A buffer over a run, in which bytes were typed one after another from the place 5 on.
 fn typed(rt: &impl Abort, alloc: Global, count: u64) -> EditBuffer {
-    let mut buffer = buffer_of(rt, alloc, &run_of(rt, alloc, 65, 10));
+    let mut buffer = EditBuffer::of(alloc, &run_of(rt, alloc, 65, 10)).expect(rt, "no memory");
     for turn in 0..count {
-        insert(rt, alloc, &mut buffer, turn.saturating_add(5), &[97]);
+        make_edit(
+            rt,
+            alloc,
+            &mut buffer,
+            &Insert(turn.saturating_add(5), b"a"),
+        );
     }
     buffer
 }
@@ -124,19 +110,16 @@ fn typed(rt: &impl Abort, alloc: Global, count: u64) -> EditBuffer {
 // How many bytes are typed, and how deep they are: a gap is one leaf, and one that is full moves on.
 const TYPED: &[(u64, u32)] = &[(4_096, 0), (4_097, 1)];
 
-fn expect_typed(rt: &impl Abort, alloc: Global, count: u64, depth: u32) {
-    let cord = cord_in(rt, alloc, &mut typed(rt, alloc, count));
-    let part = part_of(rt, alloc, &cord, 5, count);
-    let bytes = Vec::from_elem(alloc, 97, count as usize).expect(rt, "no memory");
-    expect_case(rt, cord.len() == count.saturating_add(10), "typed", count);
-    expect_case(rt, part.depth() == depth, "depth", count);
-    expect_text(rt, alloc, &part, &bytes);
-}
-
 #[test]
 fn typed_bytes(rt: HostRuntime) {
+    let alloc = rt.alloc();
     for &(count, depth) in TYPED {
-        expect_typed(&rt, rt.alloc(), count, depth);
+        let cord = cord_in(&rt, alloc, &mut typed(&rt, alloc, count));
+        let part = part_of(&rt, alloc, &cord, 5, count);
+        let bytes = Vec::from_elem(alloc, 97, count as usize).expect(&rt, "no memory");
+        expect_case(&rt, cord.len() == count.saturating_add(10), "typed", count);
+        expect_case(&rt, part.depth() == depth, "depth", count);
+        expect_text(&rt, alloc, &part, &bytes);
     }
 }
 
@@ -144,27 +127,28 @@ fn typed_bytes(rt: HostRuntime) {
 fn a_gap_between_two_runs(rt: HostRuntime) {
     let alloc = rt.alloc();
     let cord = cord_in(&rt, alloc, &mut typed(&rt, alloc, 4_096));
-    expect_case(&rt, cord.depth() == 2, "depth", cord.len());
+    assert!(rt; cord.depth() == 2);
+    let mut buffer = typed(&rt, alloc, 100);
+    let first = cord_in(&rt, alloc, &mut buffer);
+    assert!(rt; is_one(&first, &cord_in(&rt, alloc, &mut buffer)));
+    make_edit(&rt, alloc, &mut buffer, &Insert(0, b"x"));
+    assert!(rt; first.len() == 110);
 }
 
+// Bytes put in before others are one leaf, and many bytes are leaves.
 #[test]
-fn bytes_before_are_one_leaf(rt: HostRuntime) {
+fn leaves_of_a_buffer(rt: HostRuntime) {
     let alloc = rt.alloc();
-    let mut buffer = buffer_of(&rt, alloc, &run_of(&rt, alloc, 65, 10));
+    let mut before = EditBuffer::of(alloc, &run_of(&rt, alloc, 65, 10)).expect(&rt, "no memory");
     for _ in 0..100 {
-        insert(&rt, alloc, &mut buffer, 0, b"ab");
+        make_edit(&rt, alloc, &mut before, &Insert(0, b"ab"));
     }
-    let cord = cord_in(&rt, alloc, &mut buffer);
-    assert!(rt; cord.len() == 210 && cord.depth() == 1);
-}
-
-#[test]
-fn many_bytes_are_leaves(rt: HostRuntime) {
-    let alloc = rt.alloc();
-    let mut buffer = buffer_of(&rt, alloc, &cord_of(&rt, alloc, b"abcdef"));
-    insert(&rt, alloc, &mut buffer, 3, &[7; 10_000]);
-    insert(&rt, alloc, &mut buffer, 10_003, b"x");
-    let cord = cord_in(&rt, alloc, &mut buffer);
+    let cord = cord_in(&rt, alloc, &mut before);
+    assert!(rt; is_cord(&cord, &Shape::Size(210, 1)));
+    let mut many = EditBuffer::of(alloc, &cord_of(&rt, alloc, b"abcdef")).expect(&rt, "no memory");
+    make_edit(&rt, alloc, &mut many, &Insert(3, &[7; 10_000]));
+    make_edit(&rt, alloc, &mut many, &Insert(10_003, b"x"));
+    let cord = cord_in(&rt, alloc, &mut many);
     assert!(rt; cord.len() == 10_007);
     expect_text(&rt, alloc, &part_of(&rt, alloc, &cord, 0, 4), b"abc\x07");
     expect_text(
@@ -192,21 +176,14 @@ fn expect_full(rt: &impl Abort, alloc: Global, buffer: &mut EditBuffer) {
 #[test]
 fn a_text_at_the_limit_stays(rt: HostRuntime) {
     let alloc = rt.alloc();
-    let mut buffer = buffer_of(&rt, alloc, &run_of(&rt, alloc, 0, MAX_LEN));
+    let mut buffer = EditBuffer::of(alloc, &run_of(&rt, alloc, 0, MAX_LEN)).expect(
+        &rt,
+        "no memory",
+    );
     expect_full(&rt, alloc, &mut buffer);
     let cord = cord_in(&rt, alloc, &mut buffer);
-    expect_case(&rt, run_fields(&cord) == Some((0, MAX_LEN)), "run", MAX_LEN);
-    remove(&rt, alloc, &mut buffer, 5, 1);
-    insert(&rt, alloc, &mut buffer, 5, b"a");
+    assert!(rt; is_cord(&cord, &Shape::Run(0, MAX_LEN)));
+    make_edit(&rt, alloc, &mut buffer, &Remove(5, 1));
+    make_edit(&rt, alloc, &mut buffer, &Insert(5, b"a"));
     expect_full(&rt, alloc, &mut buffer);
-}
-
-#[test]
-fn a_second_cord_is_the_first_where_nothing_was_edited(rt: HostRuntime) {
-    let alloc = rt.alloc();
-    let mut buffer = typed(&rt, alloc, 100);
-    let first = cord_in(&rt, alloc, &mut buffer);
-    assert!(rt; is_one(&first, &cord_in(&rt, alloc, &mut buffer)));
-    insert(&rt, alloc, &mut buffer, 0, b"x");
-    assert!(rt; first.len() == 110);
 }

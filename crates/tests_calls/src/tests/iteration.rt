@@ -19,6 +19,13 @@ type Passes = (u64, u64, u64);
 // How far a cord is put, and what the sink takes.
 const PUT: &[(&str, Parts, Passes, Result<(), CordError>, &[u8])] = &[
     (
+        "to_vec_and_put",
+        &[Leaf(b"abccd")],
+        (0, 9, 9),
+        Ok(()),
+        b"abccd",
+    ),
+    (
         "put_offers_the_rest",
         &[Leaf(b"abccd")],
         (0, u64::MAX, 4096),
@@ -142,21 +149,16 @@ fn text_of(rt: &impl Abort, alloc: Global, cord: &Cord) -> Vec<u8>
     to_vec(alloc, cord, &mut six_hundred((0, 0))).expect(rt, "no memory")
 }
 
+// The text of a cord, and what a sink takes of it in each case.
 #[test]
 fn to_vec_and_put(rt: HostRuntime) {
-    let parts: Parts = &[Leaf(b"abccd")];
-    let cord = made(&rt, rt.alloc(), parts);
-    let text = text_of(&rt, rt.alloc(), &cord);
+    let alloc = rt.alloc();
+    let cord = made(&rt, alloc, &[Leaf(b"abccd")]);
+    let text = text_of(&rt, alloc, &cord);
     assert!(rt; text.as_slice() == b"abccd".as_slice());
-    expect_put(
-        &rt,
-        rt.alloc(),
-        "to_vec_and_put",
-        parts,
-        (0, 9, 9),
-        Ok(()),
-        b"abccd",
-    );
+    for &(name, parts, passes, answer, taken) in PUT {
+        expect_put(&rt, alloc, name, parts, passes, answer, taken);
+    }
 }
 
 // Nothing with 65 bytes appended 10,000 times, the k-th time of the byte k modulo 256; it never is deeper than 60.
@@ -202,13 +204,6 @@ fn expect_put(
     expect_case(rt, sink.inner().bytes() == taken, name, calls);
     let failures = u64::from(answer == Err(CordError::ReadFailed));
     expect_case(rt, source.failures() == failures, name, calls);
-}
-
-#[test]
-fn cases_of_put(rt: HostRuntime) {
-    for &(name, parts, passes, answer, taken) in PUT {
-        expect_put(&rt, rt.alloc(), name, parts, passes, answer, taken);
-    }
 }
 
 // What an iteration answers; a place has to lie inside the cord.

@@ -141,7 +141,12 @@ fn expect_fetched(
     ensures { position.new.cord ≡ position.old.cord }
 {
     let bytes = [byte; 600];
-    let mut source = ByteSource::new(&bytes, reads);
+    let mut source = ByteSource {
+        bytes: &bytes,
+        cut: u64::MAX,
+        reads,
+        failures: 0,
+    };
     assert!(rt; position.is_valid());
     let fetched = position.fetch(&mut source);
     expect_case(rt, fetched == answer, name, reads);
@@ -153,21 +158,6 @@ fn expect_fetched(
     );
 }
 
-fn expect_at(rt: &impl Abort, name: &str, position: &Position, index: Option<u64>, visits: u64) {
-    expect_case(rt, position.is_valid() == index.is_some(), name, visits);
-    expect_case(rt, position.index() == index, name, visits);
-    expect_case(rt, position.visits() == visits, name, visits);
-}
-
-fn expect_gone(rt: &impl Abort, name: &str, position: &Position) {
-    expect_case(rt, !position.is_valid(), name, position.visits());
-    expect_case(rt, position.index() == None, name, position.visits());
-}
-
-fn expect_len(rt: &impl Abort, name: &str, position: &Position, len: u64) {
-    expect_case(rt, position.cord().len() == len, name, len);
-}
-
 fn take_step(rt: &impl Abort, name: &str, position: &mut Position, step: Step)
     requires { (lengths : Lengths) → 600 ≤ length_at lengths 2 → CordFitsIn lengths position.old.cord }
     ensures { (lengths : Lengths) → 600 ≤ length_at lengths 2 → CordFitsIn lengths position.new.cord }
@@ -175,10 +165,17 @@ fn take_step(rt: &impl Abort, name: &str, position: &mut Position, step: Step)
     match step {
         Nexts(steps) => walk_on(position, steps),
         Prev => position.prev(),
-        At(index, visits) => expect_at(rt, name, position, index, visits),
-        Gone => expect_gone(rt, name, position),
+        At(index, visits) => {
+            expect_case(rt, position.is_valid() == index.is_some(), name, visits);
+            expect_case(rt, position.index() == index, name, visits);
+            expect_case(rt, position.visits() == visits, name, visits);
+        }
+        Gone => {
+            expect_case(rt, !position.is_valid(), name, position.visits());
+            expect_case(rt, position.index() == None, name, position.visits());
+        }
         Fetched(byte, reads, answer) => expect_fetched(rt, name, position, byte, reads, answer),
-        Len(len) => expect_len(rt, name, position, len),
+        Len(len) => expect_case(rt, position.cord().len() == len, name, len),
     }
 }
 
@@ -215,12 +212,7 @@ fn visits_of_whole_walks(rt: HostRuntime) {
     assert!(rt; cord.len() == 400);
     assert!(rt; Position::walk_to(&cord, 200).visits() == 6);
     assert!(rt; Position::walk_through(&cord).visits() == 7);
-}
-
-#[test]
-fn nothing_is_walked_through(rt: HostRuntime) {
-    let empty = Cord::empty();
-    assert!(rt; !Position::walk_through(&empty).is_valid());
+    assert!(rt; !Position::walk_through(&Cord::empty()).is_valid());
 }
 
 #[test]

@@ -1,8 +1,13 @@
 // Cases of worked examples, and a read that fails.
+ghost use Rattle.std.specs.Prelude.{◌≤◌};
+ghost use Rattle.cord_io.specs.Table.{Lengths, length_at};
+ghost use Rattle.cord_core.specs.Cord.{CordFitsIn};
+
 use super::byte_source::six_hundred;
 use super::cases::expect_case;
 use super::made::{Part, Parts, longer, made};
 use Part::{Func, Leaf, Run, Twice};
+use cord_core::Cord;
 use cord_io::{CordError, MAX_LEN, Source};
 use cord_search::{
     MOST_BYTES, chr, cmp, fetch, find_bytes, find_bytes_in, ncmp, rchr, rstr, str, str_in,
@@ -390,52 +395,6 @@ const LENGTHS: &[(&str, Parts, u64)] = &[
     ),
 ];
 
-#[test]
-fn lengths(rt: HostRuntime) {
-    for &(name, parts, len) in LENGTHS {
-        let cord = made(&rt, rt.alloc(), parts);
-        expect_case(&rt, cord.len() == len, name, len);
-    }
-}
-
-fn expect_str(
-    rt: &impl Abort,
-    alloc: Global,
-    name: &str,
-    (parts, from, pattern): (Parts, u64, &'static [u8]),
-    reads: u64,
-    answer: Answer<Option<u64>>,
-) {
-    let cord = made(rt, alloc, parts);
-    let pattern = made(rt, alloc, &[Leaf(pattern)]);
-    let mut source = six_hundred((reads, u64::MAX));
-    let found = str(&cord, from, &pattern, &mut source);
-    expect_case(rt, found == answer, name, from);
-    expect_case(
-        rt,
-        source.failures() == u64::from(answer.is_err()),
-        name,
-        from,
-    );
-}
-
-// The same for the pattern as bytes, which are at least one.
-fn expect_bytes(
-    rt: &impl Abort,
-    alloc: Global,
-    name: &str,
-    (parts, from, bytes): (Parts, u64, &'static [u8]),
-    reads: u64,
-    answer: Answer<Option<u64>>,
-) {
-    if bytes.is_empty() || MOST_BYTES < bytes.len() {
-        return;
-    }
-    let cord = made(rt, alloc, parts);
-    let found = find_bytes(&cord, from, bytes, &mut six_hundred((reads, u64::MAX)));
-    expect_case(rt, found == answer, name, from);
-}
-
 // What ends before a place: the first place of a pattern from the front on, and the last one.
 const WITHIN: &[(Parts, u64, &[u8], Option<u64>, Option<u64>)] = &[
     (ABABC, 5, b"ab", Some(0), Some(2)),
@@ -455,159 +414,116 @@ const WITHIN: &[(Parts, u64, &[u8], Option<u64>, Option<u64>)] = &[
     (RUN_AND_LEAF, MAX_LEN - 1, b"aa", Some(0), Some(MAX_LEN - 3)),
 ];
 
-// The first place of a pattern before an end, as a cord and as bytes, which are at least one; and the last place.
-fn expect_within(
-    rt: &impl Abort,
-    alloc: Global,
-    (parts, end, bytes): (Parts, u64, &'static [u8]),
-    first: Option<u64>,
-    last: Option<u64>,
-) {
-    if bytes.is_empty() || MOST_BYTES < bytes.len() {
-        return;
-    }
-    let cord = made(rt, alloc, parts);
-    let pattern = made(rt, alloc, &[Leaf(bytes)]);
-    let found = str_in(&cord, 0, end, &pattern, &mut six_hundred(NONE));
-    let by_bytes = find_bytes_in(&cord, 0, end, bytes, &mut six_hundred(NONE));
-    let found_last = rstr(&cord, end, &pattern, &mut six_hundred(NONE));
-    expect_case(rt, found == Ok(first), "str_in", end);
-    expect_case(rt, by_bytes == Ok(first), "find_bytes_in", end);
-    expect_case(rt, found_last == Ok(last), "rstr", end);
-}
-
 #[test]
 fn cases_before_an_end(rt: HostRuntime) {
+    let alloc = rt.alloc();
     for &(parts, end, bytes, first, last) in WITHIN {
-        expect_within(&rt, rt.alloc(), (parts, end, bytes), first, last);
+        let cord = made(&rt, alloc, parts);
+        let pattern = made(&rt, alloc, &[Leaf(bytes)]);
+        let found = str_in(&cord, 0, end, &pattern, &mut six_hundred(NONE));
+        expect_case(&rt, found == Ok(first), "str_in", end);
+        assert!(rt; !bytes.is_empty() && bytes.len() <= MOST_BYTES);
+        let found = find_bytes_in(&cord, 0, end, bytes, &mut six_hundred(NONE));
+        expect_case(&rt, found == Ok(first), "find_bytes_in", end);
+        let found = rstr(&cord, end, &pattern, &mut six_hundred(NONE));
+        expect_case(&rt, found == Ok(last), "rstr", end);
     }
 }
 
+// As a cord, and as bytes where there is one.
 #[test]
 fn cases_of_str(rt: HostRuntime) {
-    for &(name, parts, from, pattern, reads, answer) in STR {
-        expect_str(&rt, rt.alloc(), name, (parts, from, pattern), reads, answer);
-        expect_bytes(&rt, rt.alloc(), name, (parts, from, pattern), reads, answer);
+    let alloc = rt.alloc();
+    for &(name, parts, from, bytes, reads, answer) in STR {
+        let cord = made(&rt, alloc, parts);
+        let pattern = made(&rt, alloc, &[Leaf(bytes)]);
+        let mut source = six_hundred((reads, u64::MAX));
+        let found = str(&cord, from, &pattern, &mut source);
+        expect_case(&rt, found == answer, name, from);
+        let failures = u64::from(answer.is_err());
+        expect_case(&rt, source.failures() == failures, name, from);
+        if !bytes.is_empty() {
+            assert!(rt; bytes.len() <= MOST_BYTES);
+            let found = find_bytes(&cord, from, bytes, &mut six_hundred((reads, u64::MAX)));
+            expect_case(&rt, found == answer, name, from);
+        }
     }
-}
-
-fn expect_long_str(
-    rt: &impl Abort,
-    alloc: Global,
-    name: &str,
-    (parts, pattern): (Parts, Parts),
-    answer: Option<u64>,
-) {
-    let cord = made(rt, alloc, parts);
-    let pattern = made(rt, alloc, pattern);
-    let found = str(&cord, 0, &pattern, &mut six_hundred(NONE));
-    expect_case(rt, found == Ok(answer), name, cord.len());
 }
 
 #[test]
 fn cases_of_long_str(rt: HostRuntime) {
+    let alloc = rt.alloc();
     for &(name, parts, pattern, answer) in LONG_STR {
-        expect_long_str(&rt, rt.alloc(), name, (parts, pattern), answer);
+        let cord = made(&rt, alloc, parts);
+        let pattern = made(&rt, alloc, pattern);
+        let found = str(&cord, 0, &pattern, &mut six_hundred(NONE));
+        expect_case(&rt, found == Ok(answer), name, cord.len());
     }
 }
 
-fn expect_cmp(
-    rt: &impl Abort,
-    alloc: Global,
-    name: &str,
-    (shared, left, right): Pair,
-    reads: Reads,
-    answer: Answer<i8>,
-) {
+// What the cords of a pair are.
+fn both_of(rt: &impl Abort, alloc: Global, pair: Pair) -> (Cord, Cord)
+    ensures left { (lengths : Lengths) → 600 ≤ length_at lengths 2 → CordFitsIn lengths result.0 }
+    ensures right { (lengths : Lengths) → 600 ≤ length_at lengths 2 → CordFitsIn lengths result.1 }
+{
+    let (shared, left, right) = pair;
     let shared = made(rt, alloc, shared);
-    let left = longer(rt, alloc, &shared, left);
-    let right = longer(rt, alloc, &shared, right);
-    let compared = cmp(&left, &right, &mut six_hundred(reads));
-    expect_case(rt, compared == answer, name, left.len());
+    (
+        longer(rt, alloc, &shared, left),
+        longer(rt, alloc, &shared, right),
+    )
 }
 
 #[test]
 fn cases_of_cmp(rt: HostRuntime) {
+    let alloc = rt.alloc();
     for &(name, pair, reads, answer) in CMP {
-        expect_cmp(&rt, rt.alloc(), name, pair, reads, answer);
+        let (left, right) = both_of(&rt, alloc, pair);
+        let compared = cmp(&left, &right, &mut six_hundred(reads));
+        expect_case(&rt, compared == answer, name, left.len());
     }
-}
-
-fn expect_ncmp(
-    rt: &impl Abort,
-    alloc: Global,
-    name: &str,
-    (shared, left, right): Pair,
-    (i, j, count): (u64, u64, u64),
-    reads: Reads,
-    answer: Answer<i8>,
-) {
-    let shared = made(rt, alloc, shared);
-    let left = longer(rt, alloc, &shared, left);
-    let right = longer(rt, alloc, &shared, right);
-    let compared = ncmp(&left, i, &right, j, count, &mut six_hundred(reads));
-    expect_case(rt, compared == answer, name, count);
 }
 
 #[test]
 fn cases_of_ncmp(rt: HostRuntime) {
-    for &(name, pair, places, reads, answer) in NCMP {
-        expect_ncmp(&rt, rt.alloc(), name, pair, places, reads, answer);
+    let alloc = rt.alloc();
+    for &(name, pair, (i, j, count), reads, answer) in NCMP {
+        let (left, right) = both_of(&rt, alloc, pair);
+        let compared = ncmp(&left, i, &right, j, count, &mut six_hundred(reads));
+        expect_case(&rt, compared == answer, name, count);
     }
-}
-
-fn expect_chr(rt: &impl Abort, alloc: Global, (name, parts, from, byte, reads, answer): ByteCase) {
-    let cord = made(rt, alloc, parts);
-    assert!(rt; from < cord.len());
-    let found = chr(&cord, from, byte, &mut six_hundred((reads, u64::MAX)));
-    expect_case(rt, found == answer, name, from);
 }
 
 #[test]
 fn cases_of_chr(rt: HostRuntime) {
-    for case in CHR {
-        expect_chr(&rt, rt.alloc(), *case);
+    let alloc = rt.alloc();
+    for &(name, parts, from, byte, reads, answer) in CHR {
+        let cord = made(&rt, alloc, parts);
+        assert!(rt; from < cord.len());
+        let found = chr(&cord, from, byte, &mut six_hundred((reads, u64::MAX)));
+        expect_case(&rt, found == answer, name, from);
+    }
+    for &(name, parts, from, byte, reads, answer) in RCHR {
+        let cord = made(&rt, alloc, parts);
+        assert!(rt; from < cord.len());
+        let found = rchr(&cord, from, byte, &mut six_hundred((reads, u64::MAX)));
+        expect_case(&rt, found == answer, name, from);
     }
 }
 
-fn expect_rchr(rt: &impl Abort, alloc: Global, (name, parts, from, byte, reads, answer): ByteCase) {
-    let cord = made(rt, alloc, parts);
-    assert!(rt; from < cord.len());
-    let found = rchr(&cord, from, byte, &mut six_hundred((reads, u64::MAX)));
-    expect_case(rt, found == answer, name, from);
-}
-
 #[test]
-fn cases_of_rchr(rt: HostRuntime) {
-    for case in RCHR {
-        expect_rchr(&rt, rt.alloc(), *case);
+fn lengths_and_fetches(rt: HostRuntime) {
+    let alloc = rt.alloc();
+    for &(name, parts, len) in LENGTHS {
+        expect_case(&rt, made(&rt, alloc, parts).len() == len, name, len);
     }
-}
-
-fn expect_fetch(
-    rt: &impl Abort,
-    alloc: Global,
-    name: &str,
-    parts: Parts,
-    place: u64,
-    answer: Answer<u8>,
-) {
-    let cord = made(rt, alloc, parts);
-    assert!(rt; place < cord.len());
-    let mut source = six_hundred((0, u64::MAX));
-    let fetched = fetch(&cord, place, &mut source);
-    expect_case(rt, fetched == answer, name, place);
-    expect_case(
-        rt,
-        source.failures() == u64::from(answer.is_err()),
-        name,
-        place,
-    );
-}
-
-#[test]
-fn cases_of_fetch(rt: HostRuntime) {
     for &(name, parts, place, answer) in FETCH {
-        expect_fetch(&rt, rt.alloc(), name, parts, place, answer);
+        let cord = made(&rt, alloc, parts);
+        assert!(rt; place < cord.len());
+        let mut source = six_hundred((0, u64::MAX));
+        let fetched = fetch(&cord, place, &mut source);
+        expect_case(&rt, fetched == answer, name, place);
+        let failures = u64::from(answer.is_err());
+        expect_case(&rt, source.failures() == failures, name, place);
     }
 }

@@ -3,7 +3,6 @@ ghost use Rattle.std.specs.Prelude.{◌≤◌};
 ghost use Rattle.cord_node.specs.Tree.{len_of, IsSound};
 
 use cord_core::Cord;
-use cord_io::SourceId;
 use cord_node::{Node, leaf};
 use std::alloc::{AllocError, Global};
 use std::process::Abort;
@@ -39,6 +38,26 @@ pub(super) fn joined(rt: &impl Abort, alloc: Global, left: &Cord, right: &Cord) 
 // So many bytes of a cord from a place on.
 pub(super) fn part_of(rt: &impl Abort, alloc: Global, cord: &Cord, start: u64, count: u64) -> Cord {
     cord.substr(alloc, start, count).expect(rt, "no memory")
+}
+
+pub(super) fn share_of(rt: &impl Abort, alloc: Global, cord: &Cord) -> Cord {
+    cord.share(alloc).expect(rt, "no memory")
+}
+
+pub(super) fn balanced(rt: &impl Abort, alloc: Global, cord: &Cord) -> Cord {
+    cord.balance(alloc).expect(rt, "no memory")
+}
+
+// Puts a cord into the place of so many bytes of another one, from a place on.
+pub(super) fn splice(
+    rt: &impl Abort,
+    alloc: Global,
+    cord: &mut Cord,
+    (start, count): (u64, u64),
+    middle: &Cord,
+) {
+    cord.splice(alloc, start, count, middle)
+        .expect(rt, "no memory");
 }
 
 // That a cord of leaves and runs has this text.
@@ -85,19 +104,50 @@ fn append(bytes: &mut Vec<u8>, node: &Rc<Node>) -> Result<bool, AllocError>
     }
 }
 
-// The byte and the length of a cord that is one run.
-pub(super) fn run_fields(cord: &Cord) -> Option<(u8, u64)> {
-    match cord.root()?.as_ref() {
-        Node::Run { byte, len } => Some((*byte, *len)),
-        _ => None,
+// What a node or a cord is.
+#[derive(Drop)]
+pub(super) enum Shape {
+    // No byte and no node.
+    Nothing,
+    // One leaf of these bytes, its start and its length.
+    Leaf(&'static [u8], u64, u64),
+    // So many times a byte.
+    Run(u8, u64),
+    // Of a source, from a place on, so many bytes.
+    Func(u32, u64, u64),
+    // Leaves and runs of a text of this length.
+    Text(&'static [u8]),
+    // So long and so deep.
+    Size(u64, u32),
+}
+
+pub(super) fn is_node(node: &Node, shape: &Shape) -> bool {
+    match (node, shape) {
+        (
+            Node::Leaf {
+                bytes,
+                start,
+                len,
+                ..
+            },
+            Shape::Leaf(text, from, count),
+        ) => bytes.as_slice() == *text && *start == *from && *len == *count,
+        (Node::Run { byte, len }, Shape::Run(of, count)) => *byte == *of && *len == *count,
+        (Node::Func { id, start, len }, Shape::Func(source, from, count)) => {
+            id.0 == *source && *start == *from && *len == *count
+        }
+        (_, Shape::Size(len, depth)) => node.len() == *len && node.depth() == *depth,
+        _ => false,
     }
 }
 
-// The source, the start and the length of a cord that is one function part.
-pub(super) fn func_fields(cord: &Cord) -> Option<(SourceId, u64, u64)> {
-    match cord.root()?.as_ref() {
-        Node::Func { id, start, len } => Some((*id, *start, *len)),
-        _ => None,
+pub(super) fn is_cord(cord: &Cord, shape: &Shape) -> bool {
+    match (cord.root(), shape) {
+        (None, Shape::Nothing) => cord.len() == 0 && cord.depth() == 0,
+        (_, Shape::Text(text)) => cord.len() == text.len() as u64,
+        (_, Shape::Size(len, depth)) => cord.len() == *len && cord.depth() == *depth,
+        (Some(node), _) => is_node(node, shape),
+        _ => false,
     }
 }
 

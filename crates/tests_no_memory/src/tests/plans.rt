@@ -47,33 +47,16 @@ fn expect_printed(rt: &impl Abort, alloc: Global, plan: &Plan, text: &str) {
     expect_bytes(rt, sink.bytes(), text.as_bytes());
 }
 
-// That a sink which found no memory has taken a prefix of a text.
-fn expect_part(rt: &impl Abort, sink: &MemSink, error: CordError, text: &str) {
-    assert!(rt; error == CordError::WriteFailed);
-    assert!(rt; sink.failures() == 1);
-    assert!(rt; text.as_bytes().starts_with(sink.bytes()));
-}
-
-// That a plan shows a text, to another sink where the first one found no memory.
+// That a plan shows a text, to another sink where the first one found no memory and has taken a prefix of it.
 fn expect_shows(rt: &impl Abort, alloc: Global, plan: &Plan, text: &str) {
     let mut sink = MemSink::new(alloc);
-    match plan.show(&mut sink) {
-        Ok(()) => expect_bytes(rt, sink.bytes(), text.as_bytes()),
-        Err(error) => {
-            expect_part(rt, &sink, error, text);
-            expect_printed(rt, alloc, plan, text);
-        }
-    }
-}
-
-// The plan that one of two equal calls made: at most one of them was refused, and that when out of memory.
-fn made(rt: &impl Abort, first: Result<Plan, CordError>, second: Result<Plan, CordError>) -> Plan {
-    match first {
-        Ok(plan) => plan,
-        Err(error) => {
-            expect_no_memory(rt, error);
-            second.expect(rt, "memory")
-        }
+    let answer = plan.show(&mut sink);
+    if answer.is_ok() {
+        expect_bytes(rt, sink.bytes(), text.as_bytes());
+    } else {
+        assert!(rt; answer == Err(CordError::WriteFailed) && sink.failures() == 1);
+        assert!(rt; text.as_bytes().starts_with(sink.bytes()));
+        expect_printed(rt, alloc, plan, text);
     }
 }
 
@@ -84,33 +67,38 @@ fn expect_statements(rt: &impl Abort, alloc: Global, script: &Script, case: &Pla
     expect_printed(rt, alloc, &unplanned, case.unplanned);
 }
 
-// Makes the plan of a script.
-fn make(rt: &impl Abort, alloc: Global, case: &Planned) {
-    let script = read(rt, alloc, case.script, case.lines);
-    let first = plan(alloc, &script);
-    if first.is_err() {
-        expect_statements(rt, alloc, &script, case);
+fn plan_of(alloc: Global, script: &Script, is_planned: bool) -> Result<Plan, CordError> {
+    if is_planned {
+        plan(alloc, script)
+    } else {
+        Plan::trivial(alloc, script)
     }
-    let planned = made(rt, first, plan(alloc, &script));
-    expect_shows(rt, alloc, &planned, case.planned);
 }
 
-// Makes the trivial plan of a script.
-fn make_trivial(rt: &impl Abort, alloc: Global, case: &Planned) {
+// Makes the plan of a script, or the trivial one.
+fn make(rt: &impl Abort, alloc: Global, case: &Planned, is_planned: bool) {
     let script = read(rt, alloc, case.script, case.lines);
-    let first = Plan::trivial(alloc, &script);
-    if first.is_err() {
-        expect_statements(rt, alloc, &script, case);
-    }
-    let unplanned = made(rt, first, Plan::trivial(alloc, &script));
-    expect_shows(rt, alloc, &unplanned, case.unplanned);
+    let made = match plan_of(alloc, &script, is_planned) {
+        Ok(made) => made,
+        Err(error) => {
+            expect_no_memory(rt, error);
+            expect_statements(rt, alloc, &script, case);
+            plan_of(alloc, &script, is_planned).expect(rt, "memory")
+        }
+    };
+    let text = if is_planned {
+        case.planned
+    } else {
+        case.unplanned
+    };
+    expect_shows(rt, alloc, &made, text);
 }
 
 #[test]
 fn refused_plans(rt: HostRuntime) {
     for case in &[SEAM, NEXT_TURN, BOTH_ASSIGN] {
-        make(&rt, rt.alloc(), case);
-        make_trivial(&rt, rt.alloc(), case);
+        make(&rt, rt.alloc(), case, true);
+        make(&rt, rt.alloc(), case, false);
     }
 }
 

@@ -1,5 +1,5 @@
 //! Runs of scripts: each is refused, ends when out of memory after a prefix of its output, or is done with all of it.
-use super::files::holds;
+use super::files::{holds, two_files};
 use super::texts::pattern;
 use cord_io::{Files, MemFiles, MemSink, Sink};
 use cord_run::{End, run_text, run_unplanned};
@@ -15,14 +15,6 @@ struct Run<'a> {
     lines: u32,
     puts: &'a [(u32, &'a [u8])],
     long: &'a [u8],
-}
-
-// The files "p" of one line and "f" of these bytes.
-fn two_files(rt: &impl Abort, alloc: Global, long: &[u8]) -> MemFiles {
-    let mut files = MemFiles::new(alloc);
-    again!(rt, files.add(alloc, "p", b"line\n"));
-    again!(rt, files.add(alloc, "f", long));
-    files
 }
 
 // Whether bytes are what the lines before this one put, and then a prefix of what it puts itself.
@@ -82,7 +74,7 @@ fn expect_faithful(rt: &impl Abort, run: &Run, end: &Result<End, Refusal>, sink:
 
 // Runs a script by its plan or line by line, and tells whether it was done.
 fn is_done(rt: &impl Abort, alloc: Global, run: &Run, is_planned: bool) -> bool {
-    let files = two_files(rt, alloc, run.long);
+    let files = two_files(rt, alloc, [("p", b"line\n"), ("f", run.long)]);
     assert!(rt; files.failures() == 0);
     let mut sink = MemSink::new(alloc);
     let (end, mut files) = run_one_way(
@@ -98,17 +90,13 @@ fn is_done(rt: &impl Abort, alloc: Global, run: &Run, is_planned: bool) -> bool 
     end == Ok(End::Done)
 }
 
-// Runs a script one way: a run that was refused memory is done when it is made again.
-fn run_it(rt: &impl Abort, alloc: Global, run: &Run, is_planned: bool) {
-    if !is_done(rt, alloc, run, is_planned) {
-        assert!(rt; is_done(rt, alloc, run, is_planned), "{}", run.script);
-    }
-}
-
-// Runs a script both ways.
+// Runs a script both ways: a run that was refused memory is done when it is made again.
 fn run_both(rt: &impl Abort, alloc: Global, run: &Run) {
-    run_it(rt, alloc, run, true);
-    run_it(rt, alloc, run, false);
+    for is_planned in [true, false] {
+        if !is_done(rt, alloc, run, is_planned) {
+            assert!(rt; is_done(rt, alloc, run, is_planned), "{}", run.script);
+        }
+    }
 }
 
 const RUNS: &[Run<'static>] = &[

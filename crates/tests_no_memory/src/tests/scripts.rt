@@ -1,21 +1,15 @@
 //! Scripts: each is read whole, or refused at a line of it.
-use cord_script::{Refusal, RefusalKind, Script, parse};
+use cord_script::{RefusalKind, Script, parse};
 use std::alloc::Global;
 use std::process::Abort;
 
-// That a script of so many lines was refused when out of memory, at one of them.
-fn expect_refused(rt: &impl Abort, refusal: &Refusal, lines: usize) {
-    assert!(rt; refusal.kind == RefusalKind::NoMemory);
-    assert!(rt; refusal.kind.code() == 16);
-    assert!(rt; refusal.line >= 1 && refusal.line as usize <= lines);
-}
-
-// What a script says.
+// What a script of so many lines says: where it was refused when out of memory, that was at one of them.
 fn parsed(rt: &impl Abort, alloc: Global, script: &[u8], lines: usize) -> Script {
     match parse(alloc, script) {
         Ok(read) => read,
         Err(refusal) => {
-            expect_refused(rt, &refusal, lines);
+            assert!(rt; refusal.kind == RefusalKind::NoMemory && refusal.kind.code() == 16);
+            assert!(rt; refusal.line >= 1 && refusal.line as usize <= lines);
             parse(alloc, script).expect(rt, "memory")
         }
     }

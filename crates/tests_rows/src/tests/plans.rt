@@ -16,14 +16,15 @@ fn read(rt: &(impl AllocGlobal + Abort), script: &[u8]) -> Script {
     }
 }
 
-// The plan of a script.
-fn plan_of(rt: &(impl AllocGlobal + Abort), script: &[u8]) -> Plan {
-    plan(rt.alloc(), &read(rt, script)).expect(rt, "no memory")
-}
-
-// The plan of a script that has each line as it stands.
-fn trivial_plan_of(rt: &(impl AllocGlobal + Abort), script: &[u8]) -> Plan {
-    Plan::trivial(rt.alloc(), &read(rt, script)).expect(rt, "no memory")
+// The plan of a script, or the one that has each line as it stands.
+fn plan_of(rt: &(impl AllocGlobal + Abort), script: &[u8], is_planned: bool) -> Plan {
+    let script = read(rt, script);
+    let made = if is_planned {
+        plan(rt.alloc(), &script)
+    } else {
+        Plan::trivial(rt.alloc(), &script)
+    };
+    made.expect(rt, "no memory")
 }
 
 // What a plan shows.
@@ -105,22 +106,17 @@ const UNPLANNED: &[(&str, &[u8], &[u8])] = &[
 
 #[test]
 fn plans_of_cases(rt: HostRuntime) {
-    for (name, script, printed) in PLANNED {
-        expect_printed(&rt, name, &plan_of(&rt, script), printed);
-    }
-}
-
-#[test]
-fn trivial_plans_of_cases(rt: HostRuntime) {
-    for (name, script, printed) in UNPLANNED {
-        expect_printed(&rt, name, &trivial_plan_of(&rt, script), printed);
+    for (cases, is_planned) in [(PLANNED, true), (UNPLANNED, false)] {
+        for (name, script, printed) in cases {
+            expect_printed(&rt, name, &plan_of(&rt, script, is_planned), printed);
+        }
     }
 }
 
 // A sink that takes a byte a call and fails at the tenth call.
 #[test]
 fn a_sink_that_fails_has_a_prefix(rt: HostRuntime) {
-    let planned = plan_of(&rt, SEAM);
+    let planned = plan_of(&rt, SEAM, true);
     let mut sink = FuseSink::new(MemSink::new(rt.alloc()), 9, 1);
     assert!(rt; planned.show(&mut sink) == Err(CordError::WriteFailed));
     assert!(rt; sink.inner().bytes() == b"1 build a".as_slice());

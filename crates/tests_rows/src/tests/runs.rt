@@ -1,7 +1,6 @@
 //! Cases of scripts through `run_text` and `run_unplanned`: the end, and what is written.
 mod blocks;
 mod cases;
-mod definitions;
 mod files;
 mod hostile;
 mod malformed;
@@ -48,22 +47,7 @@ fn run_way<F: Files, S: Sink>(
     }
 }
 
-// Runs a script over no files, by its plan or without one, and compares the end and what is written.
-fn expect_end_of(
-    rt: &(impl AllocGlobal + Abort),
-    name: &str,
-    script: &[u8],
-    is_planned: bool,
-    end: End,
-    written: &[u8],
-) {
-    let mut sink = MemSink::new(rt.alloc());
-    let result = run_way(rt, script, MemFiles::new(rt.alloc()), &mut sink, is_planned).0;
-    assert!(rt; result == Ok(end), "{name}");
-    assert!(rt; sink.bytes() == written, "{name}");
-}
-
-// Runs a script both ways, and compares the end and what is written.
+// Runs a script over no files both ways, and compares the end and what is written.
 fn expect_end(
     rt: &(impl AllocGlobal + Abort),
     name: &str,
@@ -71,26 +55,15 @@ fn expect_end(
     end: End,
     written: &[u8],
 ) {
-    expect_end_of(rt, name, script, true, end, written);
-    expect_end_of(rt, name, script, false, end, written);
+    for is_planned in [true, false] {
+        let mut sink = MemSink::new(rt.alloc());
+        let result = run_way(rt, script, MemFiles::new(rt.alloc()), &mut sink, is_planned).0;
+        assert!(rt; result == Ok(end), "{name}");
+        assert!(rt; sink.bytes() == written, "{name}");
+    }
 }
 
-// Runs a script that is refused, by its plan or without one; nothing is written or finished.
-fn expect_refusal(
-    rt: &(impl AllocGlobal + Abort),
-    name: &str,
-    script: &[u8],
-    refusal: Refusal,
-    is_planned: bool,
-) {
-    let files = MemFiles::new(rt.alloc());
-    let mut sink = FuseSink::new(MemSink::new(rt.alloc()), 0, 1);
-    let result = run_way(rt, script, files, &mut sink, is_planned).0;
-    assert!(rt; result == Err(refusal), "{name}");
-    assert!(rt; sink.failures() == 0, "{name}");
-}
-
-// Runs a script that is refused, both ways.
+// Runs a script that is refused, both ways; nothing is written or finished.
 fn expect_refused(
     rt: &(impl AllocGlobal + Abort),
     name: &str,
@@ -98,8 +71,13 @@ fn expect_refused(
     line: u32,
     kind: RefusalKind,
 ) {
-    expect_refusal(rt, name, script, Refusal { line, kind }, true);
-    expect_refusal(rt, name, script, Refusal { line, kind }, false);
+    for is_planned in [true, false] {
+        let files = MemFiles::new(rt.alloc());
+        let mut sink = FuseSink::new(MemSink::new(rt.alloc()), 0, 1);
+        let result = run_way(rt, script, files, &mut sink, is_planned).0;
+        assert!(rt; result == Err(Refusal { line, kind }), "{name}");
+        assert!(rt; sink.failures() == 0, "{name}");
+    }
 }
 
 // A text, and so many copies of a byte after it.
@@ -133,45 +111,30 @@ fn names(rt: &(impl AllocGlobal + Abort), count: u16) -> Vec<u8> {
     script
 }
 
-#[test]
-fn lines_and_names_at_the_limit(rt: HostRuntime) {
-    let script = filled(&rt, b"", b'\n', 65_536);
-    expect_end(&rt, "lines-at-the-limit", &script, End::Done, b"");
-    expect_end(&rt, "names-at-the-limit", &names(&rt, 256), End::Done, b"");
-}
-
-// Of two names after the first few that share a slot each keeps its own number: 97 * 31 + 80 is 98 * 31 + 49.
-#[test]
-fn names_of_one_slot(rt: HostRuntime) {
-    let few =
-        "set n1 1 ; set n2 2 ; set n3 3 ; set n4 4 ; set n5 5 ; set n6 6 ; set n7 7 ; set n8 8";
-    let more =
-        "set aP 10 ; set b1 20 ; set n9 9 ; add aP aP 1 ; sprintf z \"%d %d %d %d\" aP b1 n1 n9 ; put z";
-    let mut script = lines(&rt, few);
-    add(&rt, &mut script, &lines(&rt, more));
-    expect_end(&rt, "names-of-one-slot", &script, End::Done, b"11 20 1 9");
-}
-
-// Runs a script over a sink that passes so many calls of at most 3 bytes, by its plan or without one.
+// Runs a script both ways over a sink that passes so many calls of at most 3 bytes. Where writing failed there is no
+// finish, so the sink has failed once.
 fn expect_fused(
     rt: &(impl AllocGlobal + Abort),
     name: &str,
     script: &[u8],
     passes: u64,
-    is_planned: bool,
     end: End,
     written: &[u8],
 ) {
-    let files = MemFiles::new(rt.alloc());
-    let mut sink = FuseSink::new(MemSink::new(rt.alloc()), passes, 3);
-    let result = run_way(rt, script, files, &mut sink, is_planned).0;
-    assert!(rt; result == Ok(end), "{name}");
-    assert!(rt; sink.inner().bytes() == written, "{name}");
+    let failures = matches!(end, End::WriteFailed(_)) as u64;
+    for is_planned in [true, false] {
+        let files = MemFiles::new(rt.alloc());
+        let mut sink = FuseSink::new(MemSink::new(rt.alloc()), passes, 3);
+        let result = run_way(rt, script, files, &mut sink, is_planned).0;
+        assert!(rt; result == Ok(end) && sink.failures() == failures, "{name}");
+        assert!(rt; sink.inner().bytes() == written, "{name}");
+    }
 }
 
 // A name, a script, the calls that its sink passes, the end, and what is written. Where the finish fails after a fault,
 // that is the end.
 const FUSED: &[(&str, &[u8], u64, End, &[u8])] = &[
+    ("fuse-sink-no-put", HELLO, 0, End::WriteFailed(2), b""),
     ("fuse-sink-short-put", HELLO, 1, End::WriteFailed(2), b"hel"),
     ("fuse-sink-enough", HELLO, 3, End::Done, b"hello"),
     (
@@ -200,48 +163,50 @@ const FUSED: &[(&str, &[u8], u64, End, &[u8])] = &[
 #[test]
 fn cases_over_a_fuse(rt: HostRuntime) {
     for &(name, script, passes, end, written) in FUSED {
-        expect_fused(&rt, name, script, passes, true, end, written);
-        expect_fused(&rt, name, script, passes, false, end, written);
+        expect_fused(&rt, name, script, passes, end, written);
     }
 }
 
-// Where writing failed there is no finish.
-#[test]
-fn write_failed_is_not_finished(rt: HostRuntime) {
-    let files = MemFiles::new(rt.alloc());
-    let mut sink = FuseSink::new(MemSink::new(rt.alloc()), 0, 3);
-    let result = run_way(&rt, HELLO, files, &mut sink, true).0;
-    assert!(rt; result == Ok(End::WriteFailed(2)));
-    assert!(rt; sink.failures() == 1);
-}
-
-// Appends 200 lines, which make substrings of a text of two gigabytes.
-fn add_substrings(rt: &(impl AllocGlobal + Abort), script: &mut Vec<u8>) {
+// Appends 200 lines, which make substrings of a text of two gigabytes, or fetch the first byte of each.
+fn add_lines(rt: &(impl AllocGlobal + Abort), script: &mut Vec<u8>, is_fetch: bool) {
+    let alloc = rt.alloc();
     for k in 1..=200 {
-        let line = format!(in rt.alloc(); "substr y{k} x {k} 2147483000\n").expect(rt, "no memory");
-        add(rt, script, line.as_bytes());
-    }
-}
-
-// Appends 200 lines, which fetch the first byte of each.
-fn add_fetches(rt: &(impl AllocGlobal + Abort), script: &mut Vec<u8>) {
-    for k in 1..=200 {
-        let line = format!(in rt.alloc(); "fetch n y{k} 0\n").expect(rt, "no memory");
-        add(rt, script, line.as_bytes());
+        let line = if is_fetch {
+            format!(in alloc; "fetch n y{k} 0\n")
+        } else {
+            format!(in alloc; "substr y{k} x {k} 2147483000\n")
+        };
+        add(rt, script, line.expect(rt, "no memory").as_bytes());
     }
 }
 
 // A text of two gigabytes, 200 substrings of it, and the first byte of each.
 fn substrings(rt: &(impl AllocGlobal + Abort)) -> Vec<u8> {
     let mut script = lines(rt, "let x \"ab\" ; repeat 30 ; cat x x x ; end");
-    add_substrings(rt, &mut script);
-    add_fetches(rt, &mut script);
+    add_lines(rt, &mut script, false);
+    add_lines(rt, &mut script, true);
     add(rt, &mut script, b"sprintf z \"%d\" n\nput z\n");
     script
 }
 
-// Substrings of a text of two gigabytes share it.
+// Of two names after the first few that share a slot each keeps its own number: 97 * 31 + 80 is 98 * 31 + 49.
+const ONE_SLOT: &str =
+    "set n1 1 ; set n2 2 ; set n3 3 ; set n4 4 ; set n5 5 ; set n6 6 ; set n7 7 ; set n8 8 ; set aP 10 ; \
+        set b1 20 ; set n9 9 ; add aP aP 1 ; sprintf z \"%d %d %d %d\" aP b1 n1 n9 ; put z";
+
+// Lines and names at their limits, names of one slot, and substrings of a text of two gigabytes, which share it.
 #[test]
-fn substrings_share(rt: HostRuntime) {
+fn built_scripts(rt: HostRuntime) {
+    expect_end(&rt, "empty-script", b"", End::Done, b"");
+    let script = filled(&rt, b"", b'\n', 65_536);
+    expect_end(&rt, "lines-at-the-limit", &script, End::Done, b"");
+    expect_end(&rt, "names-at-the-limit", &names(&rt, 256), End::Done, b"");
+    expect_end(
+        &rt,
+        "names-of-one-slot",
+        &lines(&rt, ONE_SLOT),
+        End::Done,
+        b"11 20 1 9",
+    );
     expect_end(&rt, "substrings-share", &substrings(&rt), End::Done, b"97");
 }

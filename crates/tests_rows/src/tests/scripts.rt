@@ -21,12 +21,6 @@ fn expect_reported(rt: &(impl AllocGlobal + Abort), name: &str, script: &[u8], w
     assert!(rt; found == wanted, "{name}");
 }
 
-fn expect_cases(rt: &(impl AllocGlobal + Abort), cases: &[Case]) {
-    for &(script, wanted) in cases {
-        expect_reported(rt, script, script.as_bytes(), wanted);
-    }
-}
-
 // Scripts of one form, or of a few lines.
 const FORMS: &[Case] = &[
     ("", Ok(0)),
@@ -123,7 +117,7 @@ const REFUSED: &[Case] = &[
     ("if 1 eq 1\nrepeat 2\nend", Err((1, 18))),
 ];
 
-// Words that are wrong in statements that join or print.
+// Words that are wrong in statements that join or print, which are refused in order.
 const WORDS_OF_PRINTS: &[Case] = &[
     ("catn z x", Err((1, 5))),
     ("let x \"a\"\ncatn z x 5", Err((2, 6))),
@@ -160,15 +154,11 @@ const WORDS: &[Case] = &[
 
 #[test]
 fn scripts_of_cases(rt: HostRuntime) {
-    expect_cases(&rt, FORMS);
-    expect_cases(&rt, READ);
-    expect_cases(&rt, REFUSED);
-}
-
-#[test]
-fn words_are_refused_in_order(rt: HostRuntime) {
-    expect_cases(&rt, WORDS_OF_PRINTS);
-    expect_cases(&rt, WORDS);
+    for cases in [FORMS, READ, REFUSED, WORDS_OF_PRINTS, WORDS] {
+        for &(script, wanted) in cases {
+            expect_reported(&rt, script, script.as_bytes(), wanted);
+        }
+    }
 }
 
 // A script of texts, each so many times.
@@ -289,32 +279,23 @@ fn texts_of_literals(rt: HostRuntime) {
     }
 }
 
-// Whether a statement is line 1, which lets `x` be the text `hello`.
-fn is_let(statement: &Statement) -> bool {
-    match statement {
-        Statement::Let { line, target, text } => {
-            *line == 1
-                && target.as_slice() == b"x".as_slice()
-                && text.as_slice() == b"hello".as_slice()
-        }
-        _ => false,
-    }
-}
-
-// Whether a statement is line 2, which puts `x`.
-fn is_put(statement: &Statement) -> bool {
-    match statement {
-        Statement::Put { line, operand } => *line == 2 && operand.as_slice() == b"x".as_slice(),
-        _ => false,
-    }
-}
-
-// Whether a script of these bytes is one of `hello`.
+// Whether line 1 of a script of these bytes lets `x` be the text `hello`, and line 2 puts it.
 fn is_hello(alloc: Global, script: &[u8]) -> bool {
     match parse(alloc, script) {
         Err(_) => false,
         Ok(script) => match script.statements() {
-            [first, last] => is_let(first) && is_put(last),
+            [
+                Statement::Let {
+                    line: 1,
+                    target,
+                    text,
+                },
+                Statement::Put { line: 2, operand },
+            ] => {
+                target.as_slice() == b"x".as_slice()
+                    && text.as_slice() == b"hello".as_slice()
+                    && operand.as_slice() == b"x".as_slice()
+            }
             _ => false,
         },
     }
@@ -325,10 +306,6 @@ fn hello(rt: HostRuntime) {
     assert!(rt; is_hello(rt.alloc(), b"let x \"hello\"\nput x"));
 }
 
-fn expect_kind(rt: &impl Abort, kind: RefusalKind, code: u8, text: &str) {
-    assert!(rt; kind.code() == code && kind.text() == text, "{text}");
-}
-
 #[test]
 fn kinds_have_codes_and_texts(rt: HostRuntime) {
     for (kind, code, text) in [
@@ -337,12 +314,8 @@ fn kinds_have_codes_and_texts(rt: HostRuntime) {
         (RefusalKind::ElseAlone, 17, "else without if"),
         (RefusalKind::MissingIfEnd, 18, "if without end"),
     ] {
-        expect_kind(&rt, kind, code, text);
+        assert!(rt; kind.code() == code && kind.text() == text, "{text}");
     }
-}
-
-fn name_of(rt: &impl Abort, alloc: Global, text: &[u8]) -> Name {
-    Name::of(alloc, text, 0).expect(rt, "no memory")
 }
 
 // That a name is `x`.
@@ -350,17 +323,11 @@ fn expect_x(rt: &impl Abort, name: &Name) {
     assert!(rt; name.as_slice() == b"x".as_slice());
 }
 
-// The names of one that is `x`.
-fn one_name(rt: &impl Abort, alloc: Global) -> Names {
-    let mut list = Vec::new(alloc);
-    list.push(name_of(rt, alloc, b"x")).expect(rt, "no memory");
-    Names::of(list)
-}
-
 #[test]
 fn names_give_their_parts_back(rt: HostRuntime) {
-    expect_x(&rt, &name_of(&rt, rt.alloc(), b"x"));
-    let names = one_name(&rt, rt.alloc());
+    let name = Name::of(rt.alloc(), b"x", 0).expect(&rt, "no memory");
+    expect_x(&rt, &name);
+    let names = Names::of(vec![in rt.alloc(); name].expect(&rt, "no memory"));
     assert!(rt; names.as_slice().len() == 1);
     let list = names.into_vec();
     assert!(rt; list.len() == 1);

@@ -402,15 +402,99 @@ const EDITS: &[Case] = &[
     ),
 ];
 
+// Each kind of definition for its length alone: its length, or why there is none. The plan doesn't build it; without one
+// it is built.
+const DEFINITIONS: &[Case] = &[
+    (
+        "length-of-cat",
+        r#"let a "abc" ; cat z a a ; len n z ; sprintf t "%d" n ; put t"#,
+        End::Done,
+        b"6",
+    ),
+    (
+        "length-of-let",
+        r#"let a "abc" ; let z "hello" ; len n z ; sprintf t "%d" n ; put t"#,
+        End::Done,
+        b"5",
+    ),
+    (
+        "length-of-balance",
+        r#"let a "abc" ; balance z a ; len n z ; sprintf t "%d" n ; put t"#,
+        End::Done,
+        b"3",
+    ),
+    (
+        "length-of-substr",
+        r#"let a "abc" ; substr z a 1 9 ; len n z ; sprintf t "%d" n ; put t"#,
+        End::Done,
+        b"2",
+    ),
+    (
+        "length-of-fn-digits",
+        r#"let a "abc" ; fn z digits 12 ; len n z ; sprintf t "%d" n ; put t"#,
+        End::Done,
+        b"12",
+    ),
+    (
+        "length-of-fn-bytes",
+        r#"let a "abc" ; fn z bytes 0 ; len n z ; sprintf t "%d" n ; put t"#,
+        End::Done,
+        b"0",
+    ),
+    (
+        "length-of-sprintf",
+        r#"let a "abc" ; sprintf z "<%s>" a ; len n z ; sprintf t "%d" n ; put t"#,
+        End::Done,
+        b"5",
+    ),
+    (
+        "length-of-sprintf-number",
+        r#"let a "abc" ; sprintf z "%04d" 7 ; len n z ; sprintf t "%d" n ; put t"#,
+        End::Done,
+        b"4",
+    ),
+    (
+        "no-length-of-fn-negative",
+        r#"let a "abc" ; fn z digits -1 ; len n z ; sprintf t "%d" n ; put t"#,
+        End::Fault(2, Negative),
+        b"",
+    ),
+    (
+        "no-length-of-fn-too-long",
+        r#"let a "abc" ; fn z bytes 1099511627776 ; len n z ; sprintf t "%d" n ; put t"#,
+        End::Fault(2, TooLong),
+        b"",
+    ),
+    (
+        "no-length-of-sprintf-negative",
+        r#"let a "abc" ; sprintf z "%u" -1 ; len n z ; sprintf t "%d" n ; put t"#,
+        End::Fault(2, Negative),
+        b"",
+    ),
+    (
+        "no-length-of-sprintf-byte",
+        r#"let a "abc" ; sprintf z "%c" 256 ; len n z ; sprintf t "%d" n ; put t"#,
+        End::Fault(2, BadByte),
+        b"",
+    ),
+    (
+        "part-of-the-second-text",
+        r#"let a "abc" ; let b "def" ; cat t a b ; substr z t 3 9 ; put z"#,
+        End::Done,
+        b"def",
+    ),
+    (
+        "part-after-both-texts",
+        r#"let a "abc" ; let b "def" ; cat t a b ; substr z t 6 9 ; put z"#,
+        End::Done,
+        b"",
+    ),
+];
+
 fn expect_cases(rt: &(impl AllocGlobal + Abort), cases: &[Case]) {
     for (name, script, end, out) in cases {
         expect_end(rt, name, &lines(rt, script), *end, out);
     }
-}
-
-#[test]
-fn empty_script(rt: HostRuntime) {
-    expect_end(&rt, "empty-script", b"", End::Done, b"");
 }
 
 #[test]
@@ -421,14 +505,10 @@ fn cases(rt: HostRuntime) {
 }
 
 #[test]
-fn ec_goes_on_after_tocord(rt: HostRuntime) {
+fn definitions_and_an_extensible_cord(rt: HostRuntime) {
+    expect_cases(&rt, DEFINITIONS);
     let mut out = vec![in rt.alloc(); b'A'; 129].expect(&rt, "no memory");
     out.extend_from_slice(b"130").expect(&rt, "no memory");
-    expect_end(
-        &rt,
-        "ec-goes-on-after-tocord",
-        &lines(&rt, EC_GOES_ON),
-        End::Done,
-        &out,
-    );
+    let script = lines(&rt, EC_GOES_ON);
+    expect_end(&rt, "ec-goes-on-after-tocord", &script, End::Done, &out);
 }

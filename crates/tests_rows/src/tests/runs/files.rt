@@ -1,5 +1,5 @@
 //! Cases of scripts over files: whole ones, ones that fail after some calls, and ones that give no byte after a place.
-use super::{add, lines, numbered, run_way};
+use super::{add, filled, lines, numbered, run_way};
 use cord_io::{CutFiles, FuseFiles, MemFiles, MemSink};
 use cord_run::{End, FaultKind};
 use std::process::Abort;
@@ -10,15 +10,17 @@ enum Bytes {
     Text(&'static [u8]),
     // So many numbered bytes.
     Numbered(usize),
+    // So many times a byte.
+    Copies(u8, usize),
     // The same twice.
     Twice(usize),
     // At most so many of them, the first ones.
     Prefix(usize),
 }
 
-use Bytes::{Numbered, Prefix, Text, Twice};
+use Bytes::{Copies, Numbered, Prefix, Text, Twice};
 
-// A file, how many calls pass, and the place from which on no byte is given.
+// A file beside "b" of 600 bytes, how many calls pass, and the place from which on no byte is given.
 #[derive(Clone, Copy)]
 struct Device {
     path: &'static str,
@@ -35,6 +37,14 @@ const LINE: Device = Device {
 };
 
 const LINE_OF_ONE_CALL: Device = Device { passes: 1, ..LINE };
+
+// Of five bytes, each of which can be read.
+const FIVE: Device = Device {
+    path: "p",
+    bytes: Numbered(5),
+    passes: u64::MAX,
+    cut: 5,
+};
 
 const CUT: Device = Device {
     path: "p",
@@ -153,6 +163,128 @@ const CASES: &[Case] = &[
         End::Fault(1, FaultKind::NoFile),
         Text(b""),
     ),
+    // A file that is there for its length alone isn't read, whatever it is; one that is built is read at once where it
+    // is eager, or has at most 131,072 bytes.
+    (
+        "file-by-path",
+        r#"let a "abc" ; file z "p" ; len n z ; sprintf t "%d" n ; put t"#,
+        FIVE,
+        BOTH,
+        End::Done,
+        Text(b"5"),
+    ),
+    (
+        "file-missing",
+        r#"let a "abc" ; file z "q" ; len n z ; sprintf t "%d" n ; put t"#,
+        FIVE,
+        BOTH,
+        End::Fault(2, FaultKind::NoFile),
+        Text(b""),
+    ),
+    (
+        "eager-by-path",
+        r#"let a "abc" ; eager z "p" ; len n z ; sprintf t "%d" n ; put t"#,
+        FIVE,
+        BOTH,
+        End::Done,
+        Text(b"5"),
+    ),
+    (
+        "eager-missing",
+        r#"let a "abc" ; eager z "q" ; len n z ; sprintf t "%d" n ; put t"#,
+        FIVE,
+        BOTH,
+        End::Fault(2, FaultKind::NoFile),
+        Text(b""),
+    ),
+    (
+        "lazy-by-path",
+        r#"let a "abc" ; lazy z "p" ; len n z ; sprintf t "%d" n ; put t"#,
+        FIVE,
+        BOTH,
+        End::Done,
+        Text(b"5"),
+    ),
+    (
+        "lazy-missing",
+        r#"let a "abc" ; lazy z "q" ; len n z ; sprintf t "%d" n ; put t"#,
+        FIVE,
+        BOTH,
+        End::Fault(2, FaultKind::NoFile),
+        Text(b""),
+    ),
+    (
+        "eager-that-fails",
+        r#"let a "abc" ; eager z "p" ; len n z ; sprintf t "%d" n ; put t"#,
+        Device {
+            bytes: Numbered(5),
+            cut: 2,
+            ..FIVE
+        },
+        UNPLANNED,
+        End::ReadFailed(2),
+        Text(b""),
+    ),
+    (
+        "lazy-that-is-not-read",
+        r#"let a "abc" ; lazy z "p" ; len n z ; sprintf t "%d" n ; put t"#,
+        Device {
+            bytes: Numbered(5),
+            cut: 2,
+            ..FIVE
+        },
+        UNPLANNED,
+        End::Done,
+        Text(b"5"),
+    ),
+    (
+        "short-file-not-read",
+        r#"let a "abc" ; file z "p" ; len n z ; sprintf t "%d" n ; put t"#,
+        Device {
+            bytes: Numbered(131_072),
+            cut: 131_071,
+            ..FIVE
+        },
+        PLANNED,
+        End::Done,
+        Text(b"131072"),
+    ),
+    (
+        "short-file-that-fails",
+        r#"let a "abc" ; file z "p" ; len n z ; sprintf t "%d" n ; put t"#,
+        Device {
+            bytes: Numbered(131_072),
+            cut: 131_071,
+            ..FIVE
+        },
+        UNPLANNED,
+        End::ReadFailed(2),
+        Text(b""),
+    ),
+    (
+        "long-file-not-read",
+        r#"let a "abc" ; file z "p" ; len n z ; sprintf t "%d" n ; put t"#,
+        Device {
+            bytes: Numbered(131_073),
+            cut: 0,
+            ..FIVE
+        },
+        UNPLANNED,
+        End::Done,
+        Text(b"131073"),
+    ),
+    (
+        "blocks-by-entry",
+        r#"lazy x "a" ; lazy y "b" ; substr u x 550 10 ; substr v y 550 10 ; put u ; put v"#,
+        Device {
+            path: "a",
+            bytes: Copies(b'a', 600),
+            ..LINE
+        },
+        BOTH,
+        End::Done,
+        Text(b"aaaaaaaaaabbbbbbbbbb"),
+    ),
 ];
 
 // The bytes, or as many as there are at most.
@@ -160,6 +292,7 @@ fn bytes_of(rt: &(impl AllocGlobal + Abort), bytes: Bytes) -> Vec<u8> {
     match bytes {
         Text(text) => Vec::from_slice(rt.alloc(), text).expect(rt, "no memory"),
         Numbered(count) => numbered(rt, count),
+        Copies(byte, count) => filled(rt, b"", byte, count),
         Twice(count) => twice(rt, &numbered(rt, count)),
         Prefix(most) => numbered(rt, most),
     }
@@ -171,16 +304,18 @@ fn twice(rt: &(impl AllocGlobal + Abort), bytes: &[u8]) -> Vec<u8> {
     all
 }
 
-// Files in memory with one file.
-fn file_of(rt: &(impl AllocGlobal + Abort), path: &str, bytes: &[u8]) -> MemFiles {
+// Files in memory: this one, and "b" of 600 bytes.
+fn file_and_b(rt: &(impl AllocGlobal + Abort), path: &str, bytes: &[u8]) -> MemFiles {
     let alloc = rt.alloc();
     let mut files = MemFiles::new(alloc);
     files.add(alloc, path, bytes).expect(rt, "no memory");
+    let other = filled(rt, b"", b'b', 600);
+    files.add(alloc, "b", &other).expect(rt, "no memory");
     files
 }
 
 fn files_of(rt: &(impl AllocGlobal + Abort), device: &Device) -> CutFiles<FuseFiles<MemFiles>> {
-    let files = file_of(rt, device.path, &bytes_of(rt, device.bytes));
+    let files = file_and_b(rt, device.path, &bytes_of(rt, device.bytes));
     CutFiles::new(FuseFiles::new(files, device.passes), device.cut)
 }
 
@@ -205,46 +340,13 @@ fn expect_way(rt: &(impl AllocGlobal + Abort), case: &Case, is_planned: bool) {
     );
 }
 
-fn expect_case(rt: &(impl AllocGlobal + Abort), case: &Case) {
-    for is_planned in case.3 {
-        expect_way(rt, case, *is_planned);
-    }
-}
-
 #[test]
 fn cases_over_files(rt: HostRuntime) {
     for case in CASES {
-        expect_case(&rt, case);
+        for is_planned in case.3 {
+            expect_way(&rt, case, *is_planned);
+        }
     }
-}
-
-// The files "a" and "b" of 600 bytes each.
-fn two_long_files(rt: &(impl AllocGlobal + Abort)) -> MemFiles {
-    let alloc = rt.alloc();
-    let mut files = MemFiles::new(alloc);
-    let first = vec![in alloc; b'a'; 600].expect(rt, "no memory");
-    files.add(alloc, "a", &first).expect(rt, "no memory");
-    let second = vec![in alloc; b'b'; 600].expect(rt, "no memory");
-    files.add(alloc, "b", &second).expect(rt, "no memory");
-    files
-}
-
-const TWO_FILES: &str =
-    r#"lazy x "a" ; lazy y "b" ; substr u x 550 10 ; substr v y 550 10 ; put u ; put v"#;
-
-// That ten bytes of each are written, by the plan or without one.
-fn expect_ten_of_each(rt: &(impl AllocGlobal + Abort), is_planned: bool) {
-    let mut sink = MemSink::new(rt.alloc());
-    let script = lines(rt, TWO_FILES);
-    let answer = run_way(rt, &script, two_long_files(rt), &mut sink, is_planned).0;
-    assert!(rt; answer == Ok(End::Done));
-    assert!(rt; sink.bytes() == b"aaaaaaaaaabbbbbbbbbb".as_slice());
-}
-
-#[test]
-fn blocks_by_entry(rt: HostRuntime) {
-    expect_ten_of_each(&rt, true);
-    expect_ten_of_each(&rt, false);
 }
 
 // The files "p0", "p1" and so on, each of one byte: its number.
@@ -271,17 +373,13 @@ fn puts_of_files(rt: &(impl AllocGlobal + Abort), count: u8) -> Vec<u8> {
     script
 }
 
-// That 64 files are put, by the plan or without one.
-fn expect_all_put(rt: &(impl AllocGlobal + Abort), is_planned: bool) {
-    let script = puts_of_files(rt, 64);
-    let mut sink = MemSink::new(rt.alloc());
-    let answer = run_way(rt, &script, numbered_files(rt, 64), &mut sink, is_planned).0;
-    assert!(rt; answer == Ok(End::Done));
-    assert!(rt; sink.bytes() == numbered(rt, 64).as_slice());
-}
-
 #[test]
 fn files_at_the_limit(rt: HostRuntime) {
-    expect_all_put(&rt, true);
-    expect_all_put(&rt, false);
+    let script = puts_of_files(&rt, 64);
+    for is_planned in [true, false] {
+        let mut sink = MemSink::new(rt.alloc());
+        let answer = run_way(&rt, &script, numbered_files(&rt, 64), &mut sink, is_planned).0;
+        assert!(rt; answer == Ok(End::Done));
+        assert!(rt; sink.bytes() == numbered(&rt, 64).as_slice());
+    }
 }

@@ -163,20 +163,21 @@ fn run_fused(
     end == End::Done
 }
 
-// Lets the files fail at each call until the run is done.
-fn fuse_files(rt: &(impl AllocGlobal + Abort), hostile: &Hostile, planned: bool, most: u64) {
+// Lets the files, or the sink, fail at each call until the run is done.
+fn fuse(
+    rt: &(impl AllocGlobal + Abort),
+    hostile: &Hostile,
+    planned: bool,
+    most: u64,
+    by_sink: bool,
+) {
     for k in 0..1_000 {
-        if run_fused(rt, hostile, planned, (k, u64::MAX), most) {
-            return;
-        }
-    }
-    panic!(rt; "not done");
-}
-
-// Lets the sink fail at each call until the run is done.
-fn fuse_sink(rt: &(impl AllocGlobal + Abort), hostile: &Hostile, planned: bool, most: u64) {
-    for k in 0..1_000 {
-        if run_fused(rt, hostile, planned, (u64::MAX, k), most) {
+        let passes = if by_sink {
+            (u64::MAX, k)
+        } else {
+            (k, u64::MAX)
+        };
+        if run_fused(rt, hostile, planned, passes, most) {
             return;
         }
     }
@@ -185,8 +186,8 @@ fn fuse_sink(rt: &(impl AllocGlobal + Abort), hostile: &Hostile, planned: bool, 
 
 fn fuse_each(rt: &(impl AllocGlobal + Abort), hostile: &Hostile, most: u64) {
     for planned in [true, false] {
-        fuse_files(rt, hostile, planned, most);
-        fuse_sink(rt, hostile, planned, most);
+        fuse(rt, hostile, planned, most, false);
+        fuse(rt, hostile, planned, most, true);
     }
 }
 

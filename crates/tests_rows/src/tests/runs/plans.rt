@@ -6,25 +6,16 @@ use cord_run::{End, run};
 use cord_script::{Script, parse};
 use std::process::Abort;
 
-// A plan of `hello` shows its two operations.
-fn expect_printed(rt: &(impl AllocGlobal + Abort), plan: &Plan) {
+// A plan of `hello` shows its two operations, and its run writes the text.
+fn expect_hello(rt: &(impl AllocGlobal + Abort), plan: &Plan) {
     let mut printed = MemSink::new(rt.alloc());
     assert!(rt; plan.show(&mut printed).is_ok());
     assert!(rt; printed.bytes() == b"1 build x literal(5)\n2 write x\n".as_slice());
-}
-
-// Its run writes the text.
-fn expect_run(rt: &(impl AllocGlobal + Abort), plan: &Plan) {
     let files = MemFiles::new(rt.alloc());
     let mut written = MemSink::new(rt.alloc());
     let end = run(rt.alloc(), plan, files, &mut written).0;
     assert!(rt; end == End::Done);
     assert!(rt; written.bytes() == b"hello".as_slice());
-}
-
-fn expect_hello(rt: &(impl AllocGlobal + Abort), plan: &Plan) {
-    expect_printed(rt, plan);
-    expect_run(rt, plan);
 }
 
 fn script_of_hello(rt: &(impl AllocGlobal + Abort)) -> Script {

@@ -3,7 +3,7 @@ use super::{expect_refused, filled, lines, names};
 use cord_script::RefusalKind;
 use cord_script::RefusalKind::{
     BadEscape, BadFormat, BadName, BadNumber, ElseAlone, EndAlone, MissingEnd, MissingIfEnd,
-    TooDeep, UnknownName, Unterminated, WrongCount, WrongKind,
+    TooDeep, UnknownName, UnknownStatement, Unterminated, WrongCount, WrongKind,
 };
 
 // A name, a script with ` ; ` between its lines, the line and the kind of its refusal.
@@ -11,6 +11,7 @@ pub(super) type Case = (&'static str, &'static str, u32, RefusalKind);
 
 pub(super) const REFUSALS: &[Case] = &[
     ("unknown-name", "put x", 1, UnknownName),
+    ("unknown-statement", "print x", 1, UnknownStatement),
     ("cat-one-operand", "cat z x", 1, WrongCount),
     ("let-quote-open", r#"let x "a"#, 1, Unterminated),
     ("let-bad-escape", r#"let x "\q""#, 1, BadEscape),
@@ -74,24 +75,6 @@ pub(super) const REFUSALS: &[Case] = &[
     ("number-unknown", "set n m", 1, UnknownName),
 ];
 
-#[test]
-fn refusals(rt: HostRuntime) {
-    for &(name, script, line, kind) in REFUSALS {
-        expect_refused(&rt, name, &lines(&rt, script), line, kind);
-    }
-}
-
-#[test]
-fn unknown_statement(rt: HostRuntime) {
-    expect_refused(
-        &rt,
-        "unknown-statement",
-        b"print x",
-        1,
-        RefusalKind::UnknownStatement,
-    );
-}
-
 // A name, a text and so many copies of a byte after it, which are the script, and the line and the kind of its refusal.
 const SIZES: &[(&str, &[u8], u8, usize, u32, RefusalKind)] = &[
     (
@@ -121,14 +104,13 @@ const SIZES: &[(&str, &[u8], u8, usize, u32, RefusalKind)] = &[
 ];
 
 #[test]
-fn sizes(rt: HostRuntime) {
+fn refusals(rt: HostRuntime) {
+    for &(name, script, line, kind) in REFUSALS {
+        expect_refused(&rt, name, &lines(&rt, script), line, kind);
+    }
     for &(name, text, byte, count, line, kind) in SIZES {
         expect_refused(&rt, name, &filled(&rt, text, byte, count), line, kind);
     }
-}
-
-#[test]
-fn names_one_too_many(rt: HostRuntime) {
     let script = names(&rt, 257);
     expect_refused(
         &rt,
