@@ -76,10 +76,12 @@ fn texts_of_steps(rt: HostRuntime) {
         drop(grown(&rt, alloc, steps));
     }
     let text = pattern(alloc, 10_100).expect(&rt, "no memory");
+    let Some((few, many)) = text.split_at_checked(100) else {
+        panic!(rt; "too short");
+    };
     let mut ext = ExtCord::new(alloc).expect(&rt, "no memory");
-    for part in [&text[..100], &text[100..]] {
-        ext.append_bytes(alloc, part).expect(&rt, "no memory");
-    }
+    ext.append_bytes(alloc, few).expect(&rt, "no memory");
+    ext.append_bytes(alloc, many).expect(&rt, "no memory");
     assert!(rt; ext.len() == 10_100);
     expect_text(&rt, alloc, &cord_in(&rt, alloc, &mut ext), &text);
 }
