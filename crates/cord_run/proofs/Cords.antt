@@ -2,7 +2,6 @@
 use Rattle.std.proofs.Common.{◌≡◌, ℕ, List, Result, Ok, Err, refl, sym, ap, subst, ◌∙◌}
 use Rattle.std.specs.Prelude.{Option, None, IfOk}
 use Rattle.cord_io.specs.Table.{Lengths}
-use Rattle.cord_io.specs.declared.faults.CordError.{CordError}
 use Rattle.cord_node.specs.declared.Node.{Node}
 use Rattle.cord_node.specs.Tree.{Cell}
 use Rattle.cord_node.specs.Tables.{lengths_of}
@@ -16,7 +15,7 @@ use Rattle.cord_run.proofs.Lengths.{content_text, cord_fits}
 
 module _ (entries : List Entry) (name : List ℕ) where
   -- the same text as the cord of a name
-  same_as_name : (from to : Option Node) → from ≡ cord_in (content_in entries name) → IsSameText from to → IsCord to →
+  pub same_as_name : (from to : Option Node) → from ≡ cord_in (content_in entries name) → IsSameText from to → IsCord to →
       IsTextOver entries (λ s. Ok (s.texts name)) to
   same_as_name from to is same sound = record {
     sound = sound;
@@ -28,11 +27,6 @@ module _ (entries : List Entry) (name : List ℕ) where
       there : (lengths : Lengths) → IsOver lengths entries → CordFitsIn lengths from
       there lengths over = subst (λ (c : Option Node). CordFitsIn lengths c) (sym is)
           (cord_fits lengths (content_in entries name) (over.contents name))
-
-  pub balanced_name : (from : Option Node) → from ≡ cord_in (content_in entries name) → (r : Result (Option Node) CordError) →
-      IfOk r (IsSameText from) → IfOk r IsCord → IfOk r (IsTextOver entries (λ s. Ok (s.texts name)))
-  balanced_name from is (Ok to) same sound = same_as_name from to is same sound
-  balanced_name from is (Err e) same sound = tt
 
   -- the text of the extensible cord of a name
   extended_text : (e : Option (List Cell)) (cord : Option Node) → e ≡ extensible_in entries name → IsExtended e cord →
@@ -52,7 +46,7 @@ module _ (entries : List Entry) (name : List ℕ) where
   extended_none none cord is = extended_text None cord (sym none)
       (subst (λ (c : Option Node). IsExtended None c) (sym is) (record { sound = tt; fits = λ lengths fits. tt; bytes = λ t fits. refl }))
 
-  pub extended_name : (e : Option (List Cell)) → e ≡ extensible_in entries name → (r : Result (Option Node) CordError) →
+  pub extended_name : {E : Type 0} (e : Option (List Cell)) → e ≡ extensible_in entries name → (r : Result (Option Node) E) →
       IfOk r (IsExtended e) → IfOk r (IsTextOver entries (λ s. Ok (s.extensibles name)))
   extended_name e is (Ok cord) extended = extended_text e cord is extended
   extended_name e is (Err error) extended = tt

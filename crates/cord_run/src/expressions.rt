@@ -7,7 +7,7 @@ mod ranges;
 mod short_texts;
 pub(crate) mod slices;
 
-ghost use Rattle.std.specs.Prelude.{◌≡◌, IfErr, IfOk, IsOkUnless, Ok};
+ghost use Rattle.std.specs.Prelude.{◌≡◌, IfErr, IfOk, Ok};
 ghost use Rattle.cord_plan.specs.Views.{expr_view};
 ghost use Rattle.cord_run.specs.inner.Extents.{extent_in};
 ghost use Rattle.cord_run.specs.inner.Origins.{InTurn, origins};
@@ -20,9 +20,8 @@ use crate::expressions::ranges::{Wanted, add_range};
 use crate::stops::Stop;
 use crate::store::Store;
 use cord_core::Cord;
-use cord_io::CordError;
 use cord_plan::Expr;
-use std::alloc::Global;
+use std::alloc::{AllocError, Global};
 
 /// The cord of an expression. Refused with its fault, or with `NoMemory`.
 pub(crate) fn build(alloc: Global, expression: &Expr, store: &Store) -> Result<Cord, Stop>
@@ -63,10 +62,7 @@ pub(crate) fn pieces_of(alloc: Global, expression: &Expr, store: &Store) -> Resu
 {
     match length_of(expression, store) {
         Err(kind) => Err(Stop::Fault(kind)),
-        Ok(len) => match pieces_within(alloc, expression, store, len) {
-            Ok(pieces) => Ok(pieces),
-            Err(_) => Err(Stop::NoMemory),
-        },
+        Ok(len) => Ok(pieces_within(alloc, expression, store, len)?),
     }
 }
 
@@ -76,12 +72,11 @@ fn pieces_within(
     expression: &Expr,
     store: &Store,
     len: u64,
-) -> Result<Vec<Cord>, CordError>
+) -> Result<Vec<Cord>, AllocError>
     requires { extent_in store.now.entries.items (expr_view expression.now) ≡ Ok len }
     ensures whole { IfOk result (λ pieces. AreWhole store.now.entries.items (expr_view expression.now) pieces.items) }
     ensures in_turn { IfOk result (λ pieces. InTurn store.now.entries.items
         (origins (expr_view expression.now)) pieces.items) }
-    ensures refused { IsOkUnless result CordError.NoMemory }
 {
     let mut pieces = Vec::new(alloc);
     if len == 0 {

@@ -229,7 +229,7 @@ impl Store {
             self.new.entries.items) }
     {
         let place = slot_for(&mut self.entries, name)?;
-        let _ = set_extensible(&mut self.entries, name, place, Some(extensible));
+        let _ = set_extensible(&mut self.entries, place, Some(extensible));
         Ok(())
     }
 
@@ -258,7 +258,7 @@ impl Store {
     {
         match self.place(name) {
             None => None,
-            Some(place) => set_extensible(&mut self.entries, name, place, None),
+            Some(place) => set_extensible(&mut self.entries, place, None),
         }
     }
 }

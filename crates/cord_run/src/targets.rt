@@ -189,10 +189,7 @@ fn measure<F: Files>(
     ensures unbuilt { TakesNoMemory (made_view made.now) → result ≢ Err Stop.NoMemory }
 {
     match file_of(made) {
-        Some((path, reading)) => {
-            let _ = reading;
-            opened_length(alloc, sources, path)
-        }
+        Some(file) => opened_length(alloc, sources, file.0),
         None => measure_of_names(alloc, store, made, known),
     }
 }

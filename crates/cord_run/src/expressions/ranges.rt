@@ -1,7 +1,7 @@
 // What is wanted of an expression, as cords: one for each name and each run that has some of it. What is wanted is
 // handed on from member to member, so each length is asked for once. A `sub` hands on less, and makes no cord of what
 // it is cut from.
-ghost use Rattle.std.specs.Prelude.{◌≡◌, ◌+◌, ◌-◌, ◌<◌, ◌≤◌, ◌^◌, ℤ, min, replicate, true, IfOk, IsOkUnless, Ok};
+ghost use Rattle.std.specs.Prelude.{◌≡◌, ◌+◌, ◌-◌, ◌<◌, ◌≤◌, ◌^◌, ℤ, min, replicate, true, IfOk, Ok};
 ghost use Rattle.cord_core.specs.Cord.{IsCord, text_len};
 ghost use Rattle.cord_core.specs.Equations.{HasText};
 ghost use Rattle.cord_meaning.specs.State as meant;
@@ -17,10 +17,10 @@ use crate::checks::as_index;
 use crate::expressions::lengths::copies_asked;
 use crate::store::Store;
 use cord_core::Cord;
-use cord_io::{CordError, MAX_LEN};
+use cord_io::MAX_LEN;
 use cord_plan::{Expr, Members};
 use cord_script::{Name, Number};
-use std::alloc::Global;
+use std::alloc::{AllocError, Global};
 use std::rc::Rc;
 
 /// So many copies of a byte are a leaf: a join makes one leaf of two that are no longer together.
@@ -83,7 +83,7 @@ impl Wanted {
     }
 }
 
-/// Adds cords of what is wanted of an expression, and answers what is wanted after it. Refused with `NoMemory` alone.
+/// Adds cords of what is wanted of an expression, and answers what is wanted after it.
 #[cycle(add_range)]
 pub(crate) fn add_range(
     alloc: Global,
@@ -91,12 +91,11 @@ pub(crate) fn add_range(
     store: &Store,
     wanted: Wanted,
     pieces: &mut Vec<Cord>,
-) -> Result<Wanted, CordError>
+) -> Result<Wanted, AllocError>
     ensures added { IfOk result (λ _. AddsExpression store.now.entries.items
         (expr_view expression.now) wanted pieces.old.items pieces.new.items) }
     ensures past { IfOk result (IsAfter (extent_in store.now.entries.items (expr_view expression.now)) wanted) }
     ensures few { IfOk result (λ after. AddsFew wanted after pieces.old.items pieces.new.items) }
-    ensures refused { IsOkUnless result CordError.NoMemory }
 {
     match expression {
         Expr::Name(name) => add_name(alloc, name, store, wanted, pieces),
@@ -123,12 +122,11 @@ fn add_members(
     store: &Store,
     wanted: Wanted,
     pieces: &mut Vec<Cord>,
-) -> Result<Wanted, CordError>
+) -> Result<Wanted, AllocError>
     ensures added { IfOk result (λ _. AddsMembers store.now.entries.items
         (members_view members.now) wanted pieces.old.items pieces.new.items) }
     ensures past { IfOk result (IsAfter (members_extent store.now.entries.items (members_view members.now)) wanted) }
     ensures few { IfOk result (λ after. AddsFew wanted after pieces.old.items pieces.new.items) }
-    ensures refused { IsOkUnless result CordError.NoMemory }
 {
     let (prefix, rest) = members.halves();
     match prefix {
@@ -148,12 +146,11 @@ fn add_all(
     store: &Store,
     wanted: Wanted,
     pieces: &mut Vec<Cord>,
-) -> Result<Wanted, CordError>
+) -> Result<Wanted, AllocError>
     ensures added { IfOk result (λ _. AddsMembers store.now.entries.items
         (members_seen members.now) wanted pieces.old.items pieces.new.items) }
     ensures past { IfOk result (IsAfter (members_extent store.now.entries.items (members_seen members.now)) wanted) }
     ensures few { IfOk result (λ after. AddsFew wanted after pieces.old.items pieces.new.items) }
-    ensures refused { IsOkUnless result CordError.NoMemory }
 {
     let mut left = wanted;
     for member in members {
@@ -184,14 +181,13 @@ fn add_name(
     store: &Store,
     wanted: Wanted,
     pieces: &mut Vec<Cord>,
-) -> Result<Wanted, CordError>
+) -> Result<Wanted, AllocError>
     ensures added { IfOk result (λ _. AddsCordRange (cord_in (content_in store.now.entries.items name.now)) wanted
         pieces.old.items pieces.new.items) }
     ensures in_turn { IfOk result (λ _. AddsAtMostOne (IsCutOf (cord_in (content_in store.now.entries.items name.now)))
         pieces.old.items pieces.new.items) }
     ensures past { IfOk result (IsPast (length_in store.now.entries.items name.now) wanted) }
     ensures few { IfOk result (λ after. AddsFew wanted after pieces.old.items pieces.new.items) }
-    ensures refused { IsOkUnless result CordError.NoMemory }
 {
     match store.cord_of(name) {
         None => Ok(wanted.after(store.length_of(name))),
@@ -205,19 +201,20 @@ fn add_cord_range(
     cord: &Cord,
     wanted: Wanted,
     pieces: &mut Vec<Cord>,
-) -> Result<Wanted, CordError>
+) -> Result<Wanted, AllocError>
     ensures added { IfOk result (λ _. AddsCordRange cord.now wanted pieces.old.items pieces.new.items) }
     ensures in_turn { IfOk result (λ _. AddsAtMostOne (IsCutOf cord.now) pieces.old.items pieces.new.items) }
     ensures past { IfOk result (IsPast (text_len cord.now) wanted) }
     ensures few { IfOk result (λ after. AddsFew wanted after pieces.old.items pieces.new.items) }
-    ensures refused { IsOkUnless result CordError.NoMemory }
 {
     let len = cord.len();
     let after = wanted.after(len);
     if wanted.of(len) == 0 {
         return Ok(after);
     }
-    let range = cord.substr(alloc, wanted.skip, wanted.count)?;
+    let Ok(range) = cord.substr(alloc, wanted.skip, wanted.count) else {
+        return Err(AllocError);
+    };
     pieces.push(range)?;
     Ok(after)
 }
@@ -230,7 +227,7 @@ fn add_run(
     store: &Store,
     wanted: Wanted,
     pieces: &mut Vec<Cord>,
-) -> Result<Wanted, CordError>
+) -> Result<Wanted, AllocError>
     ensures added { IfOk result (λ _. AddsRun (operand_in store.now.entries.items byte.now)
         (operand_in store.now.entries.items count.now) wanted pieces.old.items pieces.new.items) }
     ensures in_turn { IfOk result (λ _. AddsAtMostOne (AreCopies (operand_in store.now.entries.items byte.now))
@@ -239,7 +236,6 @@ fn add_run(
         (IsAfter (measured_copies MAX_LEN (operand_in store.now.entries.items byte.now)
         (operand_in store.now.entries.items count.now)) wanted) }
     ensures few { IfOk result (λ after. AddsFew wanted after pieces.old.items pieces.new.items) }
-    ensures refused { IsOkUnless result CordError.NoMemory }
 {
     let copies = match copies_asked(store.value_of(byte), store.value_of(count)) {
         Ok(copies) => copies,
@@ -255,13 +251,12 @@ fn add_run(
 }
 
 // Adds copies of a byte.
-fn add_copies(alloc: Global, byte: u8, count: u64, pieces: &mut Vec<Cord>) -> Result<(), CordError>
+fn add_copies(alloc: Global, byte: u8, count: u64, pieces: &mut Vec<Cord>) -> Result<(), AllocError>
     requires short { count ≤ MAX_LEN }
     ensures added { IfOk result (λ _. (asked : ℤ) → meant.as_byte asked ≡ Ok byte →
         AddsCopies asked count pieces.old.items pieces.new.items) }
     ensures in_turn { IfOk result (λ _. (asked : ℤ) → meant.as_byte asked ≡ Ok byte →
         AddsAtMostOne (AreCopies asked) pieces.old.items pieces.new.items) }
-    ensures refused { IsOkUnless result CordError.NoMemory }
 {
     let copies = copies_of(alloc, byte, count)?;
     pieces.push(copies)?;
@@ -269,16 +264,18 @@ fn add_copies(alloc: Global, byte: u8, count: u64, pieces: &mut Vec<Cord>) -> Re
 }
 
 /// So many copies of a byte: one leaf of a few, which joins a short leaf beside it, and one run of more.
-pub(crate) fn copies_of(alloc: Global, byte: u8, count: u64) -> Result<Cord, CordError>
+pub(crate) fn copies_of(alloc: Global, byte: u8, count: u64) -> Result<Cord, AllocError>
     requires short { count ≤ MAX_LEN }
     ensures over { IfOk result (HasText (replicate count byte)) }
     ensures len { IfOk result (λ cord. text_len cord ≡ count) }
     ensures sound { IfOk result IsCord }
-    ensures refused { IsOkUnless result CordError.NoMemory }
 {
     if count > FEW {
-        return Cord::chars(alloc, byte, count);
+        return Cord::chars(alloc, byte, count).map_err(|_| AllocError);
     }
     let few = [byte; FEW as usize];
-    Cord::from_bytes(alloc, &few[..count as usize])
+    match Cord::from_bytes(alloc, &few[..count as usize]) {
+        Ok(cord) => Ok(cord),
+        Err(_) => Err(AllocError),
+    }
 }

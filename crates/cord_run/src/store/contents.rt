@@ -11,7 +11,6 @@ use crate::store::{Content, Entry};
 use cord_core::Cord;
 use cord_ec::ExtCord;
 use cord_io::{CordError, MAX_LEN};
-use cord_script::Name;
 use std::alloc::Global;
 use std::mem::replace;
 
@@ -107,20 +106,19 @@ pub(crate) fn set_number(entries: &mut [Entry], place: usize, number: i64)
     entry.number = number;
 }
 
-/// Puts another extensible cord, or none, into the entry of a name, and answers what it had.
+/// Puts another extensible cord, or none, into the entry at a place, and answers what it had.
 pub(crate) fn set_extensible(
     entries: &mut [Entry],
-    name: &Name,
     place: usize,
     extensible: Option<ExtCord>,
 ) -> Option<ExtCord>
-    requires within { place < length entries.old }
-    requires place { IsEntryAt entries.old name.now place }
-    ensures before { cells_in result ≡ extensible_in entries.old name.now }
-    ensures set { HasExtensible name.now (cells_in extensible) entries.old entries.new }
+    requires { place < length entries.old }
+    ensures before { (name : List ℕ) → IsEntryAt entries.old name place →
+        cells_in result ≡ extensible_in entries.old name }
+    ensures set { (name : List ℕ) → IsEntryAt entries.old name place →
+        HasExtensible name (cells_in extensible) entries.old entries.new }
     ensures distinct { are_distinct (names_in entries.old) ≡ true → are_distinct (names_in entries.new) ≡ true }
 {
-    let _ = name;
     let entry = &mut entries[place];
     replace(&mut entry.extensible, extensible)
 }

@@ -1,5 +1,5 @@
 // Cords of what names hold.
-ghost use Rattle.std.specs.Prelude.{◌≡◌, IfOk, IsOkUnless, Ok};
+ghost use Rattle.std.specs.Prelude.{◌≡◌, IfOk, Ok};
 ghost use Rattle.cord_core.specs.Cord.{IsCord};
 ghost use Rattle.cord_run.specs.inner.Contents.{IsExtended, IsTextOver, extensible_length};
 ghost use Rattle.cord_run.specs.inner.Entries.{SameEntries, cells_in, content_in, cord_in, extensible_in};
@@ -7,40 +7,42 @@ ghost use Rattle.cord_run.specs.inner.Entries.{SameEntries, cells_in, content_in
 use crate::store::Store;
 use cord_core::Cord;
 use cord_ec::ExtCord;
-use cord_io::CordError;
 use cord_script::Name;
-use std::alloc::Global;
+use std::alloc::{AllocError, Global};
 
-/// The cord of a name, shared. Refused only with `NoMemory`.
-pub(crate) fn shared(alloc: Global, store: &Store, name: &Name) -> Result<Cord, CordError>
+/// The cord of a name, shared.
+pub(crate) fn shared(alloc: Global, store: &Store, name: &Name) -> Result<Cord, AllocError>
     ensures same { IfOk result (λ cord. cord ≡ cord_in (content_in store.now.entries.items name.now)) }
     ensures sound { IfOk result IsCord }
-    ensures refused { IsOkUnless result CordError.NoMemory }
 {
     match store.cord_of(name) {
         None => Ok(Cord::empty()),
-        Some(cord) => cord.share(alloc),
+        Some(cord) => match cord.share(alloc) {
+            Ok(shared) => Ok(shared),
+            Err(_) => Err(AllocError),
+        },
     }
 }
 
-/// The text of a name as a balanced cord. Refused only with `NoMemory`.
-pub(crate) fn balanced(alloc: Global, store: &Store, name: &Name) -> Result<Cord, CordError>
+/// The text of a name as a balanced cord.
+pub(crate) fn balanced(alloc: Global, store: &Store, name: &Name) -> Result<Cord, AllocError>
     ensures made { IfOk result (IsTextOver store.now.entries.items (λ s. Ok (s.texts name.now))) }
-    ensures refused { IsOkUnless result CordError.NoMemory }
 {
     match store.cord_of(name) {
         None => Ok(Cord::empty()),
-        Some(cord) => cord.balance(alloc),
+        Some(cord) => match cord.balance(alloc) {
+            Ok(balanced) => Ok(balanced),
+            Err(_) => Err(AllocError),
+        },
     }
 }
 
 impl Store {
     /// The text of the extensible cord of a name as a cord: no bytes where it was not begun. All names hold what they
-    /// held. Refused only with `NoMemory`.
-    pub(crate) fn extended(&mut self, alloc: Global, name: &Name) -> Result<Cord, CordError>
+    /// held.
+    pub(crate) fn extended(&mut self, alloc: Global, name: &Name) -> Result<Cord, AllocError>
         ensures made { IfOk result (IsTextOver self.old.entries.items (λ s. Ok (s.extensibles name.now))) }
         ensures same { SameEntries self.old.entries.items self.new.entries.items }
-        ensures refused { IsOkUnless result CordError.NoMemory }
     {
         match self.place(name) {
             None => Ok(Cord::empty()),
@@ -66,13 +68,12 @@ impl Store {
 }
 
 // The text of an extensible cord, where there is one, which stays.
-fn cord_of(alloc: Global, extensible: &mut Option<ExtCord>) -> Result<Cord, CordError>
+fn cord_of(alloc: Global, extensible: &mut Option<ExtCord>) -> Result<Cord, AllocError>
     ensures made { IfOk result (IsExtended (cells_in extensible.old)) }
     ensures same { cells_in extensible.new ≡ cells_in extensible.old }
-    ensures refused { IsOkUnless result CordError.NoMemory }
 {
     match extensible {
         None => Ok(Cord::empty()),
-        Some(extensible) => extensible.to_cord(alloc),
+        Some(extensible) => extensible.to_cord(alloc).map_err(|_| AllocError),
     }
 }

@@ -1,5 +1,5 @@
 // Cords of literals and of functions.
-ghost use Rattle.std.specs.Prelude.{◌≡◌, ◌<◌, ◌≤◌, Err, IfErr, IfOk, IsOkUnless, length};
+ghost use Rattle.std.specs.Prelude.{◌≡◌, ◌<◌, ◌≤◌, Err, IfErr, IfOk, length};
 ghost use Rattle.cord_core.specs.Refusals.{IsRefusal};
 ghost use Rattle.cord_run.specs.inner.Contents.{IsStopBy, IsStartAsked, IsStartOf, IsCordOfText, function_source, start_extent};
 
@@ -10,7 +10,7 @@ use cord_ec::ExtCord;
 use cord_io::{CordError, MAX_LEN, SourceId};
 use cord_meaning::FaultKind;
 use cord_script::Function;
-use std::alloc::Global;
+use std::alloc::{AllocError, Global};
 
 /// A literal text of at most so many bytes is one leaf; of a longer one each leaf has so many.
 const LEAF: usize = 4_096;
@@ -54,13 +54,14 @@ pub(crate) fn start(alloc: Global, function: Function, count: i64) -> Result<Cor
 }
 
 // The cord of so many first bytes of a function.
-fn start_of(alloc: Global, function: Function, count: u64) -> Result<Cord, CordError>
+fn start_of(alloc: Global, function: Function, count: u64) -> Result<Cord, AllocError>
     requires { count ≤ MAX_LEN }
     ensures made { IfOk result (IsStartOf function count) }
-    ensures refused { IsOkUnless result CordError.NoMemory }
 {
-    let cord = Cord::from_fn(alloc, source_of(function), 0, count)?;
-    Ok(cord)
+    match Cord::from_fn(alloc, source_of(function), 0, count) {
+        Ok(cord) => Ok(cord),
+        Err(_) => Err(AllocError),
+    }
 }
 
 // The source of a function.

@@ -1,5 +1,5 @@
 // Prints of what names hold.
-ghost use Rattle.std.specs.Prelude.{◌≡◌, IfErr, IfOk, IsOkUnless, map};
+ghost use Rattle.std.specs.Prelude.{◌≡◌, IfErr, IfOk, map};
 ghost use Rattle.cord_meaning.specs.Formats.{format_text};
 ghost use Rattle.cord_plan.specs.Values.{within};
 ghost use Rattle.cord_meaning.specs.State.{and_then};
@@ -9,10 +9,10 @@ use crate::stops::Stop;
 use crate::store::Store;
 use crate::store::cords::shared;
 use cord_core::Cord;
-use cord_io::{CordError, MAX_LEN};
+use cord_io::MAX_LEN;
 use cord_printf::{Arg, Format, sprintf, sprintf_len};
 use cord_script::Argument;
-use std::alloc::Global;
+use std::alloc::{AllocError, Global};
 
 /// The cord that a format prints with these arguments, which shares theirs. Refused with the fault of the first
 /// argument that is refused, or else with `TooLong`, or with `NoMemory`.
@@ -47,10 +47,13 @@ pub(crate) fn print_length(
 }
 
 // The arguments of a print, of which cords are shared.
-fn arguments_of(alloc: Global, store: &Store, arguments: &[Argument]) -> Result<Vec<Arg>, CordError>
+fn arguments_of(
+    alloc: Global,
+    store: &Store,
+    arguments: &[Argument],
+) -> Result<Vec<Arg>, AllocError>
     ensures made { IfOk result (λ args. args.items ≡ map (λ argument. argument_in store.now.entries.items argument)
         arguments.now) }
-    ensures refused { IsOkUnless result CordError.NoMemory }
 {
     let mut args = Vec::with_capacity(alloc, arguments.len())?;
     for argument in arguments {
@@ -60,9 +63,8 @@ fn arguments_of(alloc: Global, store: &Store, arguments: &[Argument]) -> Result<
 }
 
 // One of them.
-fn argument_of(alloc: Global, store: &Store, argument: &Argument) -> Result<Arg, CordError>
+fn argument_of(alloc: Global, store: &Store, argument: &Argument) -> Result<Arg, AllocError>
     ensures made { IfOk result (λ arg. arg ≡ argument_in store.now.entries.items argument.now) }
-    ensures refused { IsOkUnless result CordError.NoMemory }
 {
     match argument {
         Argument::Number(number) => Ok(Arg::Num(store.value_of(number))),

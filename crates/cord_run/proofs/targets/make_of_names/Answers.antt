@@ -1,12 +1,9 @@
-use Rattle.std.proofs.Common.{List, ℕ, ap, sym, ◌∙◌, FitsSigned, w64, to_z, of_z, rules}
-use Rattle.std.proofs.lemmas.Int.{to_z-of_z}
-use Rattle.cord_operands.specs.declared.operands.Argument.{Argument}
-use Rattle.cord_printf.specs.declared.pieces.Piece.{Piece}
+use Rattle.std.proofs.Common.{List, ℕ, ap, sym, ◌∙◌, rules}
 use Rattle.cord_plan.specs.Planned as plan
 use Rattle.cord_plan.specs.Views.{expr_view, made_view}
-use Rattle.cord_run.proofs.Definitions.{balanced_made, extensible_made, joined_made, joined_unmade, literal_made, printed_made}
-use Rattle.cord_run.proofs.Definitions.{printed_unmade}
-use Rattle.cord_run.proofs.Definitions.{start_made}
+use Rattle.cord_run.proofs.Definitions.{balanced_made, extensible_made, joined_made, joined_unmade, literal_made, printed_as, printed_made}
+use Rattle.cord_run.proofs.Definitions.{printed_unmade, start_made}
+use Rattle.cord_run.proofs.Numbers.{handed}
 use Rattle.cord_run.proofs.targets.make_of_names.Goals as goal
 
 pub returns-in-Joined-clause-built : goal.returns-in-Joined-clause-built
@@ -25,10 +22,8 @@ returns-in_ok-literal-in-Literal-clause-built c =
 
 pub returns-in-OfFunction-clause-built : goal.returns-in-OfFunction-clause-built
 returns-in-OfFunction-clause-built c =
-    let fits : FitsSigned w64 c.value_of.result = search rules in
     start_made c.args.store.now.entries.items (made_view c.args.made.now) c.in-OfFunction.function c.in-OfFunction.count
-    (ap made_view c.in-OfFunction.is)
-    (to_z w64 (of_z w64 c.value_of.result)) (to_z-of_z w64 c.value_of.result fits ∙ c.value_of.ensures) c.start.result c.start.ensures.made
+    (ap made_view c.in-OfFunction.is) _ (handed c.value_of.result (search rules) c.value_of.ensures) c.start.result c.start.ensures.made
 
 pub returns-in_ok-balanced-in-Balanced-clause-built : goal.returns-in_ok-balanced-in-Balanced-clause-built
 returns-in_ok-balanced-in-Balanced-clause-built c =
@@ -45,15 +40,11 @@ returns-in_ok-extended-in-OfExtensible-clause-built c =
 pub returns-in-Printed-clause-built : goal.returns-in-Printed-clause-built
 returns-in-Printed-clause-built c =
     printed_made c.args.store.now.entries.items (made_view c.args.made.now) c.in-Printed.field-0 c.as_ref.result.now c.as_slice-in-Printed.result.now
-    (ap made_view c.in-Printed.is
-    ∙ ap (λ (pieces : List Piece). plan.Printed c.in-Printed.field-0 pieces c.in-Printed.arguments) (sym c.as_ref.ensures)
-    ∙ ap (λ (list : List Argument). plan.Printed c.in-Printed.field-0 c.as_ref.result.now list)
-    (sym (c.as_slice-in-Printed.ensures ∙ c.as_ref-in-Printed.ensures))) c.print.result c.print.ensures.made
+    (printed_as (ap made_view c.in-Printed.is) c.as_ref.ensures (c.as_slice-in-Printed.ensures ∙ c.as_ref-in-Printed.ensures))
+    c.print.result c.print.ensures.made
 
 pub returns-in-Printed-clause-refused : goal.returns-in-Printed-clause-refused
 returns-in-Printed-clause-refused c =
     printed_unmade c.args.store.now.entries.items (made_view c.args.made.now) c.in-Printed.field-0 c.as_ref.result.now c.as_slice-in-Printed.result.now
-    (ap made_view c.in-Printed.is
-    ∙ ap (λ (pieces : List Piece). plan.Printed c.in-Printed.field-0 pieces c.in-Printed.arguments) (sym c.as_ref.ensures)
-    ∙ ap (λ (list : List Argument). plan.Printed c.in-Printed.field-0 c.as_ref.result.now list)
-    (sym (c.as_slice-in-Printed.ensures ∙ c.as_ref-in-Printed.ensures))) c.print.result c.print.ensures.refused
+    (printed_as (ap made_view c.in-Printed.is) c.as_ref.ensures (c.as_slice-in-Printed.ensures ∙ c.as_ref-in-Printed.ensures))
+    c.print.result c.print.ensures.refused

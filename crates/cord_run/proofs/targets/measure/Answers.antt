@@ -22,20 +22,20 @@ returns-in-Some g c =
     let entries = c.args.store.now.entries.items in
     let r = c.opened_length.result in
     let reported = c.opened_length.ensures in
-    let is : file_made c.in-Some.reading c.in-Some.path.now ≡ made_view c.args.made.now = c.in-Some.ensures.some in
+    let is : file_made c.in-Some.file.1 c.in-Some.file.0.now ≡ made_view c.args.made.now = c.in-Some.ensures.some in
     record {
       reported = subst (λ (m : Made). IfOk r (IsLength consistent old entries m)) is
-          (file_measured consistent old entries c.in-Some.reading c.in-Some.path.now r reported.reported);
-      extent = file_extent entries (made_view c.args.made.now) c.in-Some.reading c.in-Some.path.now is r;
+          (file_measured consistent old entries c.in-Some.file.1 c.in-Some.file.0.now r reported.reported);
+      extent = file_extent entries (made_view c.args.made.now) c.in-Some.file.1 c.in-Some.file.0.now is r;
       refused = subst (λ (m : Made). IfErr r (IsUnmeasured consistent old entries m)) is
-          (file_unmeasured consistent old entries c.in-Some.reading c.in-Some.path.now r reported.refused);
+          (file_unmeasured consistent old entries c.in-Some.file.1 c.in-Some.file.0.now r reported.refused);
       earlier = reported.earlier;
       grows = reported.grows;
       fails = subst (λ (m : Made). IfErr r (FailsBy (IsFileMade m) ⊥)) is
-          (fails_reading _ _ ⊥ (of_file c.in-Some.reading c.in-Some.path.now) r reported.refused);
+          (fails_reading _ _ ⊥ (of_file c.in-Some.file.1 c.in-Some.file.0.now) r reported.refused);
       counts = reported.counts;
       unopened = reported.unopened;
-      unbuilt = λ free. absurd (takes_memory c.in-Some.reading c.in-Some.path.now (subst TakesNoMemory (sym is) free));
+      unbuilt = λ free. absurd (takes_memory c.in-Some.file.1 c.in-Some.file.0.now (subst TakesNoMemory (sym is) free));
     }
 
 pub returns-in-None : goal.returns-in-None

@@ -11,13 +11,13 @@ returns-then-of-eq0-clause-added c =
 
 pub returns-clause-added : goal.returns-clause-added
 returns-clause-added c =
-    let pushed : c.push.new.self.items ≡ c.args.pieces.now.items ++ c.in_ok-range.range ∷ [] = search rules in
-    part_added c.args.cord.now c.args.wanted c.in_ok-range.range c.args.pieces.now.items c.push.new.self.items c.in_ok-range.ensures.over
+    let pushed : c.push.new.self.items ≡ c.args.pieces.now.items ++ c.in-Ok.range ∷ [] = search rules in
+    part_added c.args.cord.now c.args.wanted c.in-Ok.range c.args.pieces.now.items c.push.new.self.items c.in-Ok.ensures.over
     pushed
 
 pub returns-clause-few : goal.returns-clause-few
 returns-clause-few c =
-    let pushed : c.push.new.self.items ≡ c.args.pieces.now.items ++ c.in_ok-range.range ∷ [] = search rules in
-    few_more c.args.wanted c.after-after.result c.len-len.result c.args.pieces.now.items c.push.new.self.items c.in_ok-range.range
+    let pushed : c.push.new.self.items ≡ c.args.pieces.now.items ++ c.in-Ok.range ∷ [] = search rules in
+    few_more c.args.wanted c.after-after.result c.len-len.result c.args.pieces.now.items c.push.new.self.items c.in-Ok.range
     c.after-after.ensures
-    (c.in_ok-range.ensures.len ∙ ap (λ (n : ℕ). min c.args.wanted.count (n - c.args.wanted.skip)) (sym c.len-len.ensures.stored)) pushed
+    (c.in-Ok.ensures.len ∙ ap (λ (n : ℕ). min c.args.wanted.count (n - c.args.wanted.skip)) (sym c.len-len.ensures.stored)) pushed

@@ -1,9 +1,9 @@
-use Rattle.std.proofs.Common.{◌≡◌, FitsSigned, Ok, sym, ◌∙◌, to_z, of_z, w64, rules}
-use Rattle.std.proofs.lemmas.Int.{to_z-of_z}
+use Rattle.std.proofs.Common.{◌≡◌, Ok, sym, ◌∙◌, rules}
 use Rattle.cord_io.specs.declared.TheConstants.{MAX_LEN}
 use Rattle.cord_meaning.specs.State.{as_byte}
 use Rattle.cord_plan.specs.Values.{measured_copies}
 use Rattle.cord_run.specs.inner.Entries.{operand_in}
+use Rattle.cord_run.proofs.Numbers.{handed}
 use Rattle.cord_run.proofs.Ranges.{run_picked}
 use Rattle.cord_run.proofs.expressions.ranges.add_run.Goals as goal
 
@@ -12,12 +12,8 @@ returns-clause-added c =
     let entries = c.args.store.now.entries.items in
     let old = c.args.pieces.now.items in
     let new = c.add_copies.new.pieces.items in
-    let byte_fits : FitsSigned w64 c.value_of.result = search rules in
-    let count_fits : FitsSigned w64 c.value_of-2.result = search rules in
-    let byte : to_z w64 (of_z w64 c.value_of.result) ≡ operand_in entries c.args.byte.now =
-    to_z-of_z w64 c.value_of.result byte_fits ∙ c.value_of.ensures in
-    let count : to_z w64 (of_z w64 c.value_of-2.result) ≡ operand_in entries c.args.count.now =
-    to_z-of_z w64 c.value_of-2.result count_fits ∙ c.value_of-2.ensures in
+    let byte = handed c.value_of.result (search rules) c.value_of.ensures in
+    let count = handed c.value_of-2.result (search rules) c.value_of-2.ensures in
     let reported : measured_copies MAX_LEN (operand_in entries c.args.byte.now) (operand_in entries c.args.count.now)
     ≡ Ok c.in-Ok.copies.count =
     sym (λ i. measured_copies MAX_LEN (byte i) (count i)) ∙ c.in-Ok.ensures.count in

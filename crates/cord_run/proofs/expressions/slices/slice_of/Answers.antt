@@ -1,5 +1,4 @@
-use Rattle.std.proofs.Common.{◌≡◌, Ok, ℤ, FitsSigned, IfSome, of_z, to_z, w64, sym, ap, subst, ◌∙◌, rules}
-use Rattle.std.proofs.lemmas.Int.{to_z-of_z}
+use Rattle.std.proofs.Common.{◌≡◌, Ok, ℤ, IfSome, of_z, to_z, w64, sym, ap, subst, ◌∙◌, rules}
 use Rattle.cord_io.specs.declared.TheConstants.{MAX_LEN}
 use Rattle.cord_plan.specs.Exprs as plain
 use Rattle.cord_plan.specs.Values.{part_of}
@@ -7,6 +6,7 @@ use Rattle.cord_plan.specs.Views.{expr_view}
 use Rattle.cord_plan.proofs.ExprViews.{view-Name, view-Sub}
 use Rattle.cord_run.specs.inner.Entries.{operand_in}
 use Rattle.cord_run.specs.inner.Slices.{IsTextIn}
+use Rattle.cord_run.proofs.Numbers.{handed}
 use Rattle.cord_run.proofs.Slices.{name_is, still_some, sub_is}
 use Rattle.cord_run.proofs.expressions.slices.slice_of.Goals as goal
 
@@ -29,12 +29,8 @@ returns-in-Some c =
     ap expr_view (sym c.as_ref.ensures ∙ c.in-Name-as_ref.is) ∙ view-Name x in
     let view : expr_view c.args.expression.now ≡ plain.sub (plain.name x) i n =
     ap expr_view c.in-Sub.is ∙ view-Sub c.in-Sub.expression i n ∙ ap (λ (e : plain.Expr). plain.sub e i n) inner in
-    let start_fits : FitsSigned w64 c.value_of.result = search rules in
-    let count_fits : FitsSigned w64 c.value_of-in-Some.result = search rules in
-    let start : to_z w64 (of_z w64 c.value_of.result) ≡ operand_in entries i =
-    to_z-of_z w64 c.value_of.result start_fits ∙ c.value_of.ensures in
-    let count : to_z w64 (of_z w64 c.value_of-in-Some.result) ≡ operand_in entries n =
-    to_z-of_z w64 c.value_of-in-Some.result count_fits ∙ c.value_of-in-Some.ensures in
+    let start = handed c.value_of.result (search rules) c.value_of.ensures in
+    let count = handed c.value_of-in-Some.result (search rules) c.value_of-in-Some.ensures in
     subst (λ (e : plain.Expr). IfSome c.range_of.result (λ range. IsTextIn entries e range.now)) (sym view)
     (still_some c.range_of.result (λ range is. sub_is entries x whole c.in-Some.ensures i n range.now
     (subst (λ (z : ℤ). part_of MAX_LEN whole z (operand_in entries n) ≡ Ok range.now) start

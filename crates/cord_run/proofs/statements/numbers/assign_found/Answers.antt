@@ -1,6 +1,5 @@
-use Rattle.std.proofs.Common.{◌≡◌, ℤ, Some, None, Result, subst, FitsSigned, w64, rules}
+use Rattle.std.proofs.Common.{◌≡◌, ℤ, Some, None, Result, refl, subst, rules}
 use Rattle.std.specs.Prelude.{IfOk}
-use Rattle.std.proofs.lemmas.Int.{to_z-of_z}
 use Rattle.cord_syntax.specs.Targets.{target_of}
 use Rattle.cord_run.specs.declared.stops.Stop.{Stop}
 use Rattle.cord_run.specs.inner.Entries.{HasNumber}
@@ -8,6 +7,7 @@ use Rattle.cord_run.specs.inner.Numbers.{CountsFinding, FindsOver}
 use Rattle.cord_run.proofs.NumberStatements.{assigns_none, kept_giving, none_counted, none_found, number_counted}
 use Rattle.cord_run.specs.inner.Outcomes.{CountsReadStop}
 use Rattle.cord_run.specs.inner.Statements.{MeansOver}
+use Rattle.cord_run.proofs.Numbers.{handed}
 use Rattle.cord_run.proofs.Refusals.{handed_on}
 use Rattle.cord_run.proofs.statements.numbers.assign_found.Goals as goal
 
@@ -39,12 +39,11 @@ pub returns-in-Some-clause-means : goal.returns-in-Some-clause-means
 returns-in-Some-clause-means c = λ t found assigns.
     let l = c.args.statement.now in
     let z : ℤ = c.in_ok-number.number in
-    let fits : FitsSigned w64 z = search rules in
     let old = c.args.store.now.entries.items in
     let new = c.give_number.new.store.entries.items in
     let target = c.in-Some.target.now in
     let named : target_of l ≡ Some target = search rules in
-    let has = subst (λ (v : ℤ). IfOk c.give_number.result (λ _. HasNumber target v old new)) (to_z-of_z w64 z fits)
+    let has = subst (λ (v : ℤ). IfOk c.give_number.result (λ _. HasNumber target v old new)) (handed z (search rules) refl)
     c.give_number.ensures.has in
     kept_giving l target z old new t c.give_number.result
     (subst (λ (r : Result ℤ Stop). FindsOver t l old r) c.in_ok-number.was found) named has

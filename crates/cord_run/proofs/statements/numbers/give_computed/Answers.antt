@@ -1,21 +1,20 @@
-use Rattle.std.proofs.Common.{ℤ, Result, refl, subst, FitsSigned, w64, rules}
+use Rattle.std.proofs.Common.{ℤ, Result, refl, subst, rules}
 use Rattle.std.specs.Prelude.{IfOk}
-use Rattle.std.proofs.lemmas.Int.{to_z-of_z}
 use Rattle.cord_meaning.specs.declared.ends.FaultKind.{FaultKind}
 use Rattle.cord_run.specs.declared.stops.Stop.TheVariants as stops
 use Rattle.cord_run.specs.inner.Entries.{HasNumber}
 use Rattle.cord_run.specs.inner.Numbers.{FindsOver, number_or_stop}
 use Rattle.cord_run.proofs.NumberStatements.{kept_giving, none_found, number_counted}
+use Rattle.cord_run.proofs.Numbers.{handed}
 use Rattle.cord_run.proofs.statements.numbers.give_computed.Goals as goal
 
 pub returns-in-Ok-clause-means : goal.returns-in-Ok-clause-means
 returns-in-Ok-clause-means c = λ t l found named.
     let z : ℤ = c.in-Ok.number in
-    let fits : FitsSigned w64 z = search rules in
     let old = c.args.store.now.entries.items in
     let new = c.give_number.new.store.entries.items in
     let target = c.args.target.now in
-    let has = subst (λ (v : ℤ). IfOk c.give_number.result (λ _. HasNumber target v old new)) (to_z-of_z w64 z fits)
+    let has = subst (λ (v : ℤ). IfOk c.give_number.result (λ _. HasNumber target v old new)) (handed z (search rules) refl)
     c.give_number.ensures.has in
     kept_giving l target z old new t c.give_number.result
     (subst (λ (r : Result ℤ FaultKind). FindsOver t l old (number_or_stop r)) c.in-Ok.is found) named has c.give_number.ensures.refused

@@ -1,16 +1,15 @@
-use Rattle.std.proofs.Common.{◌≡◌, ℤ, ◌+ℤ◌, ◌-ℤ◌, pos, Ok, refl, sym, subst, ap, ◌∙◌, FitsSigned, to_z, of_z, w64, rules}
-use Rattle.std.proofs.lemmas.Int.{to_z-of_z}
+use Rattle.std.proofs.Common.{◌≡◌, ℤ, ◌+ℤ◌, ◌-ℤ◌, Ok, refl, sym, subst, ap, ◌∙◌, to_z, of_z, w64, rules}
 use Rattle.cord_meaning.specs.State.{number_value}
 use Rattle.cord_syntax.specs.Families.{statement_of}
 use Rattle.cord_syntax.specs.declared.families.Computation.{Computation}
 use Rattle.cord_syntax.specs.declared.families.Family.TheVariants as families
 use Rattle.cord_syntax.specs.declared.statements.Statement.TheVariants.{Add, Len, Sub}
-use Rattle.cord_run.specs.inner.Entries.{length_in}
 use Rattle.cord_run.specs.inner.Holdings.{plain_of}
 use Rattle.cord_run.specs.inner.Numbers.{in_i64}
 use Rattle.cord_run.specs.inner.Statements.{MeansOver}
 use Rattle.cord_run.proofs.Lengths.{operand_value}
 use Rattle.cord_run.proofs.NumberStatements.{len_finds, sum_finds}
+use Rattle.cord_run.proofs.Numbers.{handed}
 use Rattle.cord_run.proofs.statements.numbers.serve_computation.Goals as goal
 
 pub returns-in-Len-clause-means : goal.returns-in-Len-clause-means
@@ -18,9 +17,7 @@ returns-in-Len-clause-means c = λ t over line.
     let old = c.args.store.now.entries.items in
     let new = c.give_computed.new.store.entries.items in
     let z : ℤ = to_z w64 (of_z w64 c.reported_length-len.result) in
-    let fits : FitsSigned w64 c.reported_length-len.result = search rules in
-    let reported : z ≡ pos (length_in old c.in-Len.operand.now) = to_z-of_z w64 c.reported_length-len.result fits ∙
-    c.reported_length-len.ensures in
+    let reported = handed c.reported_length-len.result (search rules) c.reported_length-len.ensures in
     subst (λ (f : Computation). MeansOver t (statement_of line (families.Computation f)) old new c.give_computed.result) (sym c.in-Len.is)
     (c.give_computed.ensures.means t (Len line c.in-Len.target.now c.in-Len.operand.now)
     (len_finds t old line c.in-Len.target.now (Ok z) over c.in-Len.operand.now (ap (λ v. Ok v) (sym reported))) refl)
@@ -32,10 +29,8 @@ returns-in-Add-clause-means c = λ t over line.
     let target = c.in-Add.target.now in
     let left = c.in-Add.left.now in
     let right = c.in-Add.right.now in
-    let left_fits : FitsSigned w64 c.value_of.result = search rules in
-    let right_fits : FitsSigned w64 c.value_of-in-Add.result = search rules in
-    let left_is = to_z-of_z w64 c.value_of.result left_fits ∙ c.value_of.ensures ∙ operand_value t old left in
-    let right_is = to_z-of_z w64 c.value_of-in-Add.result right_fits ∙ c.value_of-in-Add.ensures ∙ operand_value t old right in
+    let left_is = handed c.value_of.result (search rules) (c.value_of.ensures ∙ operand_value t old left) in
+    let right_is = handed c.value_of-in-Add.result (search rules) (c.value_of-in-Add.ensures ∙ operand_value t old right) in
     let z : ℤ = number_value (plain_of t old) left +ℤ number_value (plain_of t old) right in
     let number : c.sum-sum.result ≡ in_i64 z = c.sum-sum.ensures ∙ (λ i. in_i64 (left_is i +ℤ right_is i)) in
     subst (λ (f : Computation). MeansOver t (statement_of line (families.Computation f)) old new c.give_computed-in-Add.result)
@@ -50,10 +45,8 @@ returns-in-Sub-clause-means c = λ t over line.
     let target = c.in-Sub.target.now in
     let left = c.in-Sub.left.now in
     let right = c.in-Sub.right.now in
-    let left_fits : FitsSigned w64 c.value_of-in-Sub.result = search rules in
-    let right_fits : FitsSigned w64 c.value_of-in-Sub-2.result = search rules in
-    let left_is = to_z-of_z w64 c.value_of-in-Sub.result left_fits ∙ c.value_of-in-Sub.ensures ∙ operand_value t old left in
-    let right_is = to_z-of_z w64 c.value_of-in-Sub-2.result right_fits ∙ c.value_of-in-Sub-2.ensures ∙ operand_value t old right in
+    let left_is = handed c.value_of-in-Sub.result (search rules) (c.value_of-in-Sub.ensures ∙ operand_value t old left) in
+    let right_is = handed c.value_of-in-Sub-2.result (search rules) (c.value_of-in-Sub-2.ensures ∙ operand_value t old right) in
     let z : ℤ = number_value (plain_of t old) left -ℤ number_value (plain_of t old) right in
     let number : c.difference-difference.result ≡ in_i64 z = c.difference-difference.ensures ∙ (λ i. in_i64 (left_is i -ℤ right_is i)) in
     subst (λ (f : Computation). MeansOver t (statement_of line (families.Computation f)) old new c.give_computed-in-Sub.result)

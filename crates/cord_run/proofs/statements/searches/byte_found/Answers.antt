@@ -1,10 +1,9 @@
-use Rattle.std.proofs.Common.{◌≡◌, ◌<◌, ◌≤◌, ℕ, ℤ, Ok, sym, subst, FitsSigned, w64, rules}
+use Rattle.std.proofs.Common.{◌≡◌, ◌<◌, ◌≤◌, ℕ, ℤ, Ok, refl, sym, subst, rules}
 use Rattle.std.specs.Prelude.{IfSome}
-use Rattle.std.proofs.lemmas.Int.{to_z-of_z}
 use Rattle.cord_core.specs.Cord.{bytes_of, text_len}
 use Rattle.cord_meaning.specs.State.{as_byte, as_index}
 use Rattle.cord_run.specs.inner.Numbers.{byte_place, Finds}
-use Rattle.cord_run.proofs.Numbers.{past_byte, byte_placed}
+use Rattle.cord_run.proofs.Numbers.{byte_placed, handed, past_byte}
 use Rattle.cord_run.proofs.statements.searches.byte_found.Goals as goal
 
 pub returns-then-len-index-clause-found : goal.returns-then-len-index-clause-found
@@ -20,10 +19,9 @@ returns-in-Ok-clause-found g c = λ file_system agrees.
     let checked : as_index c.args.start ≡ Ok c.in_ok-index.index = search rules in
     let good : as_byte c.args.byte ≡ Ok c.in_ok-wanted.wanted = search rules in
     let within : c.in_ok-index.index < text_len c.args.cord.now = search rules in
-    let fits : FitsSigned w64 c.place_number.result = search rules in
     let table = g.R.Source.table c.args.source.now file_system in
     subst (λ (z : ℤ). Finds (byte_place c.args.direction (bytes_of table c.args.cord.now) c.args.start c.args.byte) (Ok z))
-    (sym (to_z-of_z w64 c.place_number.result fits))
+    (sym (handed c.place_number.result (search rules) refl))
     (byte_placed (g.R.Source.lengths c.args.source.now) c.args.cord.now c.len-len.ensures.sound c.requires.fits c.args.start
     c.in_ok-index.index checked c.args.direction c.args.byte c.in_ok-wanted.wanted good table
     (g.met.R.Source.lengths_of_table c.args.source.now file_system (c.in-Ok.ensures.same.2 file_system agrees)) within c.in-Ok.place

@@ -1,19 +1,17 @@
-use Rattle.std.proofs.Common.{◌≡◌, ◌≤◌, ℕ, ℤ, Ok, sym, subst, FitsSigned, w64, rules}
+use Rattle.std.proofs.Common.{◌≡◌, ◌≤◌, ℕ, ℤ, Ok, refl, sym, subst, rules}
 use Rattle.std.specs.Prelude.{IfSome}
-use Rattle.std.proofs.lemmas.Int.{to_z-of_z}
 use Rattle.cord_core.specs.Cord.{bytes_of}
 use Rattle.cord_meaning.specs.State.{as_index}
 use Rattle.cord_run.specs.inner.Numbers.{text_place, Finds}
-use Rattle.cord_run.proofs.Numbers.{text_placed}
+use Rattle.cord_run.proofs.Numbers.{handed, text_placed}
 use Rattle.cord_run.proofs.statements.searches.text_found.Goals as goal
 
 pub returns-in-Ok-clause-found : goal.returns-in-Ok-clause-found
 returns-in-Ok-clause-found g c = λ file_system agrees.
     let checked : as_index c.args.start ≡ Ok c.in_ok-index.index = search rules in
-    let fits : FitsSigned w64 c.place_number.result = search rules in
     let table = g.R.Source.table c.args.source.now file_system in
     subst (λ (z : ℤ). Finds (text_place (bytes_of table c.args.cord.now) c.args.start (bytes_of table c.args.pattern.now)) (Ok z))
-    (sym (to_z-of_z w64 c.place_number.result fits))
+    (sym (handed c.place_number.result (search rules) refl))
     (text_placed (g.R.Source.lengths c.args.source.now) c.args.cord.now c.len-len.ensures.sound c.requires.fits c.args.start
     c.in_ok-index.index checked c.args.pattern.now table (g.met.R.Source.lengths_of_table c.args.source.now file_system
     (c.in-Ok.ensures.source.earlier file_system agrees)) c.in-Ok.place c.place_number.result
