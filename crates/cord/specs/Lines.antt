@@ -1,8 +1,7 @@
 -- Lines: they end with the byte 10, which the last one may lack.
-use Rattle.std.specs.Prelude.{◌≡◌, ℕ, ◌==◌, Bool, List, [], ◌∷◌, map, Option, MatchOption, IfOk, IsOkUnless, if◌then◌else◌}
+use Rattle.std.specs.Prelude.{◌≡◌, ℕ, ◌==◌, Bool, List, [], ◌∷◌, map, Option, MatchOption, IfOk, if◌then◌else◌}
+use Rattle.std.specs.declared.alloc.AllocError.{AllocError}
 use Rattle.std.specs.declared.result.Result.{Result}
-use Rattle.cord_io.specs.declared.CordError.{CordError}
-use Rattle.cord_io.specs.declared.CordError.TheVariants.{NoMemory}
 
 -- one byte more before the first line
 abbrev pub led_by : ℕ → List (List ℕ) → List (List ℕ)
@@ -26,10 +25,7 @@ bare_lines x = map bare (lines x)
 abbrev pub lines_as : Bool → List ℕ → List (List ℕ)
 lines_as with_ends x = if with_ends then lines x else bare_lines x
 
--- an answer that is the next line, or out of memory in its place
-abbrev pub IsLine : List ℕ → Result (List ℕ) CordError → Type 0
-IsLine line made = IfOk made (λ t. t ≡ line) × IsOkUnless made NoMemory
-
--- a call that gave the first of the lines that were left, or nothing where none was
-abbrev pub GivesLine : List (List ℕ) → Option (Result (List ℕ) CordError) → List (List ℕ) → Type 0
-GivesLine old answer new = MatchOption answer ((old ≡ []) × (new ≡ [])) (λ made. (line : List ℕ) × (old ≡ line ∷ new) × IsLine line made)
+-- a call that gave the first of the lines that were left, or out of memory in its place, or nothing where none was
+abbrev pub GivesLine : List (List ℕ) → Option (Result (List ℕ) AllocError) → List (List ℕ) → Type 0
+GivesLine old answer new =
+    MatchOption answer ((old ≡ []) × (new ≡ [])) (λ made. (line : List ℕ) × (old ≡ line ∷ new) × IfOk made (λ t. t ≡ line))

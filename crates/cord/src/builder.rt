@@ -1,12 +1,13 @@
 // Texts that grow at their end.
-ghost use Rattle.std.specs.Prelude.{◌≡◌, ◌↔◌, ◌+◌, ◌<◌, ◌≤◌, [], ◌∷◌, ◌++◌, IfOk, OnOk, IfErr, IsErr, IsOkUnless};
+ghost use Rattle.std.specs.Prelude.{◌≡◌, ◌↔◌, ◌+◌, ◌<◌, ◌≤◌, [], ◌∷◌, ◌++◌, IfOk, OnOk, IfErr, IsErr};
 ghost use Rattle.std.specs.Prelude.{IsTrue, Err, length};
 ghost use Rattle.cord_core.specs.Refusals.{IsRefusal};
 
 use crate::Text;
+use crate::memory::within_memory;
 use cord_ec::ExtCord;
 use cord_io::{CordError, MAX_LEN};
-use std::alloc::Global;
+use std::alloc::{AllocError, Global};
 use std::marker::Model;
 
 /// A text of at most `MAX_LEN` bytes that grows at its end, made of many small pieces: they are gathered to leaves of
@@ -29,11 +30,10 @@ impl Model for TextBuilder {
 
 impl TextBuilder {
     /// The builder of no bytes. Refused only when out of memory.
-    pub fn new(alloc: Global) -> Result<TextBuilder, CordError>
+    pub fn new(alloc: Global) -> Result<TextBuilder, AllocError>
         ensures text { IfOk result (λ made. made ≡ []) }
-        ensures refused { IsOkUnless result CordError.NoMemory }
     {
-        let grown = ExtCord::new(alloc)?;
+        let grown = within_memory(ExtCord::new(alloc))?;
         Ok(TextBuilder { grown })
     }
 
@@ -93,12 +93,11 @@ impl TextBuilder {
 
     /// Its bytes as a text, which shares its tree with the builder. The builder stays, and can grow further. Refused
     /// only when out of memory.
-    pub fn to_text(&mut self, alloc: Global) -> Result<Text, CordError>
+    pub fn to_text(&mut self, alloc: Global) -> Result<Text, AllocError>
         ensures text { IfOk result (λ t. t ≡ self.old) }
         ensures same { self.new ≡ self.old }
-        ensures refused { IsOkUnless result CordError.NoMemory }
     {
-        let cord = self.grown.to_cord(alloc)?;
+        let cord = within_memory(self.grown.to_cord(alloc))?;
         Ok(Text { cord })
     }
 }

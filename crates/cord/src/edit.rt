@@ -1,28 +1,27 @@
 // Parts of a text, and texts with a part taken out, put in or replaced.
-ghost use Rattle.std.specs.Prelude.{◌≡◌, ◌+◌, ◌<◌, ◌≤◌, ◌++◌, IfOk, OnOk, IfErr, IsOkUnless, Err, length, take, drop};
+ghost use Rattle.std.specs.Prelude.{◌≡◌, ◌+◌, ◌<◌, ◌≤◌, ◌++◌, IfOk, OnOk, IfErr, Err, length, take, drop};
 ghost use Rattle.cord_core.specs.Refusals.{IsRefusal};
 
 use crate::Text;
+use crate::memory::within_memory;
 use cord_io::{CordError, MAX_LEN};
-use std::alloc::Global;
+use std::alloc::{AllocError, Global};
 
 impl Text {
     /// The bytes from `start` on, at most `count` of them: none where `start` is at or past the end. Refused only
     /// when out of memory.
-    pub fn substr(&self, alloc: Global, start: u64, count: u64) -> Result<Text, CordError>
+    pub fn substr(&self, alloc: Global, start: u64, count: u64) -> Result<Text, AllocError>
         ensures text { IfOk result (λ t. t ≡ take count (drop start self.now)) }
-        ensures refused { IsOkUnless result CordError.NoMemory }
     {
-        let cord = self.cord.substr(alloc, start, count)?;
+        let cord = within_memory(self.cord.substr(alloc, start, count))?;
         Ok(Text { cord })
     }
 
     /// The bytes before `at`, and those from `at` on: all and none where `at` is at or past the end. Refused only
     /// when out of memory.
-    pub fn split_at(&self, alloc: Global, at: u64) -> Result<(Text, Text), CordError>
+    pub fn split_at(&self, alloc: Global, at: u64) -> Result<(Text, Text), AllocError>
         ensures prefix { IfOk result (λ parts. parts.0 ≡ take at self.now) }
         ensures back { IfOk result (λ parts. parts.1 ≡ drop at self.now) }
-        ensures refused { IsOkUnless result CordError.NoMemory }
     {
         let prefix = self.substr(alloc, 0, at)?;
         let back = self.substr(alloc, at, self.len())?;
@@ -42,13 +41,10 @@ impl Text {
 
     /// This text without at most `count` of its bytes from `start` on: all of it where `start` is at or past the end.
     /// Refused only when out of memory.
-    pub fn remove(&self, alloc: Global, start: u64, count: u64) -> Result<Text, CordError>
+    pub fn remove(&self, alloc: Global, start: u64, count: u64) -> Result<Text, AllocError>
         ensures text { IfOk result (λ t. t ≡ take start self.now ++ drop (start + count) self.now) }
-        ensures refused { IsOkUnless result CordError.NoMemory }
     {
-        let _ = &self.cord;
-        let edited = self.replace_range(alloc, start, count, &Text::empty())?;
-        Ok(edited)
+        within_memory(self.replace_range(alloc, start, count, &Text::empty()))
     }
 
     /// This text with the bytes of `text` in the place of at most `count` of its bytes from `start` on: at its end
@@ -75,11 +71,10 @@ impl Text {
 
     /// The same bytes in a tree of a depth of about 1.44 times the binary logarithm of their number at most. Refused
     /// only when out of memory.
-    pub fn balance(&self, alloc: Global) -> Result<Text, CordError>
+    pub fn balance(&self, alloc: Global) -> Result<Text, AllocError>
         ensures text { IfOk result (λ t. t ≡ self.now) }
-        ensures refused { IsOkUnless result CordError.NoMemory }
     {
-        let cord = self.cord.balance(alloc)?;
+        let cord = within_memory(self.cord.balance(alloc))?;
         Ok(Text { cord })
     }
 }

@@ -1,12 +1,13 @@
 // Texts that are edited.
-ghost use Rattle.std.specs.Prelude.{◌≡◌, ◌↔◌, ◌+◌, ◌<◌, ◌≤◌, [], ◌++◌, IfOk, OnOk, IfErr, IsErr, IsOkUnless};
+ghost use Rattle.std.specs.Prelude.{◌≡◌, ◌↔◌, ◌+◌, ◌<◌, ◌≤◌, [], ◌++◌, IfOk, OnOk, IfErr, IsErr};
 ghost use Rattle.std.specs.Prelude.{IsTrue, Err, length, take, drop};
 ghost use Rattle.cord_core.specs.Refusals.{IsRefusal};
 
 use crate::Text;
+use crate::memory::within_memory;
 use cord_edit::EditBuffer;
 use cord_io::{CordError, MAX_LEN};
-use std::alloc::Global;
+use std::alloc::{AllocError, Global};
 use std::marker::Model;
 
 /// A text of at most `MAX_LEN` bytes that is edited in place, for many small edits, most of them beside the one before:
@@ -29,11 +30,10 @@ impl Model for TextEditor {
 
 impl TextEditor {
     /// An editor of the bytes of `text`, whose tree it shares. Refused only when out of memory.
-    pub fn of(alloc: Global, text: &Text) -> Result<TextEditor, CordError>
+    pub fn of(alloc: Global, text: &Text) -> Result<TextEditor, AllocError>
         ensures text { IfOk result (λ made. made ≡ text.now) }
-        ensures refused { IsOkUnless result CordError.NoMemory }
     {
-        let buffer = EditBuffer::of(alloc, text.as_cord())?;
+        let buffer = within_memory(EditBuffer::of(alloc, text.as_cord()))?;
         Ok(TextEditor { buffer })
     }
 
@@ -81,12 +81,11 @@ impl TextEditor {
 
     /// Takes out at most `count` bytes from `start` on: none where `start` is at or past the end. Refused only when
     /// out of memory.
-    pub fn remove(&mut self, alloc: Global, start: u64, count: u64) -> Result<(), CordError>
+    pub fn remove(&mut self, alloc: Global, start: u64, count: u64) -> Result<(), AllocError>
         ensures text { OnOk result (self.new ≡ take start self.old ++ drop (start + count) self.old) }
         ensures unchanged { IsErr result → self.new ≡ self.old }
-        ensures refused { IsOkUnless result CordError.NoMemory }
     {
-        self.buffer.remove(alloc, start, count)?;
+        within_memory(self.buffer.remove(alloc, start, count))?;
         Ok(())
     }
 
@@ -114,12 +113,11 @@ impl TextEditor {
 
     /// Its bytes as a text, which shares its tree with the editor. The editor stays, and can be edited further. Refused
     /// only when out of memory.
-    pub fn to_text(&mut self, alloc: Global) -> Result<Text, CordError>
+    pub fn to_text(&mut self, alloc: Global) -> Result<Text, AllocError>
         ensures text { IfOk result (λ t. t ≡ self.old) }
         ensures same { self.new ≡ self.old }
-        ensures refused { IsOkUnless result CordError.NoMemory }
     {
-        let cord = self.buffer.to_cord(alloc)?;
+        let cord = within_memory(self.buffer.to_cord(alloc))?;
         Ok(Text { cord })
     }
 }

@@ -1,5 +1,5 @@
 // Texts one after another.
-ghost use Rattle.std.specs.Prelude.{◌≡◌, ◌+◌, ◌<◌, ◌≤◌, ◌++◌, IfOk, OnOk, IfErr, IsOkUnless, Err, length};
+ghost use Rattle.std.specs.Prelude.{◌≡◌, ◌+◌, ◌<◌, ◌≤◌, ◌++◌, IfOk, OnOk, IfErr, Err, length};
 ghost use Rattle.std.specs.List.{concat};
 ghost use Rattle.cord_core.specs.Refusals.{IsRefusal};
 

@@ -63,6 +63,7 @@ mod hash;
 mod join;
 mod lines;
 mod make;
+mod memory;
 mod no_source;
 mod order;
 mod output;

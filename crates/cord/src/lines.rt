@@ -1,15 +1,14 @@
 // The lines of a text.
-ghost use Rattle.std.specs.Prelude.{◌≡◌, ◌-◌, ◌<◌, ◌≤◌, ◌∷◌, IfOk, IsOkUnless, length, take, drop, slice_get};
+ghost use Rattle.std.specs.Prelude.{◌≡◌, ◌-◌, ◌<◌, ◌≤◌, ◌∷◌, IfOk, length, take, drop, slice_get};
 ghost use Rattle.cord.specs.Lines.{lines, bare_lines, lines_as};
 
 use crate::Text;
 use crate::count::{count_in, nth_in};
-use cord_io::CordError;
-use std::alloc::Global;
+use std::alloc::{AllocError, Global};
 use std::marker::Model;
 
 /// The lines of a text that are left, as texts that share its tree. A line ends with the byte 10, which the last one
-/// may lack. Where memory is refused a line is `NoMemory`, and the next ones follow.
+/// may lack. Where memory is refused a line is `AllocError`, and the next ones follow.
 #[derive(Drop)]
 pub struct Lines<'a> {
     text: &'a Text,
@@ -58,9 +57,8 @@ impl Text {
 
     /// Line `n`, from 0, without its end: none where there are no more than `n` lines. Those before it aren't made.
     /// Refused only when out of memory.
-    pub fn nth_line(&self, alloc: Global, n: u64) -> Result<Option<Text>, CordError>
+    pub fn nth_line(&self, alloc: Global, n: u64) -> Result<Option<Text>, AllocError>
         ensures line { IfOk result (λ line. line ≡ slice_get (bare_lines self.now) n) }
-        ensures refused { IsOkUnless result CordError.NoMemory }
     {
         let start = self.line_start(n);
         if start == self.len() {
@@ -115,13 +113,13 @@ impl<'a> Iterator for Lines<'a> {
     ghost use Rattle.std.specs.Iterator.{item_count};
     ghost use Rattle.cord.specs.Lines.{GivesLine};
 
-    type Item = Result<Text, CordError>;
+    type Item = Result<Text, AllocError>;
 
     ghost next_gives = { GivesLine };
 
     ghost remaining = { item_count (λ left. left) };
 
-    fn next(&mut self) -> Option<Result<Text, CordError>> {
+    fn next(&mut self) -> Option<Result<Text, AllocError>> {
         let start = self.start;
         if start == self.text.len() {
             return None;

@@ -1,20 +1,19 @@
 // The bytes of a text in a vector, and in a sink.
-ghost use Rattle.std.specs.Prelude.{◌≡◌, ◌++◌, OnOk, OnErr, IfOk, IfErr, IsOkUnless, is_err};
+ghost use Rattle.std.specs.Prelude.{◌≡◌, ◌++◌, OnOk, OnErr, IfOk, IfErr, is_err};
 ghost use Rattle.cord_io.specs.Device.{count_after};
 ghost use Rattle.cord_iter.specs.Output.{IsPrefixOf, Takes};
 
+use crate::memory::within_memory;
 use crate::{NoSource, Text};
 use cord_io::{CordError, Sink};
-use std::alloc::Global;
+use std::alloc::{AllocError, Global};
 
 impl Text {
     /// Its bytes in a vector of that length. Refused only when out of memory.
-    pub fn to_vec(&self, alloc: Global) -> Result<Vec<u8>, CordError>
+    pub fn to_vec(&self, alloc: Global) -> Result<Vec<u8>, AllocError>
         ensures text { IfOk result (λ v. v.items ≡ self.now) }
-        ensures refused { IsOkUnless result CordError.NoMemory }
     {
-        let bytes = cord_iter::to_vec(alloc, &self.cord, &mut NoSource)?;
-        Ok(bytes)
+        within_memory(cord_iter::to_vec(alloc, &self.cord, &mut NoSource))
     }
 
     /// Hands a sink its bytes, each leaf's slice whole. It takes no memory, and doesn't finish the sink.

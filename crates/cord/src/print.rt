@@ -5,6 +5,7 @@ ghost use Rattle.cord.specs.Prints.{piece_arguments, print_of, AreWanted, IsRefu
 ghost use Rattle.cord.specs.inner.Prints.{IsArgumentFor, AreArgumentsFor};
 
 use crate::Text;
+use crate::memory::within_memory;
 use cord_io::MAX_LEN;
 use cord_printf::{Arg, Format, PrintError, sprintf};
 use std::alloc::{AllocError, Global};
@@ -56,9 +57,9 @@ fn cord_of(alloc: Global, arg: &TextArg<'_>) -> Result<Arg, AllocError>
 {
     match arg {
         TextArg::Num(number) => Ok(Arg::Num(*number)),
-        TextArg::Text(text) => match text.as_cord().share(alloc) {
-            Ok(cord) => Ok(Arg::Cord(cord)),
-            Err(_) => Err(AllocError),
-        },
+        TextArg::Text(text) => {
+            let cord = within_memory(text.as_cord().share(alloc))?;
+            Ok(Arg::Cord(cord))
+        }
     }
 }

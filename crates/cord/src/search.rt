@@ -1,14 +1,15 @@
 // What stands where in a text.
-ghost use Rattle.std.specs.Prelude.{◌≡◌, ◌↔◌, ◌+◌, ◌<◌, ◌≤◌, [], ◌∷◌, IfOk, IfSome, IsOk, IsOkUnless};
+ghost use Rattle.std.specs.Prelude.{◌≡◌, ◌↔◌, ◌+◌, ◌<◌, ◌≤◌, [], ◌∷◌, IfOk, IfSome, IsOk};
 ghost use Rattle.std.specs.Prelude.{IsTrue, Some, take, drop, length, slice_get};
 ghost use Rattle.cord_core.specs.Texts.{first};
 ghost use Rattle.cord_search.specs.LastTexts.{last_text};
 ghost use Rattle.cord.specs.Places.{last_before, BeginsWith, EndsWith};
 
+use crate::memory::within_memory;
 use crate::{NoSource, Text};
-use cord_io::{CordError, MAX_LEN};
+use cord_io::MAX_LEN;
 use cord_search::{MOST_BYTES, chr, fetch, find_bytes_in, rchr, rstr, str, str_in};
-use std::alloc::Global;
+use std::alloc::{AllocError, Global};
 
 impl Text {
     /// The byte at `place`, none at or past the end.
@@ -65,28 +66,26 @@ impl Text {
 
     /// As `rfind_text`, of some bytes, which are copied: so memory may be refused. A pattern that is longer than the
     /// text isn't.
-    pub fn rfind(&self, alloc: Global, pattern: &[u8], end: u64) -> Result<Option<u64>, CordError>
+    pub fn rfind(&self, alloc: Global, pattern: &[u8], end: u64) -> Result<Option<u64>, AllocError>
         ensures last { IfOk result (λ found. found ≡ last_text self.now end pattern.now) }
         ensures before { IfOk result (λ found. IfSome found (λ place. place + length pattern.now ≤ end)) }
         ensures inside { IfOk result (λ found. IfSome found (λ place. place + length pattern.now ≤ length self.now)) }
-        ensures refused { IsOkUnless result CordError.NoMemory }
     {
         if self.len() < pattern.len() as u64 {
             return Ok(None);
         }
-        let pattern = Text::from_bytes(alloc, pattern)?;
+        let pattern = within_memory(Text::from_bytes(alloc, pattern))?;
         Ok(self.rfind_text(&pattern, end))
     }
 
     /// The first place from `start` on where `pattern` stands. No bytes stand at each place up to the end. Only a
     /// pattern of more than `MOST_BYTES`, 16,384, that isn't longer than this text is copied, which takes memory and
     /// may be refused.
-    pub fn find(&self, alloc: Global, pattern: &[u8], start: u64) -> Result<Option<u64>, CordError>
+    pub fn find(&self, alloc: Global, pattern: &[u8], start: u64) -> Result<Option<u64>, AllocError>
         ensures first { IfOk result (λ found. found ≡ first self.now start pattern.now) }
         ensures from { IfOk result (λ found. IfSome found (λ place. start ≤ place)) }
         ensures inside { IfOk result (λ found. IfSome found (λ place. place + length pattern.now ≤ length self.now)) }
         ensures short { length pattern.now ≤ MOST_BYTES → IsOk result }
-        ensures refused { IsOkUnless result CordError.NoMemory }
     {
         self.find_in(alloc, pattern, start, self.len())
     }
@@ -99,13 +98,12 @@ impl Text {
         pattern: &[u8],
         start: u64,
         end: u64,
-    ) -> Result<Option<u64>, CordError>
+    ) -> Result<Option<u64>, AllocError>
         ensures first { IfOk result (λ found. found ≡ first (take end self.now) start pattern.now) }
         ensures from { IfOk result (λ found. IfSome found (λ place. start ≤ place)) }
         ensures before { IfOk result (λ found. IfSome found (λ place. place + length pattern.now ≤ end)) }
         ensures inside { IfOk result (λ found. IfSome found (λ place. place + length pattern.now ≤ length self.now)) }
         ensures short { length pattern.now ≤ MOST_BYTES → IsOk result }
-        ensures refused { IsOkUnless result CordError.NoMemory }
     {
         if pattern.is_empty() {
             return Ok(self.find_text_in(&Text::empty(), start, end));
@@ -114,7 +112,7 @@ impl Text {
             return Ok(None);
         }
         if MOST_BYTES < pattern.len() {
-            let pattern = Text::from_bytes(alloc, pattern)?;
+            let pattern = within_memory(Text::from_bytes(alloc, pattern))?;
             return Ok(self.find_text_in(&pattern, start, end));
         }
         let Ok(place) = find_bytes_in(&self.cord, start, end, pattern, &mut NoSource) else {

@@ -1,10 +1,10 @@
 // A sink whose bytes become a text.
-ghost use Rattle.std.specs.Prelude.{◌≡◌, ◌<◌, ◌≤◌, ◌++◌, [], length, take, is_err, is_ok, IfOk, IsOkUnless, OnErr, refl};
+ghost use Rattle.std.specs.Prelude.{◌≡◌, ◌<◌, ◌≤◌, ◌++◌, [], length, take, is_err, is_ok, IfOk, OnErr, refl};
 ghost use Rattle.cord_io.specs.Device.{count_after, failed_calls, finished_after, never_finished};
 
 use crate::{Text, TextBuilder};
-use cord_io::{CordError, Sink, WriteFault};
-use std::alloc::Global;
+use cord_io::{Sink, WriteFault};
+use std::alloc::{AllocError, Global};
 
 /// A sink that keeps what it takes as a text, gathered to leaves of up to 4,096 bytes. A `put` takes all that it is
 /// offered; it fails where memory is refused or the text would be longer than `MAX_LEN`.
@@ -21,7 +21,7 @@ use std::alloc::Global;
 /// ) -> Result<Text, CordError> {
 ///     let mut sink = TextSink::new(alloc)?;
 ///     put(cord, src, &mut sink)?;
-///     sink.to_text()
+///     Ok(sink.to_text()?)
 /// }
 /// ```
 #[derive(Drop)]
@@ -35,12 +35,11 @@ pub struct TextSink {
 
 impl TextSink {
     /// The sink that has taken nothing. Refused only when out of memory.
-    pub fn new(alloc: Global) -> Result<TextSink, CordError>
+    pub fn new(alloc: Global) -> Result<TextSink, AllocError>
         ensures taken { IfOk result (λ made. ⟦<TextSink as Sink>⟧.taken made ≡ []) }
         ensures finished { IfOk result (λ made. ⟦<TextSink as Sink>⟧.finished made ≡ never_finished) }
         ensures failed { IfOk result (λ made. ⟦<TextSink as Sink>⟧.failed_puts made ≡ 0) }
         ensures count { IfOk result (λ made. ⟦<TextSink as Sink>⟧.failures made ≡ 0) }
-        ensures refused { IsOkUnless result CordError.NoMemory }
     {
         let text = TextBuilder::new(alloc)?;
         Ok(TextSink {
@@ -54,13 +53,12 @@ impl TextSink {
 
     /// The bytes that it has taken as a text, which shares its tree with the sink. The sink stays, and can take more.
     /// Refused only when out of memory.
-    pub fn to_text(&mut self) -> Result<Text, CordError>
+    pub fn to_text(&mut self) -> Result<Text, AllocError>
         ensures text { IfOk result (λ t. t ≡ ⟦<TextSink as Sink>⟧.taken self.old) }
         ensures taken { ⟦<TextSink as Sink>⟧.taken self.new ≡ ⟦<TextSink as Sink>⟧.taken self.old }
         ensures finished { ⟦<TextSink as Sink>⟧.finished self.new ≡ ⟦<TextSink as Sink>⟧.finished self.old }
         ensures failed { ⟦<TextSink as Sink>⟧.failed_puts self.new ≡ ⟦<TextSink as Sink>⟧.failed_puts self.old }
         ensures count { ⟦<TextSink as Sink>⟧.failures self.new ≡ ⟦<TextSink as Sink>⟧.failures self.old }
-        ensures refused { IsOkUnless result CordError.NoMemory }
     {
         self.text.to_text(self.alloc)
     }

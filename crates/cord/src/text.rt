@@ -1,11 +1,12 @@
 // Texts over no files.
-ghost use Rattle.std.specs.Prelude.{◌≡◌, ◌↔◌, ◌≤◌, [], IfOk, IsOkUnless, IsTrue, length};
+ghost use Rattle.std.specs.Prelude.{◌≡◌, ◌↔◌, ◌≤◌, [], IfOk, IsTrue, length};
 ghost use Rattle.cord_core.specs.Cord.{text_len, IsCord};
 ghost use Rattle.cord_core.specs.Equations.{HasText};
 
+use crate::memory::within_memory;
 use cord_core::Cord;
-use cord_io::{CordError, MAX_LEN};
-use std::alloc::Global;
+use cord_io::MAX_LEN;
+use std::alloc::{AllocError, Global};
 use std::marker::Model;
 
 /// An immutable text of at most `MAX_LEN` bytes that is kept in memory: a cord with no part in a file, which contracts
@@ -53,11 +54,10 @@ impl Text {
     }
 
     /// The same text once more, which shares its tree. Refused only when out of memory.
-    pub fn share(&self, alloc: Global) -> Result<Text, CordError>
+    pub fn share(&self, alloc: Global) -> Result<Text, AllocError>
         ensures same { IfOk result (λ t. t ≡ self.now) }
-        ensures refused { IsOkUnless result CordError.NoMemory }
     {
-        let cord = self.cord.share(alloc)?;
+        let cord = within_memory(self.cord.share(alloc))?;
         Ok(Text { cord })
     }
 

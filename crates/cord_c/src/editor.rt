@@ -1,13 +1,13 @@
 //! What a `zc_edit` of C is: a text that is edited in place.
-ghost use Rattle.std.specs.Prelude.{◌≡◌, ◌⊎◌, IfOk, IsErr, IsOkUnless};
+ghost use Rattle.std.specs.Prelude.{◌≡◌, ◌⊎◌, IfOk, IsErr};
 ghost use Rattle.cord_c.specs.Codes.{MayLackMemory};
 ghost use Rattle.cord_c.specs.Editors.{edited_of};
 
 use crate::Handle;
 use crate::code::OK;
 use crate::referent::Referent;
-use cord::{CordError, Text, TextEditor};
-use std::alloc::Global;
+use cord::{Text, TextEditor};
+use std::alloc::{AllocError, Global};
 use std::mem::replace;
 
 /// Owns the text at the pointer, where it isn't null: null is that of no bytes.
@@ -27,10 +27,9 @@ pub(crate) struct Taken {
 impl Editor {
     /// Takes the text out, and leaves nothing. Refused only when out of memory, where the pointer is null: then it
     /// stays so.
-    pub(crate) fn take(&mut self, alloc: Global) -> Result<Taken, CordError>
+    pub(crate) fn take(&mut self, alloc: Global) -> Result<Taken, AllocError>
         ensures text { IfOk result (λ taken. taken.text ≡ edited_of self.old) }
         ensures unchanged { IsErr result → edited_of self.new ≡ edited_of self.old }
-        ensures refused { IsOkUnless result CordError.NoMemory }
     {
         let mut place = match self.handle.lift(alloc) {
             Some(place) => place,

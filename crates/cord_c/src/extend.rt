@@ -1,6 +1,6 @@
 // Extensible cords: texts that grow at their end.
 ghost use Rattle.std.specs.Prelude.{◌≡◌, ◌⊎◌, ◌+◌, ◌<◌, ◌≤◌, [], ◌∷◌, ◌++◌, length, take};
-ghost use Rattle.std.specs.Prelude.{IfOk, OnOk, IfErr, IsErr, IsOkUnless, Err};
+ghost use Rattle.std.specs.Prelude.{IfOk, OnOk, IfErr, IsErr, Err};
 ghost use Rattle.cord_core.specs.Refusals.{IsRefusal};
 ghost use Rattle.cord_c.specs.Codes.{MayBeTooLong, MayLackMemory};
 ghost use Rattle.cord_c.specs.Grown.{grown};
@@ -13,7 +13,7 @@ use crate::pointer::{either_missing, missing};
 use crate::referent::Referent;
 use crate::{Extensible, Handle};
 use cord::{CordError, MAX_LEN, Text};
-use std::alloc::Global;
+use std::alloc::{AllocError, Global};
 
 /// The number of bytes.
 #[unsafe(no_mangle)]
@@ -154,7 +154,7 @@ impl Extensible {
         if bytes.len() > ROOM {
             let whole = self.whole(alloc)?;
             let longer = whole.append_bytes(alloc, bytes)?;
-            return self.hold(alloc, longer);
+            return Ok(self.hold(alloc, longer)?);
         }
         self.make_room(alloc, bytes.len())?;
         self.gather(bytes);
@@ -171,26 +171,24 @@ impl Extensible {
     {
         let whole = self.whole(alloc)?;
         let longer = Text::cat(alloc, &whole, more)?;
-        self.hold(alloc, longer)
+        Ok(self.hold(alloc, longer)?)
     }
 
     // The bytes as a text, which shares its tree with the cord.
-    fn to_text(&mut self, alloc: Global) -> Result<Text, CordError>
+    fn to_text(&mut self, alloc: Global) -> Result<Text, AllocError>
         ensures text { IfOk result (λ t. t ≡ grown self.old) }
         ensures same { grown self.new ≡ grown self.old }
-        ensures refused { IsOkUnless result CordError.NoMemory }
     {
         self.make_room(alloc, ROOM)?;
         self.built.read(alloc)
     }
 
     // Makes room for so many bytes, where there can be: the gathered ones become a leaf of the cord.
-    fn make_room(&mut self, alloc: Global, more: usize) -> Result<(), CordError>
+    fn make_room(&mut self, alloc: Global, more: usize) -> Result<(), AllocError>
         requires within { more ≤ ROOM }
         ensures same { grown self.new ≡ grown self.old }
         ensures len { self.new.len ≡ self.old.len }
         ensures room { OnOk result (self.new.count + more ≤ ROOM) }
-        ensures refused { IsOkUnless result CordError.NoMemory }
     {
         if more <= ROOM - self.count {
             return Ok(());
@@ -200,28 +198,28 @@ impl Extensible {
     }
 
     // All bytes as one text: those that are gathered are a leaf at its end.
-    fn whole(&mut self, alloc: Global) -> Result<Text, CordError>
+    fn whole(&mut self, alloc: Global) -> Result<Text, AllocError>
         ensures text { IfOk result (λ t. t ≡ grown self.old) }
         ensures same { grown self.new ≡ grown self.old }
         ensures len { self.new.len ≡ self.old.len }
-        ensures refused { IsOkUnless result CordError.NoMemory }
     {
         let built = self.built.read(alloc)?;
-        built.append_bytes(alloc, &self.bytes[..self.count])
+        built
+            .append_bytes(alloc, &self.bytes[..self.count])
+            .map_err(|_| AllocError)
     }
 
     // Has these bytes from now on, and none that are gathered.
-    fn hold(&mut self, alloc: Global, whole: Text) -> Result<(), CordError>
+    fn hold(&mut self, alloc: Global, whole: Text) -> Result<(), AllocError>
         ensures text { OnOk result (grown self.new ≡ whole) }
         ensures unchanged { IsErr result → grown self.new ≡ grown self.old }
         ensures len { OnOk result (self.new.len ≡ length whole) }
         ensures len_kept { IsErr result → self.new.len ≡ self.old.len }
         ensures emptied { OnOk result (self.new.count ≡ 0) }
-        ensures refused { IsOkUnless result CordError.NoMemory }
     {
         let len = whole.len();
         if self.built.keep(alloc, Referent::Text(whole)) != OK {
-            return Err(CordError::NoMemory);
+            return Err(AllocError);
         }
         self.count = 0;
         self.len = len;

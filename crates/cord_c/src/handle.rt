@@ -1,6 +1,6 @@
 //! What a `zc_cord` of C is: a pointer to a text on the heap, or null for the text of no bytes.
 ghost use Rattle.std.specs.Prelude.{◌≡◌, ◌⊎◌, ◌-◌, ℕ, List, [], length, take, drop, min, MatchOption};
-ghost use Rattle.std.specs.Prelude.{Ok, Err, IfOk, IfErr, IsOkUnless};
+ghost use Rattle.std.specs.Prelude.{Ok, Err, IfOk, IfErr};
 ghost use denote.RawPtr.{Testable};
 ghost use Rattle.cord_core.specs.Refusals.{IsRefusal};
 ghost use Rattle.cord_c.specs.Codes.{MayBeTooLong, MayLackMemory};
@@ -15,7 +15,7 @@ use crate::copy::copy_from;
 use crate::referent::Referent;
 use cord::{CordError, Text};
 use cord_raw::Raw;
-use std::alloc::Global;
+use std::alloc::{AllocError, Global};
 use std::marker::Model;
 use std::mem::replace;
 
@@ -117,10 +117,9 @@ impl Handle {
     }
 
     /// Its text once more, which shares its tree. Refused only when out of memory.
-    pub(crate) fn read(&mut self, alloc: Global) -> Result<Text, CordError>
+    pub(crate) fn read(&mut self, alloc: Global) -> Result<Text, AllocError>
         ensures text { IfOk result (λ t. t ≡ self.old.text) }
         ensures same { self.new.text ≡ self.old.text }
-        ensures refused { IsOkUnless result CordError.NoMemory }
     {
         self.text(&Text::empty()).share(alloc)
     }
@@ -174,7 +173,7 @@ impl Handle {
     }
 
     /// As `hold`, of what only out of memory refuses.
-    pub(crate) fn hold_within(&mut self, alloc: Global, made: Result<Text, CordError>) -> i32
+    pub(crate) fn hold_within(&mut self, alloc: Global, made: Result<Text, AllocError>) -> i32
         ensures held { result ≡ OK → made ≡ Ok self.new.text }
         ensures kept { (result ≡ OK) ⊎ (self.new.text ≡ self.old.text) }
         ensures code { MayLackMemory result }

@@ -1,5 +1,5 @@
 //! What a `zc_lines` of C is: the index of the lines of a text.
-ghost use Rattle.std.specs.Prelude.{◌≡◌, ◌⊎◌, IfOk, IsErr, IsOkUnless};
+ghost use Rattle.std.specs.Prelude.{◌≡◌, ◌⊎◌, IfOk, IsErr};
 ghost use Rattle.cord_lines.specs.Index.{of_no_bytes};
 ghost use Rattle.cord_c.specs.Codes.{MayLackMemory};
 ghost use Rattle.cord_c.specs.LineIndexes.{index_in};
@@ -7,9 +7,8 @@ ghost use Rattle.cord_c.specs.LineIndexes.{index_in};
 use crate::Handle;
 use crate::code::OK;
 use crate::referent::Referent;
-use cord::CordError;
 use cord_lines::LineIndex;
-use std::alloc::Global;
+use std::alloc::{AllocError, Global};
 use std::mem::replace;
 
 /// Owns the index at the pointer, where it isn't null: null is that of no bytes.
@@ -44,10 +43,9 @@ impl Lines {
 
     /// Takes the index out, and leaves nothing. Refused only when out of memory, where the pointer is null: then it
     /// stays so.
-    pub(crate) fn take(&mut self, alloc: Global) -> Result<TakenIndex, CordError>
+    pub(crate) fn take(&mut self, alloc: Global) -> Result<TakenIndex, AllocError>
         ensures index { IfOk result (λ taken. taken.index ≡ index_in self.old) }
         ensures unchanged { IsErr result → index_in self.new ≡ index_in self.old }
-        ensures refused { IsOkUnless result CordError.NoMemory }
     {
         let mut place = match self.handle.lift(alloc) {
             Some(place) => place,

@@ -1,5 +1,5 @@
 // Texts made of a list of others.
-ghost use Rattle.std.specs.Prelude.{◌≡◌, ◌⊎◌, ◌<◌, ◌≤◌, length, IfOk, IsOkUnless};
+ghost use Rattle.std.specs.Prelude.{◌≡◌, ◌⊎◌, ◌<◌, ◌≤◌, length, IfOk};
 ghost use Rattle.std.specs.List.{concat};
 ghost use Rattle.cord_c.specs.Codes.{MayBeTooLong};
 ghost use Rattle.cord_c.specs.Lists.{texts_of};
@@ -9,8 +9,8 @@ ghost use Rattle.core.specs.Ptr.{as_mut_ptr};
 use crate::Handle;
 use crate::code::{NO_MEMORY, NULL_POINTER, OK, TOO_LONG};
 use crate::pointer::missing;
-use cord::{CordError, MAX_LEN, Text};
-use std::alloc::Global;
+use cord::{MAX_LEN, Text};
+use std::alloc::{AllocError, Global};
 
 /// The bytes of all `parts` in order: of no parts no bytes.
 #[unsafe(no_mangle)]
@@ -33,10 +33,9 @@ pub extern "C" fn zc_catn(alloc: Global, parts: &mut [Handle], out: &mut Handle)
 }
 
 // The texts of handles once more, which share their trees. Refused only when out of memory.
-fn shares(alloc: Global, parts: &mut [Handle]) -> Result<Vec<Text>, CordError>
+fn shares(alloc: Global, parts: &mut [Handle]) -> Result<Vec<Text>, AllocError>
     ensures texts { IfOk result (λ made. made.items ≡ texts_of parts.old) }
     ensures same { texts_of parts.new ≡ texts_of parts.old }
-    ensures refused { IsOkUnless result CordError.NoMemory }
 {
     let mut made = Vec::with_capacity(alloc, parts.len())?;
     for place in 0..parts.len() {

@@ -1,5 +1,5 @@
 // Texts of formats with their arguments.
-ghost use Rattle.std.specs.Prelude.{◌≡◌, ◌⊎◌, IfOk, IfErr, IsOkUnless};
+ghost use Rattle.std.specs.Prelude.{◌≡◌, ◌⊎◌, IfOk, IfErr};
 ghost use Rattle.cord.specs.Prints as of_texts;
 ghost use Rattle.cord_printf.specs.Format.{IsBadAt};
 ghost use Rattle.cord_c.specs.Prints.{piece_arguments, IsPrint, IsLongPrint, IsWrongFor, HasBadValue};
@@ -11,8 +11,8 @@ use crate::Handle;
 use crate::argument::Argument;
 use crate::code::{BAD_FORMAT, BAD_VALUE, NO_MEMORY, NULL_POINTER, OK, TOO_LONG, WRONG_ARGUMENTS};
 use crate::pointer::either_missing;
-use cord::{CordError, Format, FormatError, PrintError, Text, TextArg};
-use std::alloc::Global;
+use cord::{Format, FormatError, PrintError, Text, TextArg};
+use std::alloc::{AllocError, Global};
 
 /// The text of a format with its arguments, which shares the trees of theirs. `BAD_FORMAT` where the bytes are no
 /// format, and the offset of what is no conversion goes to `at`; `WRONG_ARGUMENTS` where it takes others; `BAD_VALUE`
@@ -73,11 +73,10 @@ enum NoPrint {
 }
 
 // The texts of arguments once more, which share their trees: those of numbers too. Refused only when out of memory.
-fn texts_of(alloc: Global, args: &mut [Argument]) -> Result<Vec<Text>, CordError>
+fn texts_of(alloc: Global, args: &mut [Argument]) -> Result<Vec<Text>, AllocError>
     ensures texts { IfOk result (λ made. made.items ≡ texts_in args.old) }
     ensures same { piece_arguments args.new ≡ piece_arguments args.old }
     ensures same_texts { texts_in args.new ≡ texts_in args.old }
-    ensures refused { IsOkUnless result CordError.NoMemory }
 {
     let mut made = Vec::with_capacity(alloc, args.len())?;
     for place in 0..args.len() {
@@ -93,10 +92,9 @@ fn arguments<'a>(
     alloc: Global,
     args: &[Argument],
     texts: &'a [Text],
-) -> Result<Vec<TextArg<'a>>, CordError>
+) -> Result<Vec<TextArg<'a>>, AllocError>
     requires texts { texts.now ≡ texts_in args.now }
     ensures made { IfOk result (λ made. of_texts.piece_arguments made.items ≡ piece_arguments args.now) }
-    ensures refused { IsOkUnless result CordError.NoMemory }
 {
     let mut made = Vec::with_capacity(alloc, args.len())?;
     for (place, text) in texts.iter().enumerate() {

@@ -1,11 +1,11 @@
 //! What lies behind the pointers that C keeps.
-ghost use Rattle.std.specs.Prelude.{◌≡◌, [], None, IfOk, IsOkUnless, length};
+ghost use Rattle.std.specs.Prelude.{◌≡◌, [], None, IfOk, length};
 ghost use Rattle.cord_lines.specs.Index.{of_no_bytes};
 
-use cord::{CordError, Text, TextEditor};
+use cord::{Text, TextEditor};
 use cord_core::Cord;
 use cord_lines::LineIndex;
-use std::alloc::Global;
+use std::alloc::{AllocError, Global};
 
 /// What a handle leads to.
 #[derive(Drop)]
@@ -69,10 +69,9 @@ impl Referent {
     }
 
     /// The text that is edited, that of no bytes where there is none. Refused only when out of memory.
-    pub(crate) fn edited_text(&mut self, alloc: Global) -> Result<Text, CordError>
+    pub(crate) fn edited_text(&mut self, alloc: Global) -> Result<Text, AllocError>
         ensures text { IfOk result (λ t. t ≡ edited_by self.old) }
         ensures same { edited_by self.new ≡ edited_by self.old }
-        ensures refused { IsOkUnless result CordError.NoMemory }
     {
         match self {
             Referent::Editor(text) => text.to_text(alloc),

@@ -1,7 +1,7 @@
 //! A text that is edited, with the index of its lines.
-ghost use Rattle.std.specs.Prelude.{◌≡◌, ◌+◌, ◌<◌, ◌≤◌, ◌++◌, IfOk, OnOk, IfErr, IsErr, IsOkUnless, Err};
+ghost use Rattle.std.specs.Prelude.{◌≡◌, ◌+◌, ◌<◌, ◌≤◌, ◌++◌, IfOk, OnOk, IfErr, IsErr, Err};
 ghost use Rattle.std.specs.Prelude.{length, take, drop, min, slice_get};
-ghost use Rattle.cord_io.specs.declared.CordError.TheVariants.{NoMemory, TooLong};
+ghost use Rattle.cord_io.specs.declared.CordError.TheVariants.{TooLong};
 ghost use Rattle.cord_core.specs.Refusals.{IsRefusal};
 ghost use Rattle.cord.specs.Lines.{lines, bare_lines};
 ghost use Rattle.cord_lines.specs.Counts.{chars_in, ends_in};
@@ -9,7 +9,7 @@ ghost use Rattle.cord_lines.specs.Lines.{after_ends};
 
 use crate::index::LineIndex;
 use cord::{CordError, MAX_LEN, Text};
-use std::alloc::Global;
+use std::alloc::{AllocError, Global};
 use std::marker::Model;
 
 /// A text and the index of its lines, which each edit keeps, so that lines are found by number and by place at any
@@ -34,9 +34,8 @@ impl Model for LineEditor {
 impl LineEditor {
     /// An editor of the bytes of `text`, whose tree it shares. Each byte is counted once. Refused only when out of
     /// memory.
-    pub fn of(alloc: Global, text: &Text) -> Result<LineEditor, CordError>
+    pub fn of(alloc: Global, text: &Text) -> Result<LineEditor, AllocError>
         ensures text { IfOk result (λ made. made ≡ text.now) }
-        ensures refused { IsOkUnless result NoMemory }
     {
         let index = LineIndex::of(alloc, text)?;
         let text = text.share(alloc)?;
@@ -86,9 +85,8 @@ impl LineEditor {
     }
 
     /// Line `n`, from 0, without its end: none where there are no more than `n` lines. Refused only when out of memory.
-    pub fn line(&self, alloc: Global, n: u64) -> Result<Option<Text>, CordError>
+    pub fn line(&self, alloc: Global, n: u64) -> Result<Option<Text>, AllocError>
         ensures line { IfOk result (λ line. line ≡ slice_get (bare_lines self.now) n) }
-        ensures refused { IsOkUnless result NoMemory }
     {
         self.index.line(alloc, &self.text, n)
     }

@@ -1,7 +1,6 @@
 //! The lines of a text by number.
-ghost use Rattle.std.specs.Prelude.{◌≡◌, ◌+◌, ◌-◌, ◌<◌, ◌≤◌, List, ℕ, IfOk, OnOk, IsErr, IsOkUnless};
+ghost use Rattle.std.specs.Prelude.{◌≡◌, ◌+◌, ◌-◌, ◌<◌, ◌≤◌, List, ℕ, IfOk, OnOk, IsErr};
 ghost use Rattle.std.specs.Prelude.{Some, length, take, drop, min, slice_get};
-ghost use Rattle.cord_io.specs.declared.CordError.TheVariants.{NoMemory};
 ghost use Rattle.cord.specs.Lines.{lines, bare_lines, lines_as};
 ghost use Rattle.cord_lines.specs.Counts.{chars_in, counts_of, ends_in};
 ghost use Rattle.cord_lines.specs.Lines.{after_ends, is_inside_line, lacks_end, IsEditOf};
@@ -15,7 +14,7 @@ use crate::counting::Counts;
 use crate::cutting::{BLOCK, cut};
 use crate::reading::{count_range, end_from};
 use crate::renewing::{Edit, renew};
-use cord::{CordError, Text};
+use cord::Text;
 use std::alloc::{AllocError, Global};
 use std::marker::Model;
 
@@ -119,9 +118,8 @@ impl LineIndex {
 
     /// Line `n`, from 0, without its end: none where there are no more than `n` lines. It shares the tree of the text.
     /// Refused only when out of memory.
-    pub fn line(&self, alloc: Global, text: &Text, n: u64) -> Result<Option<Text>, CordError>
+    pub fn line(&self, alloc: Global, text: &Text, n: u64) -> Result<Option<Text>, AllocError>
         ensures line { IsIndexOf self.now text.now → IfOk result (λ line. line ≡ slice_get (bare_lines text.now) n) }
-        ensures refused { IsOkUnless result NoMemory }
     {
         self.line_as(alloc, text, n, false)
     }
@@ -132,9 +130,8 @@ impl LineIndex {
         alloc: Global,
         text: &Text,
         n: u64,
-    ) -> Result<Option<Text>, CordError>
+    ) -> Result<Option<Text>, AllocError>
         ensures line { IsIndexOf self.now text.now → IfOk result (λ line. line ≡ slice_get (lines text.now) n) }
-        ensures refused { IsOkUnless result NoMemory }
     {
         self.line_as(alloc, text, n, true)
     }
@@ -146,10 +143,9 @@ impl LineIndex {
         text: &Text,
         n: u64,
         with_end: bool,
-    ) -> Result<Option<Text>, CordError>
+    ) -> Result<Option<Text>, AllocError>
         ensures line { IsIndexOf self.now text.now →
             IfOk result (λ line. line ≡ slice_get (lines_as with_end text.now) n) }
-        ensures refused { IsOkUnless result NoMemory }
     {
         let start = self.line_start(text, n);
         if start >= text.len() {

@@ -4,6 +4,7 @@ use cord::{
 };
 use std::alloc::{AllocError, Global};
 use std::cmp::Ordering;
+use std::fmt::Debug;
 use std::io::Read;
 use std::process::Abort;
 
@@ -29,7 +30,7 @@ fn expect_bytes(rt: &impl Abort, alloc: Global, text: &Text, wanted: &[u8]) {
     assert!(rt; bytes.as_slice() == wanted, "the text is not {wanted:?}");
 }
 
-fn expect_made(rt: &impl Abort, alloc: Global, made: Result<Text, CordError>, wanted: &[u8]) {
+fn expect_made<E: Debug>(rt: &impl Abort, alloc: Global, made: Result<Text, E>, wanted: &[u8]) {
     expect_bytes(rt, alloc, &made.expect(rt, "no memory"), wanted);
 }
 
@@ -38,7 +39,7 @@ fn run_of(rt: &impl Abort, alloc: Global, byte: u8, count: u64) -> Text {
     Text::repeat(alloc, byte, count).expect(rt, "no memory")
 }
 
-fn expect_done(rt: &impl Abort, answer: Result<(), CordError>) {
+fn expect_done<E: Drop>(rt: &impl Abort, answer: Result<(), E>) {
     assert!(rt; answer.is_ok());
 }
 
@@ -394,7 +395,7 @@ fn editor(rt: HostRuntime) {
 fn expect_line(
     rt: &impl Abort,
     alloc: Global,
-    line: Option<Result<Text, CordError>>,
+    line: Option<Result<Text, AllocError>>,
     wanted: &[u8],
 ) {
     let Some(line) = line else {

@@ -2,8 +2,8 @@
 ghost use Rattle.std.specs.Prelude.{◌≡◌, ◌+◌, ◌<◌, [], ◌∷◌, ◌++◌, take, Some, Err, OnOk, OnErr, slice_get, vec_len};
 
 use super::refusal::Refusal;
-use cord::{CordError, Text};
-use std::alloc::Global;
+use cord::Text;
+use std::alloc::{AllocError, Global};
 
 /// All versions of a text, from the empty one on, and which of them is the present one.
 #[derive(Drop)]
@@ -15,7 +15,7 @@ pub struct Buffer {
 
 impl Buffer {
     /// The empty text, and no other version. Refused only when out of memory.
-    pub fn new(alloc: Global) -> Result<Buffer, CordError> {
+    pub fn new(alloc: Global) -> Result<Buffer, AllocError> {
         let mut versions = Vec::new(alloc);
         versions.push(Text::empty())?;
         Ok(Buffer {
@@ -32,7 +32,7 @@ impl Buffer {
     }
 
     /// Makes a text the version after the present one. Those that were undone are forgotten.
-    pub fn keep(&mut self, text: Text) -> Result<(), CordError>
+    pub fn keep(&mut self, text: Text) -> Result<(), AllocError>
         ensures ok { OnOk result (self.new.versions.items
             ≡ take (self.old.present + 1) self.old.versions.items ++ text ∷ []) }
         ensures present { OnOk result (self.new.present ≡ self.old.present + 1) }

@@ -1,5 +1,6 @@
 //! Why a command isn't done.
 use cord::CordError;
+use std::alloc::AllocError;
 use thiserror::Error;
 
 /// Why a command isn't done. The text stays as it was.
@@ -19,6 +20,8 @@ pub enum Refusal {
     NothingToUndo,
     #[error("nothing to redo")]
     NothingToRedo,
+    #[error(transparent)]
+    Memory(#[from(alloc)] AllocError),
     #[error(transparent)]
     Library(#[from] CordError),
 }

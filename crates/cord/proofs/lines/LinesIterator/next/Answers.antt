@@ -6,5 +6,5 @@ returns-clause-steps c =
     let start = c.self.inside.start in (
       take (c.line_end-end.result.0 - start) (drop start c.self.inside.text.now),
       sym c.self.view_is ∙ c.line_end-end.ensures.line,
-      (c.substr.ensures.text, c.substr.ensures.refused),
+      c.substr.ensures.text,
     )

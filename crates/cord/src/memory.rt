@@ -1,0 +1,13 @@
+// What only out of memory refuses.
+ghost use Rattle.std.specs.Prelude.{◌≡◌, IfOk, IsErr, Ok};
+
+use cord_io::CordError;
+use std::alloc::AllocError;
+
+/// What was made by a call that only out of memory refuses.
+pub(crate) fn within_memory<T>(made: Result<T, CordError>) -> Result<T, AllocError>
+    ensures made { IfOk result (λ x. made ≡ Ok x) }
+    ensures refused { IsErr result → IsErr made }
+{
+    made.map_err(|_| AllocError)
+}
