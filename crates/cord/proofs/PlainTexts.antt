@@ -1,6 +1,9 @@
 -- What is made of texts over no files is one.
-use Rattle.std.proofs.Common.{◌≡◌, ℕ, ◌+◌, List, ◌++◌, length, take, drop, refl, ◌∙◌, sym, ap}
-use Rattle.std.specs.Prelude.{Option}
+use Rattle.std.proofs.Common.{◌≡◌, ℕ, ◌+◌, ◌-◌, ◌≤◌, List, [], ◌++◌, length, take, drop, refl, ◌∙◌, sym, ap, arith}
+use Rattle.std.specs.Prelude.{Option, Some, None, min}
+use Rattle.cord_io.specs.declared.TheConstants.{MAX_LEN}
+use Rattle.cord_node.proofs.TreeLemmas.{len_limit}
+use Rattle.std.proofs.lemmas.List.{length-append, length-take, length-drop}
 use Rattle.cord_node.specs.declared.Node.{Node}
 use Rattle.cord_node.specs.Tables.{lengths_of}
 use Rattle.cord_core.specs.Cord.{text_len, IsCord}
@@ -49,9 +52,23 @@ spliced_has i n x y c p q k = record {
   bytes = λ t. k.bytes t (p.over.fits (lengths_of t)) (q.over.fits (lengths_of t)) ∙ (rw (p.over.bytes t, q.over.bytes t) refl);
 }
 
+-- its length
+pub spliced_len : (xs ys : List ℕ) (i n : ℕ) →
+    length (take i xs ++ ys ++ drop (i + n) xs) ≡ min i (length xs) + length ys + (length xs - (i + n))
+spliced_len xs ys i n = rw (length-append, length-append, length-take, length-drop) refl
+
 -- the same text
 pub same_has : (x c : Option Node) → IsPlain x → IsSameText x c → HasText (plain_bytes x) c
 same_has x c p k = record {
   fits = λ ls. k.fits ls (p.over.fits ls);
   bytes = λ t. k.bytes t (p.over.fits (lengths_of t)) ∙ p.over.bytes t;
 }
+
+-- no text is longer than a cord can be
+pub plain_limit : (c : Option Node) → IsPlain c → length (plain_bytes c) ≤ MAX_LEN
+plain_limit None p = omega arith
+plain_limit (Some n) p = omega (arith, p.len, len_limit n p.sound)
+
+-- so what is left of it isn't either
+pub rest_limit : (xs : List ℕ) (i n : ℕ) → length xs ≤ MAX_LEN → length (take i xs ++ [] ++ drop (i + n) xs) ≤ MAX_LEN
+rest_limit xs i n le = omega (arith, le, spliced_len xs [] i n)

@@ -44,6 +44,7 @@ impl Text {
     pub fn remove(&self, alloc: Global, start: u64, count: u64) -> Result<Text, AllocError>
         ensures text { IfOk result (λ t. t ≡ take start self.now ++ drop (start + count) self.now) }
     {
+        let _ = &self.cord;
         within_memory(self.replace_range(alloc, start, count, &Text::empty()))
     }
 
