@@ -1,6 +1,6 @@
 -- Cords of the texts that names hold.
-use Rattle.std.proofs.Common.{◌≡◌, ℕ, List, Result, Ok, Err, refl, sym, ap, subst, ◌∙◌}
-use Rattle.std.specs.Prelude.{Option, None, IfOk}
+use Rattle.std.proofs.Common.{◌≡◌, ℕ, List, Ok, refl, sym, ap, subst, ◌∙◌}
+use Rattle.std.specs.Prelude.{Option, None}
 use Rattle.cord_io.specs.Table.{Lengths}
 use Rattle.cord_node.specs.declared.Node.{Node}
 use Rattle.cord_node.specs.Tree.{Cell}
@@ -29,7 +29,7 @@ module _ (entries : List Entry) (name : List ℕ) where
           (cord_fits lengths (content_in entries name) (over.contents name))
 
   -- the text of the extensible cord of a name
-  extended_text : (e : Option (List Cell)) (cord : Option Node) → e ≡ extensible_in entries name → IsExtended e cord →
+  pub extended_text : (e : Option (List Cell)) (cord : Option Node) → e ≡ extensible_in entries name → IsExtended e cord →
       IsTextOver entries (λ s. Ok (s.extensibles name)) cord
   extended_text e cord is extended = record {
     sound = extended.sound;
@@ -45,8 +45,3 @@ module _ (entries : List Entry) (name : List ℕ) where
       IsTextOver entries (λ s. Ok (s.extensibles name)) cord
   extended_none none cord is = extended_text None cord (sym none)
       (subst (λ (c : Option Node). IsExtended None c) (sym is) (record { sound = tt; fits = λ lengths fits. tt; bytes = λ t fits. refl }))
-
-  pub extended_name : {E : Type 0} (e : Option (List Cell)) → e ≡ extensible_in entries name → (r : Result (Option Node) E) →
-      IfOk r (IsExtended e) → IfOk r (IsTextOver entries (λ s. Ok (s.extensibles name)))
-  extended_name e is (Ok cord) extended = extended_text e cord is extended
-  extended_name e is (Err error) extended = tt

@@ -1,7 +1,7 @@
 -- Lengths that are known without being computed.
 use Rattle.std.proofs.Common.{◌≡◌, ◌+◌, ◌-◌, ◌^◌, ℕ, suc, Bool, true, false, ◌&&◌, List, [], ◌∷◌, ◌++◌, Result, Ok, Err, refl}
 use Rattle.std.proofs.Common.{length, map, sym, ap, subst, ◌∙◌, arith}
-use Rattle.std.specs.Prelude.{Some, IfOk, min, not, slice_get, if◌then◌else◌}
+use Rattle.std.specs.Prelude.{Some, min, not, slice_get, if◌then◌else◌}
 use Rattle.std.specs.Str.{bytes_eq}
 use Rattle.std.proofs.lemmas.Slice.Eq.{bytes_eq-Decides}
 use Rattle.cord_io.specs.declared.TheConstants.{MAX_LEN}
@@ -11,12 +11,11 @@ use Rattle.cord_meaning.specs.declared.ends.FaultKind.{FaultKind}
 use Rattle.cord_meaning.specs.State.{and_then, as_length}
 use Rattle.cord_plan.specs.Exprs.{Expr, Exprs, name, run, cat, sub, nothing, member, append, lacks, names, names_of, number_names}
 use Rattle.cord_plan.specs.Extending.{Extends, IsLonger, joined_at, joined_by}
-use Rattle.cord_plan.specs.Planned.{Made, Joined, OfFile, OfEager, OfLazy, Operation, Measure}
+use Rattle.cord_plan.specs.Planned.{Made, Joined, Operation, Measure}
 use Rattle.cord_plan.specs.Values.{measured_copies, measured_part}
 use Rattle.cord_plan.specs.Views.{Shared, members_of, shared_view}
 use Rattle.cord_run.specs.declared.store.Content.TheVariants.{Long}
 use Rattle.cord_run.specs.declared.store.Entry.{Entry}
-use Rattle.cord_run.specs.declared.stops.Stop.{Stop}
 use Rattle.cord_run.specs.declared.targets.files.Reading.{Reading}
 use Rattle.cord_run.specs.declared.targets.files.Reading.TheVariants.{ByLength, Eager, Lazy}
 use Rattle.cord_run.specs.inner.Definitions.{file_made}
@@ -28,17 +27,11 @@ use Rattle.cord_run.proofs.Lengths.{Both, both, length_passed}
 use Rattle.cord_run.proofs.Members.{counted_length}
 
 -- ---- what is made of a file
-module _ (entries : List Entry) (made : Made) where
-  other_extent : (other : Made) → made ≡ other → ((len : ℕ) → IsExtent entries other len) → (s : Result ℕ Stop) →
-      IfOk s (IsExtent entries made)
-  other_extent other is holds (Ok len) = subst (λ (m : Made). IsExtent entries m len) (sym is) (holds len)
-  other_extent other is holds (Err stop) = tt
-
-  pub file_extent : (reading : Reading) (path : List ℕ) → file_made reading path ≡ made → (s : Result ℕ Stop) →
-      IfOk s (IsExtent entries made)
-  file_extent ByLength path is s = other_extent (OfFile path) (sym is) (λ len. tt) s
-  file_extent Eager path is s = other_extent (OfEager path) (sym is) (λ len. tt) s
-  file_extent Lazy path is s = other_extent (OfLazy path) (sym is) (λ len. tt) s
+module _ (entries : List Entry) (made : Made) (len : ℕ) where
+  pub file_extent : (reading : Reading) (path : List ℕ) → file_made reading path ≡ made → IsExtent entries made len
+  file_extent ByLength path is = subst (λ (m : Made). IsExtent entries m len) is tt
+  file_extent Eager path is = subst (λ (m : Made). IsExtent entries m len) is tt
+  file_extent Lazy path is = subst (λ (m : Made). IsExtent entries m len) is tt
 
 -- ---- a name that others get along without
 not_true : (b : Bool) → not b ≡ true → b ≡ false
@@ -85,16 +78,10 @@ module _ (old new : List Entry) (x : List ℕ) (len : ℕ) (has : HasContent x (
   same_operand (Named y) = has.numbers y
 
   -- what had its length computed for it stays so long
-  measured_stays : (line : ℕ) (made : Made) → IsExtent old made len → StaysKnown new (Measure line x made)
+  pub measured_stays : (line : ℕ) (made : Made) → IsExtent old made len → StaysKnown new (Measure line x made)
   measured_stays line (Joined (cat es)) is = λ free.
       extent_stays old new x other_length same_operand (cat es) free ∙ is ∙ ap (λ (n : ℕ). Ok n) (sym own_length)
   measured_stays line made is = tt
-
--- the same of an operation that may have failed
-pub length_stays : (old new : List Entry) (x : List ℕ) (made : Made) (len : ℕ) → IsExtent old made len →
-    (r : Result (Unit {0}) Stop) → IfOk r (λ _. HasContent x (Long len) old new) → IfOk r (λ _. StaysKnown new (Measure 0 x made))
-length_stays old new x made len extent (Ok u) has = measured_stays old new x len has 0 made extent
-length_stays old new x made len extent (Err stop) has = tt
 
 -- ---- an operation that joins a name more
 -- the last member

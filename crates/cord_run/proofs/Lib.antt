@@ -38,6 +38,7 @@ pub mod Sources
 pub mod Extensibles
 pub mod Windows
 pub mod Appends
+pub mod Underway
 pub mod Writes
 pub mod Slices
 pub mod ShortTexts

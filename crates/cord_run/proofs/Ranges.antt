@@ -2,6 +2,7 @@
 use Rattle.std.proofs.Common.{◌≡◌, ◌+◌, ◌-◌, ◌<◌, ◌≤◌, ℕ, Bool, true, false, ℤ, List, [], ◌∷◌, ◌++◌, length, take, drop, replicate, Result}
 use Rattle.std.proofs.Common.{Ok, Err, refl, sym, ap, subst, ◌∙◌, append-nil, append_assoc, length-take, arith}
 use Rattle.std.specs.Prelude.{IfOk, min, nat_le, Option}
+use Rattle.std.proofs.lemmas.Result.{IfOk-at_ok}
 use Rattle.std.proofs.lemmas.Bool.{leb-true, leb-false}
 use Rattle.std.proofs.lemmas.List.{drop-drop, drop-replicate, drop-take, length-replicate, take_all, take_min, take-replicate}
 use Rattle.std.proofs.lemmas.List.{take-take}
@@ -247,10 +248,6 @@ part_known u z w whole h = by_checks (as_index z) (as_index w) refl refl h
       same = (fits_within MAX_LEN (take m (drop a u)) whole h).same;
     }
 
--- what holds of the value of a result that is Ok
-pub ok_value : {A E : Type 0} (P : A → Type 0) (r : Result A E) (a : A) → IfOk r P → r ≡ Ok a → P a
-ok_value P r a h e = subst (λ q. IfOk q P) e h
-
 module _ (entries : List Entry) (e : Expr) (i n : Number) (start most : ℕ) (wanted inner : Wanted)
     (start_is : IfOk (as_index (operand_in entries i)) (λ k. start ≡ k)) (most_is : IfOk (as_index (operand_in entries n)) (λ k. most ≡ k))
     (inside : IsInnerWanted start most wanted inner) where
@@ -263,8 +260,8 @@ module _ (entries : List Entry) (e : Expr) (i n : Number) (start most : ℕ) (wa
         (λ u. part_of MAX_LEN u (number_value (plain_of t entries) i) (number_value (plain_of t entries) n)) whole is in
         let p = part_known q.middle (operand_in entries i) (operand_in entries n) whole
         ((λ j. part_of MAX_LEN q.middle (operand_value t entries i j) (operand_value t entries n j)) ∙ q.next) in
-        let at : start ≡ p.first = ok_value (λ k. start ≡ k) (as_index (operand_in entries i)) p.first start_is p.start_is in
-        let up_to : most ≡ p.most = ok_value (λ k. most ≡ k) (as_index (operand_in entries n)) p.most most_is p.count_is in
+        let at : start ≡ p.first = IfOk-at_ok (λ k. start ≡ k) p.start_is start_is in
+        let up_to : most ≡ p.most = IfOk-at_ok (λ k. most ≡ k) p.count_is most_is in
         part.bytes t over there q.middle q.first
         ∙ ap (λ (u : List ℕ). all_bytes t old ++ u) ((λ j. take (inside.count j) (drop (inside.skip j) q.middle))
         ∙ range_within q.middle start most wanted.skip wanted.count
@@ -297,16 +294,7 @@ module _ (entries : List Entry) (e : Expr) (i n : Number) (start most : ℕ) (wa
             (subst (λ (x : ℕ). IsPast x wanted after) (λ j. min (up_to j) (len - at j)) (part_past len past))
 
 -- ---- results
--- what follows from what an Ok call gives
-pub still_ok : {A E P Q : Type 0} (r : Result A E) → (P → Q) → IfOk r (λ _. P) → IfOk r (λ _. Q)
-still_ok (Ok x) f p = f p
-still_ok (Err e) f p = tt
-
+-- what follows from both of what an Ok call gives
 pub still_ok_both : {A E P Q R : Type 0} (r : Result A E) → (P → Q → R) → IfOk r (λ _. P) → IfOk r (λ _. Q) → IfOk r (λ _. R)
 still_ok_both (Ok x) f p q = f p q
 still_ok_both (Err e) f p q = tt
-
--- the same of what holds of its value
-pub still_ok_by : {A E : Type 0} (P Q : A → Type 0) (r : Result A E) → ((a : A) → P a → Q a) → IfOk r P → IfOk r Q
-still_ok_by P Q (Ok x) f p = f x p
-still_ok_by P Q (Err e) f p = tt

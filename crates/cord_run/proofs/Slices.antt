@@ -1,6 +1,6 @@
 -- Texts that are slices of memory.
 use Rattle.std.proofs.Common.{◌≡◌, ℕ, List, Result, Ok, sym, ap, ◌∙◌}
-use Rattle.std.specs.Prelude.{IfNone, IfSome, Option, Some, None}
+use Rattle.std.specs.Prelude.{IfNone, Option, Some, None}
 use Rattle.cord_io.specs.declared.TheConstants.{MAX_LEN}
 use Rattle.cord_operands.specs.declared.operands.Number.{Number}
 use Rattle.cord_meaning.specs.declared.ends.FaultKind.{FaultKind}
@@ -13,11 +13,7 @@ use Rattle.cord_run.specs.inner.Holdings.{plain_of}
 use Rattle.cord_run.specs.inner.Slices.{IsSliceOf, IsTextIn}
 use Rattle.cord_run.proofs.Lengths.{content_text, operand_value}
 
--- what follows from what a call gives
-pub still_some : {A : Type 0} {P Q : A → Type 0} (o : Option A) → ((a : A) → P a → Q a) → IfSome o P → IfSome o Q
-still_some (Some a) f p = f a p
-still_some None f p = tt
-
+-- what follows from what a call gives with None
 pub still_none : {A : Type 0} {P Q : Type 0} (o : Option A) → (P → Q) → IfNone o P → IfNone o Q
 still_none (Some a) f p = tt
 still_none None f p = f p

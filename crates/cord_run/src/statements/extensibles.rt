@@ -1,6 +1,5 @@
 // Statements that begin extensible cords, and let them grow.
-ghost use Rattle.std.specs.Prelude.{◌≡◌, ℕ, [], ◌∷◌, IfErr, IfOk, Some};
-ghost use Rattle.cord_core.specs.Cord.{bytes_of};
+ghost use Rattle.std.specs.Prelude.{◌≡◌, ℕ, [], IfErr, IfOk, Some};
 ghost use Rattle.cord_io.specs.Table.{Table};
 ghost use Rattle.cord_meaning.specs.State as meant;
 ghost use Rattle.cord_node.specs.Tables.{lengths_of};
@@ -56,7 +55,7 @@ fn grow_by_number(alloc: Global, store: &mut Store, name: &Name, byte: i64) -> R
     ensures becomes { GrowsByByte name.now (meant.as_byte byte) store.old.entries.items store.new.entries.items result }
 {
     match as_byte(byte) {
-        Ok(byte) => grow_by_byte(alloc, store, name, byte),
+        Ok(byte) => grow_by_bytes(alloc, store, name, &[byte]),
         Err(kind) => Err(Stop::Fault(kind)),
     }
 }
@@ -70,20 +69,7 @@ fn begin(alloc: Global, store: &mut Store, name: &Name) -> Result<(), Stop>
     give(store, name, extensible)
 }
 
-// Lets the extensible cord of a name grow by a byte.
-#[inline(always)]
-fn grow_by_byte(alloc: Global, store: &mut Store, name: &Name, byte: u8) -> Result<(), Stop>
-    ensures over { StaysOver store.old.entries.items store.new.entries.items result }
-    ensures becomes { Becomes name.now (longer_text store.old.entries.items name.now (byte ∷ []))
-        store.old.entries.items store.new.entries.items result }
-{
-    match store.append(alloc, name, &[byte]) {
-        Ok(()) => Ok(()),
-        Err(error) => Err(refusal(error)),
-    }
-}
-
-// Lets it grow by bytes.
+// Lets the extensible cord of a name grow by bytes.
 #[inline(always)]
 fn grow_by_bytes(alloc: Global, store: &mut Store, name: &Name, bytes: &[u8]) -> Result<(), Stop>
     ensures over { StaysOver store.old.entries.items store.new.entries.items result }

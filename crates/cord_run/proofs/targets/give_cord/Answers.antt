@@ -1,4 +1,5 @@
 use Rattle.std.proofs.Common.{rules}
+use Rattle.std.proofs.lemmas.Result.{on_ok_weaker}
 use Rattle.cord_io.specs.Device.{FileSystem}
 use Rattle.cord_file.specs.Files.{as_long_as_reported}
 use Rattle.cord_file.specs.Opening.{Grows}
@@ -29,8 +30,9 @@ returns-in_ok-cord-in-None-clause-gives g c = λ file_system agrees.
 
 pub returns-in-Some-clause-over : goal.returns-in-Some-clause-over
 returns-in-Some-clause-over g c =
-    edited_over (opened_in c.args.sources.now) c.args.store.now.entries.items c.edit_in_place.new.store.entries.items c.args.target.now
-    (made_view c.args.made.now) c.in-Some.edit.middle c.requires.over c.edit_in_place.result c.edit_in_place.ensures.edited
+    on_ok_weaker c.edit_in_place.result (edited_over (opened_in c.args.sources.now) c.args.store.now.entries.items
+    c.edit_in_place.new.store.entries.items c.args.target.now (made_view c.args.made.now) c.in-Some.edit.middle c.requires.over)
+    c.edit_in_place.ensures.edited
 
 pub returns-in-Some-clause-gives : goal.returns-in-Some-clause-gives
 returns-in-Some-clause-gives g c = λ file_system agrees.

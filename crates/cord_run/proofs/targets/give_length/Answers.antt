@@ -1,8 +1,9 @@
+use Rattle.std.proofs.lemmas.Result.{on_ok_weaker}
 use Rattle.cord_file.specs.Files.{as_long_as_reported}
 use Rattle.cord_file.specs.Sources.{device_in, opened_in}
 use Rattle.cord_plan.specs.Views.{made_view}
 use Rattle.cord_run.specs.declared.store.Content.TheVariants.{Long}
-use Rattle.cord_run.proofs.Known.{length_stays}
+use Rattle.cord_run.proofs.Known.{measured_stays}
 use Rattle.cord_run.proofs.TargetNames.{measured_target, nothing_changed, target_over}
 use Rattle.cord_run.proofs.targets.give_length.Goals as goal
 
@@ -27,5 +28,5 @@ returns-clause-gives g c = λ file_system agrees.
 
 pub returns-clause-stays : goal.returns-clause-stays
 returns-clause-stays g c =
-    length_stays c.args.store.now.entries.items c.give_long.new.store.entries.items c.args.target.now (made_view c.args.made.now)
-    c.in_ok-len.len c.in_ok-len.ensures.extent c.give_long.result c.give_long.ensures.has
+    on_ok_weaker c.give_long.result (λ has. measured_stays c.args.store.now.entries.items c.give_long.new.store.entries.items
+    c.args.target.now c.in_ok-len.len has 0 (made_view c.args.made.now) c.in_ok-len.ensures.extent) c.give_long.ensures.has

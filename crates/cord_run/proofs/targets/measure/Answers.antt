@@ -1,5 +1,6 @@
 use Rattle.std.proofs.Common.{◌≡◌, rules, sym, subst}
 use Rattle.std.specs.Prelude.{IfOk, IfErr}
+use Rattle.std.proofs.lemmas.Result.{IfOk-weaker}
 use Rattle.cord_io.specs.Device.{FileSystem}
 use Rattle.cord_file.specs.Files.{as_long_as_reported}
 use Rattle.cord_file.specs.Sources.{device_in, opened_in}
@@ -26,7 +27,8 @@ returns-in-Some g c =
     record {
       reported = subst (λ (m : Made). IfOk r (IsLength consistent old entries m)) is
           (file_measured consistent old entries c.in-Some.file.1 c.in-Some.file.0.now r reported.reported);
-      extent = file_extent entries (made_view c.args.made.now) c.in-Some.file.1 c.in-Some.file.0.now is r;
+      extent = IfOk-weaker r _ _ (λ len _. file_extent entries (made_view c.args.made.now) len c.in-Some.file.1 c.in-Some.file.0.now is)
+          reported.reported;
       refused = subst (λ (m : Made). IfErr r (IsUnmeasured consistent old entries m)) is
           (file_unmeasured consistent old entries c.in-Some.file.1 c.in-Some.file.0.now r reported.refused);
       earlier = reported.earlier;

@@ -1,6 +1,7 @@
 use Rattle.std.proofs.Common.{◌≡◌, ◌<◌, ◌+◌, drop, sym, ap, subst, ◌∙◌, rules, arith}
 use Rattle.std.specs.Prelude.{IfOk}
 use Rattle.std.proofs.lemmas.List.{drop_all}
+use Rattle.std.proofs.lemmas.Result.{IfOk-weaker, on_ok_weaker}
 use Rattle.cord_plan.specs.Exprs as plain
 use Rattle.cord_plan.specs.declared.expressions.Expr.{Expr}
 use Rattle.cord_plan.specs.Views.{expr_view, members_view, shared_view}
@@ -9,8 +10,7 @@ use Rattle.cord_run.specs.inner.Extents.{extent_in, members_extent, members_seen
 use Rattle.cord_plan.proofs.Halves.{prefix_falls, halves_Some, rest_falls}
 use Rattle.cord_run.specs.inner.Ranges.{AddsExpression, AddsMembers, IsAfter}
 use Rattle.cord_run.proofs.Members.{weight, weights, member_smaller, members_left}
-use Rattle.cord_run.proofs.Ranges.{name_added, run_added, cat_added, cat_past, sub_added, sub_past}
-use Rattle.cord_run.proofs.Ranges.{still_ok, still_ok_both, still_ok_by}
+use Rattle.cord_run.proofs.Ranges.{name_added, run_added, cat_added, cat_past, still_ok_both, sub_added, sub_past}
 use Rattle.cord_run.proofs.MemberRanges.{SoFar, WantedSoFar, starts, goes_on, ends_early, ends_last, wanted_goes_on, wanted_ends_early}
 use Rattle.cord_run.proofs.MemberRanges.{both_added, wanted_after_both, wanted_ends}
 use Rattle.cord_run.proofs.expressions.ranges.+add_range.Goals as goal
@@ -44,7 +44,7 @@ add_range-returns-in-Cat-clause-added t c =
     let new = c.add_members.new.pieces.items in
     let view : expr_view c.args.expression.now ≡ plain.cat es = ap expr_view c.in-Cat.is ∙ view-Cat c.in-Cat.members in
     subst (λ (e : plain.Expr). IfOk c.add_members.result (λ _. AddsExpression entries e c.args.wanted old new)) (sym view)
-    (still_ok c.add_members.result (cat_added entries es c.args.wanted old new) c.add_members.ensures.added)
+    (on_ok_weaker c.add_members.result (cat_added entries es c.args.wanted old new) c.add_members.ensures.added)
 
 pub add_range-returns-in-Cat-clause-past : goal.add_range-returns-in-Cat-clause-past
 add_range-returns-in-Cat-clause-past t c =
@@ -52,9 +52,7 @@ add_range-returns-in-Cat-clause-past t c =
     let es = members_view c.in-Cat.members in
     let view : expr_view c.args.expression.now ≡ plain.cat es = ap expr_view c.in-Cat.is ∙ view-Cat c.in-Cat.members in
     subst (λ (e : plain.Expr). IfOk c.add_members.result (λ after. IsAfter (extent_in entries e) c.args.wanted after)) (sym view)
-    (still_ok_by (λ after. IsAfter (members_extent entries es) c.args.wanted after)
-    (λ after. IsAfter (extent_in entries (plain.cat es)) c.args.wanted after) c.add_members.result
-    (λ after past. cat_past entries es c.args.wanted after past) c.add_members.ensures.past)
+    (IfOk-weaker c.add_members.result _ _ (cat_past entries es c.args.wanted) c.add_members.ensures.past)
 
 pub add_range-returns-in_ok-rest-in-Sub-clause-added : goal.add_range-returns-in_ok-rest-in-Sub-clause-added
 add_range-returns-in_ok-rest-in-Sub-clause-added t c =
@@ -187,7 +185,7 @@ add_members-returns-in_ok-left-in-Some-clause-added t c =
     let whole = halves_Some (members_view c.args.members.now) c.halves.result.0 c.halves.result.1.now c.halves.ensures.members
     c.in-Some.prefix c.in-Some.is in
     subst (λ (es : plain.Exprs). IfOk c.add_all-in-Some.result (λ _. AddsMembers entries es c.args.wanted old next)) (sym whole)
-    (still_ok c.add_all-in-Some.result (both_added entries prefix rest c.args.wanted c.in_ok-left-in-Some.left old now next
+    (on_ok_weaker c.add_all-in-Some.result (both_added entries prefix rest c.args.wanted c.in_ok-left-in-Some.left old now next
     c.in_ok-left-in-Some.ensures.added c.in_ok-left-in-Some.ensures.past) c.add_all-in-Some.ensures.added)
 
 pub add_members-returns-in_ok-left-in-Some-clause-past : goal.add_members-returns-in_ok-left-in-Some-clause-past
@@ -198,8 +196,5 @@ add_members-returns-in_ok-left-in-Some-clause-past t c =
     let whole = halves_Some (members_view c.args.members.now) c.halves.result.0 c.halves.result.1.now c.halves.ensures.members
     c.in-Some.prefix c.in-Some.is in
     subst (λ (es : plain.Exprs). IfOk c.add_all-in-Some.result (IsAfter (members_extent entries es) c.args.wanted)) (sym whole)
-    (still_ok_by (IsAfter (members_extent entries rest) c.in_ok-left-in-Some.left)
-    (IsAfter (members_extent entries (plain.append prefix rest)) c.args.wanted) c.add_all-in-Some.result
-    (λ after past. wanted_after_both entries prefix rest c.args.wanted c.in_ok-left-in-Some.left after
-    c.in_ok-left-in-Some.ensures.past past)
-    c.add_all-in-Some.ensures.past)
+    (IfOk-weaker c.add_all-in-Some.result _ _ (λ after. wanted_after_both entries prefix rest c.args.wanted c.in_ok-left-in-Some.left after
+    c.in_ok-left-in-Some.ensures.past) c.add_all-in-Some.ensures.past)

@@ -1,4 +1,5 @@
 use Rattle.std.proofs.Common.{◌≡◌, Ok, ℤ, IfSome, of_z, to_z, w64, sym, ap, subst, ◌∙◌, rules}
+use Rattle.std.proofs.lemmas.Option.{IfSome_then}
 use Rattle.cord_io.specs.declared.TheConstants.{MAX_LEN}
 use Rattle.cord_plan.specs.Exprs as plain
 use Rattle.cord_plan.specs.Values.{part_of}
@@ -7,7 +8,7 @@ use Rattle.cord_plan.proofs.ExprViews.{view-Name, view-Sub}
 use Rattle.cord_run.specs.inner.Entries.{operand_in}
 use Rattle.cord_run.specs.inner.Slices.{IsTextIn}
 use Rattle.cord_run.proofs.Numbers.{handed}
-use Rattle.cord_run.proofs.Slices.{name_is, still_some, sub_is}
+use Rattle.cord_run.proofs.Slices.{name_is, sub_is}
 use Rattle.cord_run.proofs.expressions.slices.slice_of.Goals as goal
 
 pub returns-in-Name : goal.returns-in-Name
@@ -16,7 +17,7 @@ returns-in-Name c =
     let x = c.in-Name.name in
     let view : expr_view c.args.expression.now ≡ plain.name x = ap expr_view c.in-Name.is ∙ view-Name x in
     subst (λ (e : plain.Expr). IfSome c.named_slice.result (λ slice. IsTextIn entries e slice.now)) (sym view)
-    (still_some c.named_slice.result (λ slice is. name_is entries x slice.now is) c.named_slice.ensures)
+    (IfSome_then c.named_slice.result c.named_slice.ensures (λ slice is. name_is entries x slice.now is))
 
 pub returns-in-Some : goal.returns-in-Some
 returns-in-Some c =
@@ -32,6 +33,6 @@ returns-in-Some c =
     let start = handed c.value_of.result (search rules) c.value_of.ensures in
     let count = handed c.value_of-in-Some.result (search rules) c.value_of-in-Some.ensures in
     subst (λ (e : plain.Expr). IfSome c.range_of.result (λ range. IsTextIn entries e range.now)) (sym view)
-    (still_some c.range_of.result (λ range is. sub_is entries x whole c.in-Some.ensures i n range.now
+    (IfSome_then c.range_of.result c.range_of.ensures (λ range is. sub_is entries x whole c.in-Some.ensures i n range.now
     (subst (λ (z : ℤ). part_of MAX_LEN whole z (operand_in entries n) ≡ Ok range.now) start
-    (subst (λ (z : ℤ). part_of MAX_LEN whole (to_z w64 (of_z w64 c.value_of.result)) z ≡ Ok range.now) count is))) c.range_of.ensures)
+    (subst (λ (z : ℤ). part_of MAX_LEN whole (to_z w64 (of_z w64 c.value_of.result)) z ≡ Ok range.now) count is))))

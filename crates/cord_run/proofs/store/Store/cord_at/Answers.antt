@@ -1,33 +1,29 @@
-use Rattle.std.proofs.Common.{refl, None, sym, ap, subst, ◌∙◌}
+use Rattle.std.proofs.Common.{List, ℕ, None, sym, ap, subst, ◌∙◌}
 use Rattle.cord_run.specs.declared.store.Content.TheVariants.{Whole}
 use Rattle.cord_run.specs.declared.store.Content.{Content}
 use Rattle.cord_run.specs.declared.store.Entry.{Entry}
 use Rattle.cord_run.specs.inner.Edits.{IsWholeContent}
-use Rattle.cord_run.specs.inner.Entries.{content_length, cord_in}
+use Rattle.cord_run.specs.inner.Entries.{content_length, cord_in, IsEntryAt}
 use Rattle.cord_run.proofs.Entries.{value_there}
 use Rattle.cord_run.proofs.Splices.{whole_at}
 use Rattle.cord_run.proofs.store.Store.cord_at.Goals as goal
 
-pub returns-in-Whole-clause-some : goal.returns-in-Whole-clause-some
-returns-in-Whole-clause-some c = λ name here.
+pub returns-in-Whole : goal.returns-in-Whole
+returns-in-Whole c =
     let entries = c.args.self.now.entries.items in
-    ap cord_in (sym c.in-Whole.is ∙ value_there (λ entry. entry.content) (Whole None) entries entries name c.args.place
-    c.index.result.now refl here c.index.ensures)
-
-pub returns-in-Whole-clause-len : goal.returns-in-Whole-clause-len
-returns-in-Whole-clause-len c = λ name here.
-    let entries = c.args.self.now.entries.items in
-    ap content_length (sym c.in-Whole.is ∙ value_there (λ entry. entry.content) (Whole None) entries entries name c.args.place
-    c.index.result.now refl here c.index.ensures)
+    let held = λ (name : List ℕ) (here : IsEntryAt entries name c.args.place). sym c.in-Whole.is
+    ∙ value_there (λ entry. entry.content) (Whole None) entries name c.args.place c.index.result.now here c.index.ensures in
+    record {
+      some = λ name here. ap cord_in (held name here);
+      len = λ name here. ap content_length (held name here);
+      whole = whole_at entries c.args.place c.index.result.now
+          (subst (λ (content : Content). IsWholeContent content) (sym c.in-Whole.is ∙ ap (λ (entry : Entry). entry.content) c.index.ensures)
+          tt);
+      none = tt;
+    }
 
 pub returns-in-Long-clause-none : goal.returns-in-Long-clause-none
 returns-in-Long-clause-none c = λ name here.
     let entries = c.args.self.now.entries.items in
-    sym (ap cord_in (sym c.in-Long.is ∙ value_there (λ entry. entry.content) (Whole None) entries entries name c.args.place
-    c.index.result.now refl here c.index.ensures))
-
-pub returns-in-Whole-clause-whole : goal.returns-in-Whole-clause-whole
-returns-in-Whole-clause-whole c =
-    let entries = c.args.self.now.entries.items in
-    whole_at entries c.args.place c.index.result.now
-    (subst (λ (content : Content). IsWholeContent content) (sym c.in-Whole.is ∙ ap (λ (entry : Entry). entry.content) c.index.ensures) tt)
+    sym (ap cord_in (sym c.in-Long.is ∙ value_there (λ entry. entry.content) (Whole None) entries name c.args.place
+    c.index.result.now here c.index.ensures))

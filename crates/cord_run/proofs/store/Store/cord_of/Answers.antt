@@ -1,21 +1,21 @@
-use Rattle.std.proofs.Common.{refl, None, ap, sym, ◌∙◌}
+use Rattle.std.proofs.Common.{None, ap, sym, ◌∙◌}
+use Rattle.std.proofs.lemmas.Option.{IfSome_then}
 use Rattle.cord_run.specs.declared.store.Content.TheVariants.{Whole}
 use Rattle.cord_run.specs.inner.Entries.{content_length, cord_in}
-use Rattle.cord_run.proofs.Entries.{none_there}
-use Rattle.cord_run.proofs.Slices.{still_none, still_some}
+use Rattle.cord_run.proofs.Entries.{absent_none}
+use Rattle.cord_run.proofs.Slices.{still_none}
 use Rattle.cord_run.proofs.store.Store.cord_of.Goals as goal
 
 pub returns-in-None-clause-none : goal.returns-in-None-clause-none
 returns-in-None-clause-none c =
-    ap cord_in (none_there (λ entry. entry.content) (Whole None) c.args.self.now.entries.items c.args.self.now.entries.items
-    c.args.name.now refl c.in-None.ensures.none)
+    ap cord_in (absent_none (λ entry. entry.content) (Whole None) c.args.self.now.entries.items c.args.name.now c.in-None.ensures.none)
 
 pub returns-in-Some-clause-some : goal.returns-in-Some-clause-some
-returns-in-Some-clause-some c = still_some c.cord.result (λ cord is. is ∙ ap cord_in (sym c.in-Some.ensures.some.content)) c.cord.ensures.some
+returns-in-Some-clause-some c = IfSome_then c.cord.result c.cord.ensures.some (λ cord is. is ∙ ap cord_in (sym c.in-Some.ensures.some.content))
 
 pub returns-in-Some-clause-len : goal.returns-in-Some-clause-len
 returns-in-Some-clause-len c =
-    still_some c.cord.result (λ cord is. is ∙ ap content_length (sym c.in-Some.ensures.some.content)) c.cord.ensures.len
+    IfSome_then c.cord.result c.cord.ensures.len (λ cord is. is ∙ ap content_length (sym c.in-Some.ensures.some.content))
 
 pub returns-in-Some-clause-none : goal.returns-in-Some-clause-none
 returns-in-Some-clause-none c = still_none c.cord.result (λ is. ap cord_in c.in-Some.ensures.some.content ∙ is) c.cord.ensures.none

@@ -1,21 +1,24 @@
-use Rattle.std.proofs.Common.{refl, ap, ◌∙◌, None}
+use Rattle.std.proofs.Common.{ap, ◌∙◌, None}
+use Rattle.std.proofs.lemmas.Result.{IfOk-weaker}
 use Rattle.cord_run.specs.declared.store.Entry.{Entry}
 use Rattle.cord_run.specs.inner.Entries.{cells_in}
-use Rattle.cord_run.proofs.Entries.{distinct_set, extensible_same, name_at_place, none_there, value_there}
-use Rattle.cord_run.proofs.Cords.{extended_name, extended_none}
+use Rattle.cord_run.proofs.Entries.{absent_none, distinct_set, extensible_same, name_at_place, value_there}
+use Rattle.cord_run.proofs.Cords.{extended_none, extended_text}
 use Rattle.cord_run.proofs.store.Store.extended.Goals as goal
 
 pub returns-in-None-clause-made : goal.returns-in-None-clause-made
 returns-in-None-clause-made c = extended_none c.args.self.now.entries.items c.args.name.now
-    (none_there (λ entry. cells_in entry.extensible) None c.args.self.now.entries.items c.args.self.now.entries.items c.args.name.now refl
-    c.in-None.ensures.none) c.empty.result c.empty.ensures
+    (absent_none (λ entry. cells_in entry.extensible) None c.args.self.now.entries.items c.args.name.now c.in-None.ensures.none)
+    c.empty.result c.empty.ensures
 
 pub returns-in-Some-clause-made : goal.returns-in-Some-clause-made
 returns-in-Some-clause-made c =
-    extended_name c.args.self.now.entries.items c.args.name.now (cells_in c.index_mut.result.now.extensible)
-    (value_there (λ entry. cells_in entry.extensible) None c.args.self.now.entries.items c.args.self.now.entries.items c.args.name.now
-    c.in-Some.place c.index_mut.result.now refl c.in-Some.ensures.some c.index_mut.ensures.value)
-    c.cord_of.result c.cord_of.ensures.made
+    let entries = c.args.self.now.entries.items in
+    let name = c.args.name.now in
+    let from : Entry = c.index_mut.result.now in
+    IfOk-weaker c.cord_of.result _ _ (λ cord. extended_text entries name (cells_in from.extensible) cord
+    (value_there (λ entry. cells_in entry.extensible) None entries name c.in-Some.place from c.in-Some.ensures.some c.index_mut.ensures.value))
+    c.cord_of.ensures.made
 
 pub returns-in-Some-clause-same : goal.returns-in-Some-clause-same
 returns-in-Some-clause-same c =

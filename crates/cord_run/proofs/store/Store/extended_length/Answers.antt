@@ -1,20 +1,20 @@
-use Rattle.std.proofs.Common.{refl, None, sym, ap, ◌∙◌}
+use Rattle.std.proofs.Common.{None, sym, ap, ◌∙◌}
 use Rattle.cord_run.specs.inner.Contents.{extensible_length}
 use Rattle.cord_run.specs.inner.Entries.{cells_in}
-use Rattle.cord_run.proofs.Entries.{none_there, value_there}
+use Rattle.cord_run.proofs.Entries.{absent_none, value_there}
 use Rattle.cord_run.proofs.store.Store.extended_length.Goals as goal
 
 pub returns-in-None : goal.returns-in-None
 returns-in-None c = sym
-    (ap extensible_length (none_there (λ entry. cells_in entry.extensible) None c.args.self.now.entries.items c.args.self.now.entries.items
-    c.args.name.now refl c.in-None.ensures.none))
+    (ap extensible_length (absent_none (λ entry. cells_in entry.extensible) None c.args.self.now.entries.items c.args.name.now
+    c.in-None.ensures.none))
 
 pub returns-in-None-extensible : goal.returns-in-None-extensible
 returns-in-None-extensible c = ap extensible_length (ap cells_in (sym c.in-None-extensible.is)
-    ∙ value_there (λ entry. cells_in entry.extensible) None c.args.self.now.entries.items c.args.self.now.entries.items c.args.name.now
-    c.in-Some.place c.index.result.now refl c.in-Some.ensures.some c.index.ensures)
+    ∙ value_there (λ entry. cells_in entry.extensible) None c.args.self.now.entries.items c.args.name.now c.in-Some.place c.index.result.now
+    c.in-Some.ensures.some c.index.ensures)
 
 pub returns-in-Some-extensible : goal.returns-in-Some-extensible
 returns-in-Some-extensible c = c.len.ensures.value ∙ ap extensible_length
     (ap cells_in (sym c.in-Some-extensible.is) ∙ value_there (λ entry. cells_in entry.extensible) None c.args.self.now.entries.items
-    c.args.self.now.entries.items c.args.name.now c.in-Some.place c.index.result.now refl c.in-Some.ensures.some c.index.ensures)
+    c.args.name.now c.in-Some.place c.index.result.now c.in-Some.ensures.some c.index.ensures)

@@ -1,13 +1,12 @@
-use Rattle.std.proofs.Common.{refl, None, sym, ap, ◌∙◌}
+use Rattle.std.proofs.Common.{None, sym, ap, ◌∙◌}
 use Rattle.cord_run.specs.declared.store.Content.TheVariants.{Whole}
 use Rattle.cord_run.specs.inner.Entries.{content_length}
-use Rattle.cord_run.proofs.Entries.{none_there}
+use Rattle.cord_run.proofs.Entries.{absent_none}
 use Rattle.cord_run.proofs.store.Store.length_of.Goals as goal
 
 pub returns-in-None : goal.returns-in-None
 returns-in-None c = sym
-    (ap content_length (none_there (λ entry. entry.content) (Whole None) c.args.self.now.entries.items c.args.self.now.entries.items
-    c.args.name.now refl c.in-None.ensures.none))
+    (ap content_length (absent_none (λ entry. entry.content) (Whole None) c.args.self.now.entries.items c.args.name.now c.in-None.ensures.none))
 
 pub returns-in-Some : goal.returns-in-Some
 returns-in-Some c = c.len.ensures ∙ ap content_length (sym c.in-Some.ensures.some.content)

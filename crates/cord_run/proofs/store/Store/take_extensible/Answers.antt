@@ -1,14 +1,12 @@
-use Rattle.std.proofs.Common.{refl, None, sym}
+use Rattle.std.proofs.Common.{None, sym}
 use Rattle.cord_run.specs.inner.Entries.{cells_in}
-use Rattle.cord_run.proofs.Entries.{none_there, extensible_none}
+use Rattle.cord_run.proofs.Entries.{absent_none, extensible_none}
 use Rattle.cord_run.proofs.store.Store.take_extensible.Goals as goal
 
 pub returns-in-None-clause-taken : goal.returns-in-None-clause-taken
 returns-in-None-clause-taken c =
-    sym (none_there (λ entry. cells_in entry.extensible) None c.args.self.now.entries.items c.args.self.now.entries.items c.args.name.now
-    refl c.in-None.ensures.none)
+    sym (absent_none (λ entry. cells_in entry.extensible) None c.args.self.now.entries.items c.args.name.now c.in-None.ensures.none)
 
 pub returns-in-None-clause-left : goal.returns-in-None-clause-left
 returns-in-None-clause-left c = extensible_none c.args.name.now c.args.self.now.entries.items
-    (none_there (λ entry. cells_in entry.extensible) None c.args.self.now.entries.items c.args.self.now.entries.items c.args.name.now refl
-    c.in-None.ensures.none)
+    (absent_none (λ entry. cells_in entry.extensible) None c.args.self.now.entries.items c.args.name.now c.in-None.ensures.none)
