@@ -6,13 +6,13 @@ ghost use Rattle.cord_lines.specs.Counts.{chars_in, counts_of, ends_in};
 ghost use Rattle.cord_lines.specs.Lines.{after_ends, is_inside_line, lacks_end, IsEditOf};
 ghost use Rattle.cord_lines.specs.Index.{FollowsEdit, IsIndexOf, of_no_bytes};
 ghost use Rattle.cord_lines.specs.inner.Blocks.{total};
-ghost use Rattle.cord_lines.specs.inner.Cuts.{AreBlocksOf, AreModest, IsModest};
+ghost use Rattle.cord_lines.specs.inner.Cuts.{AreBlocksOf, AreModest};
 ghost use Rattle.cord_lines.specs.inner.Edits.{AreRemoved};
 
 use crate::blocks::{Blocks, Found, Measure};
 use crate::counting::Counts;
 use crate::cutting::{BLOCK, cut};
-use crate::reading::{after_last_end, count_range, end_from};
+use crate::reading::{count_range, end_from};
 use crate::renewing::{Edit, renew};
 use cord::Text;
 use std::alloc::{AllocError, Global};
@@ -21,36 +21,28 @@ use std::marker::Model;
 /// How far before the place where the end of a line is guessed the search begins.
 const MARGIN: u64 = 256;
 
-/// A place is near the last edit where at most so many bytes lie between them.
-const NEAR: u64 = 512;
-
-/// A line is near the last edit where at most so many lines end between them.
-const NEAR_LINES: u64 = 8;
-
 /// How many lines end, and how many characters begin, in each block of a text, so that a line is found by its number
 /// and by a place in it without a walk through the text. It belongs to one text and doesn't keep it: each call is given
 /// that text once more, and of another text its answers mean nothing.
 ///
 /// A line ends with the byte 10, which the last one may lack. Blocks have 6,656 bytes at first, so the index takes less
 /// than a thousandth of the text's memory. A look-up passes the sums of 4,096 blocks each, 64 sums of 64 blocks each and
-/// 64 blocks, and reads a part of one block. Near the last edit it reads only what lies between.
+/// 64 blocks, and reads a part of one block.
 #[derive(Drop)]
 pub struct LineIndex {
     blocks: Blocks,
     lacks_end: bool,
-    // The counts of the bytes before the place of the last edit.
-    mark: Counts,
 }
 
 impl Model for LineIndex {
     ghost use Rattle.cord_lines.specs.Index.{Indexed};
-    ghost use Rattle.cord_lines.specs.inner.Cuts.{AreOfSomeText, IsModest, shown};
+    ghost use Rattle.cord_lines.specs.inner.Cuts.{AreOfSomeText, shown};
 
     ghost Value = { Indexed };
 
-    ghost view = { λ i. shown i.blocks i.lacks_end i.mark };
+    ghost view = { λ i. shown i.blocks i.lacks_end };
 
-    ghost invariant = { λ i. AreOfSomeText i.blocks × IsModest i.mark };
+    ghost invariant = { λ i. AreOfSomeText i.blocks };
 }
 
 impl LineIndex {
@@ -61,7 +53,6 @@ impl LineIndex {
         LineIndex {
             blocks: Blocks::none(alloc),
             lacks_end: false,
-            mark: Counts::NONE,
         }
     }
 
@@ -74,7 +65,6 @@ impl LineIndex {
         Ok(LineIndex {
             blocks,
             lacks_end: lacks_end_of(text),
-            mark: Counts::NONE,
         })
     }
 
@@ -93,10 +83,7 @@ impl LineIndex {
         if n == 0 {
             return 0;
         }
-        if n == self.mark.ends && self.mark.bytes <= text.len() {
-            return after_last_end(text, self.mark.bytes);
-        }
-        let before = before_line(&self.blocks, self.mark, text, n);
+        let before = before_line(&self.blocks, text, n);
         let from = before.bytes.min(text.len());
         end_from(text, from, n - before.ends)
     }
@@ -233,8 +220,9 @@ impl LineIndex {
             return Ok(());
         }
         renew(&mut self.blocks, alloc, after, edit, removed)?;
-        self.lacks_end = lacks_end_after(edit, len, self.lacks_end, after);
-        self.mark = mark_at(&self.blocks, self.mark, after, edit.start);
+        if edit.start + edit.removed == len {
+            self.lacks_end = lacks_end_of(after);
+        }
         Ok(())
     }
 
@@ -242,40 +230,10 @@ impl LineIndex {
     fn counts_before(&self, text: &Text, place: u64) -> Counts
         ensures { IsIndexOf self.now text.now → result ≡ counts_of (take place text.now) }
     {
-        counts_from(&self.blocks, self.mark, text, place)
+        let end = place.min(text.len());
+        let found = self.blocks.find(Measure::Bytes, end);
+        counts_within(&self.blocks, text, found, end)
     }
-}
-
-// The counts of the bytes before the place of an edit, which leaves what is before it: of no bytes where a text can't have
-// so many.
-fn mark_at(blocks: &Blocks, last: Counts, text: &Text, place: u64) -> Counts
-    requires modest { AreModest blocks.now }
-    requires last { IsModest last }
-    ensures modest { IsModest result }
-    ensures marked { AreBlocksOf blocks.now text.now → (last.bytes ≤ place → last ≡ counts_of (take last.bytes text.now)) →
-        result ≡ counts_of (take result.bytes text.now) }
-{
-    let counts = counts_from(blocks, last.up_to(place), text, place);
-    if counts.are_modest() {
-        counts
-    } else {
-        Counts::NONE
-    }
-}
-
-// The counts of the bytes before a place, counted from a mark, where that is near, and else in a block.
-fn counts_from(blocks: &Blocks, mark: Counts, text: &Text, place: u64) -> Counts
-    requires modest { AreModest blocks.now }
-    requires mark { IsModest mark }
-    ensures { AreBlocksOf blocks.now text.now → mark ≡ counts_of (take mark.bytes text.now) →
-        result ≡ counts_of (take place text.now) }
-{
-    let end = place.min(text.len());
-    if mark.bytes <= end && end - mark.bytes <= NEAR {
-        return mark.plus(count_range(text, mark.bytes, end));
-    }
-    let found = blocks.find(Measure::Bytes, end);
-    counts_within(blocks, text, found, end)
 }
 
 // The counts of the bytes before a place of a block, counted from the nearer end of the block.
@@ -298,19 +256,14 @@ fn counts_within(blocks: &Blocks, text: &Text, found: Found, place: u64) -> Coun
     before.plus(count_range(text, before.bytes, place))
 }
 
-// The counts of the bytes before a place that fewer than `n` ends of lines precede: a mark, where few lines end between,
-// or near the `n`th one, where that stands in the second half of its block, as far as its lines are of one length, and else
-// where the block begins.
-fn before_line(blocks: &Blocks, mark: Counts, text: &Text, n: u64) -> Counts
+// The counts of the bytes before a place that fewer than `n` ends of lines precede: near the `n`th one, where that stands
+// in the second half of its block, as far as its lines are of one length, and else where the block begins.
+fn before_line(blocks: &Blocks, text: &Text, n: u64) -> Counts
     requires modest { AreModest blocks.now }
     requires some { 0 < n }
     ensures few { result.ends < n }
-    ensures counts { AreBlocksOf blocks.now text.now → mark ≡ counts_of (take mark.bytes text.now) →
-        result ≡ counts_of (take result.bytes text.now) }
+    ensures counts { AreBlocksOf blocks.now text.now → result ≡ counts_of (take result.bytes text.now) }
 {
-    if mark.ends < n && n - mark.ends <= NEAR_LINES {
-        return mark;
-    }
     let found = blocks.find(Measure::Ends, n - 1);
     if found.index < blocks.len() {
         let place = found.before.bytes.saturating_add(offset_of(
@@ -334,19 +287,6 @@ fn offset_of(block: Counts, passed: u64) -> u64 {
         (block.bytes.saturating_mul(passed) / block.ends).saturating_sub(MARGIN)
     } else {
         0
-    }
-}
-
-// Whether the last line lacks its end after an edit of a text of this length, where it is known of that.
-fn lacks_end_after(edit: Edit, len: u64, known: bool, after: &Text) -> bool
-    requires { edit.start + edit.removed ≤ len }
-    ensures { (before : List ℕ) → length before ≡ len → known ≡ lacks_end before →
-        IsEditOf before after.now edit.start edit.removed edit.inserted → result ≡ lacks_end after.now }
-{
-    if edit.start + edit.removed == len {
-        lacks_end_of(after)
-    } else {
-        known
     }
 }
 

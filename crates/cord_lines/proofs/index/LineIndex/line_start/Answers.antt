@@ -1,28 +1,19 @@
-use Rattle.std.proofs.Common.{◌≡◌, ◌∙◌, ℕ, ap, sym, min, length, arith, rules}
-use Rattle.cord_lines.specs.declared.counting.Counts.{Counts}
+use Rattle.std.proofs.Common.{◌≡◌, ◌∙◌, ℕ, ap, sym, min, length, arith}
 use Rattle.cord_lines.specs.Lines.{after_ends}
 use Rattle.cord_lines.proofs.Ends.{none_passed}
-use Rattle.cord_lines.proofs.Cuts.{cut_from, marked_from, modest_by, past_counts}
+use Rattle.cord_lines.proofs.Cuts.{cut_from, modest_by, past_counts}
 use Rattle.cord_lines.proofs.index.LineIndex.line_start.Goals as goal
 
 pub returns-then-n-eq0 : goal.returns-then-n-eq0
 returns-then-n-eq0 c = λ is. sym (ap (λ (n : ℕ). after_ends n c.args.text.now) c.if-n-eq0.true ∙ none_passed c.args.text.now)
 
-pub returns-then-self-len : goal.returns-then-self-len
-returns-then-self-len c = λ is.
-    let same : c.args.n ≡ c.self.inside.mark.ends = search rules in
-    let marked = marked_from c.self.inside.blocks c.self.inside.lacks_end c.self.inside.mark c.args.self.now c.args.text.now c.self.view_is is in
-    let ends = ap (λ (a : Counts). a.ends) marked in
-    c.after_last_end.ensures ∙ sym (ap (λ (n : ℕ). after_ends n c.args.text.now) (same ∙ ends))
-
 pub before_line-before-requires-clause-modest : goal.before_line-before-requires-clause-modest
-before_line-before-requires-clause-modest c = modest_by c.self.inside.blocks c.self.invariant.0
+before_line-before-requires-clause-modest c = modest_by c.self.inside.blocks c.self.invariant
 
 pub returns : goal.returns
 returns c = λ is.
-    let from : c.min-from.result ≡ min c.before_line-before.result.bytes (length c.args.text.now) = omega (arith, c.min-from.ensures, c.len-2.ensures.value) in
+    let from : c.min-from.result ≡ min c.before_line-before.result.bytes (length c.args.text.now) = omega (arith, c.min-from.ensures, c.len.ensures.value) in
     c.end_from.ensures
     ∙ past_counts c.args.text.now c.before_line-before.result c.min-from.result c.args.n
-    (c.before_line-before.ensures.counts (cut_from c.self.inside.blocks c.self.inside.lacks_end c.self.inside.mark c.args.self.now c.args.text.now c.self.view_is is)
-    (marked_from c.self.inside.blocks c.self.inside.lacks_end c.self.inside.mark c.args.self.now c.args.text.now c.self.view_is is))
+    (c.before_line-before.ensures.counts (cut_from c.self.inside.blocks c.self.inside.lacks_end c.args.self.now c.args.text.now c.self.view_is is))
     from c.before_line-before.ensures.few
