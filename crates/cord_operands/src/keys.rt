@@ -1,5 +1,5 @@
 // Keys of names: numbers that tell short names apart.
-ghost use Rattle.std.specs.Prelude.{◌≡◌, ◌*◌, ◌+◌, ◌%◌, ◌^◌, ◌<◌};
+ghost use Rattle.std.specs.Prelude.{◌≡◌, ◌*◌, ◌+◌, ◌%◌, ◌^◌, ◌<◌, length};
 ghost use Rattle.std.specs.Str.{bytes_eq};
 ghost use Rattle.cord_operands.specs.Keys.{exact_from, hash_from, key_of, slot_at};
 
@@ -9,21 +9,18 @@ const FIRST_HASH: u64 = 1 << 63;
 /// What spreads keys over slots: the odd number next to 2^64 over the golden ratio.
 const SPREAD: u64 = 0x9E37_79B9_7F4A_7C15;
 
-// The number that goes on with a byte as its next digit.
-fn with(prefix: u64, byte: u8) -> u64
-    requires { prefix < 2 ^ 50 }
-    ensures { result ≡ prefix * 256 + byte }
+// The number whose digits are the bytes of a name of at most seven bytes.
+#[inline(always)]
+fn digits_of(name: &[u8]) -> u64
+    requires { length name.now < 8 }
+    ensures digits { result ≡ exact_from 0 name.now }
+    ensures within { result < 2 ^ 56 }
 {
-    prefix * 256 + byte as u64
-}
-
-// The key of a name of so many bytes whose digits are these.
-fn short(digits: u64, count: u64) -> u64
-    requires digits { digits < 2 ^ 58 }
-    requires count { count < 8 }
-    ensures { result ≡ digits * 8 + count }
-{
-    digits * 8 + count
+    let mut digits: u64 = 0;
+    for byte in name {
+        digits = digits * 256 + *byte as u64;
+    }
+    digits
 }
 
 // The hash of a name of any length.
@@ -43,28 +40,10 @@ fn hash_of(name: &[u8]) -> u64
 pub fn key_of(name: &[u8]) -> u64
     ensures { result ≡ key_of name.now }
 {
-    match name {
-        [] => 0,
-        [a] => short(with(0, *a), 1),
-        [a, b] => short(with(with(0, *a), *b), 2),
-        [a, b, c] => short(with(with(with(0, *a), *b), *c), 3),
-        [a, b, c, d] => {
-            let prefix = with(with(0, *a), *b);
-            short(with(with(prefix, *c), *d), 4)
-        }
-        [a, b, c, d, e] => {
-            let prefix = with(with(with(0, *a), *b), *c);
-            short(with(with(prefix, *d), *e), 5)
-        }
-        [a, b, c, d, e, f] => {
-            let prefix = with(with(with(0, *a), *b), *c);
-            short(with(with(with(prefix, *d), *e), *f), 6)
-        }
-        [a, b, c, d, e, f, g] => {
-            let prefix = with(with(with(with(0, *a), *b), *c), *d);
-            short(with(with(with(prefix, *e), *f), *g), 7)
-        }
-        _ => FIRST_HASH + hash_of(name),
+    if name.len() < 8 {
+        digits_of(name) * 8 + name.len() as u64
+    } else {
+        FIRST_HASH + hash_of(name)
     }
 }
 
