@@ -94,6 +94,21 @@ class Tally:
         return 1 if self.failed else 0
 
 
+def runs_to(out):
+    """How a script ends that runs to its end: the status, what it writes, and the errors."""
+    return 0, out, b""
+
+
+def refused(line, text):
+    """How a script ends that has a syntax error."""
+    return 2, b"", f"cordsh: line {line}: {text}\n".encode()
+
+
+def faults(line, text, out=b""):
+    """How a script ends that meets a run-time error."""
+    return 1, out, f"cordsh: line {line}: {text}\n".encode()
+
+
 def processors():
     return len(os.sched_getaffinity(0))
 

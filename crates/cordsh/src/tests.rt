@@ -1,4 +1,5 @@
-//! Cases of the program's words: the status, what is written and what is reported.
+//! The program over devices in memory that fail, or are refused memory: the status, what is written and what is
+//! reported. What it answers where nothing fails, the tool `cases` shows.
 
 // The value of a call, which is made again where it was refused memory.
 macro_rules! again {
@@ -10,130 +11,90 @@ macro_rules! again {
     };
 }
 
-mod cases;
-mod devices;
-mod hostile;
-mod machine;
-mod refusals;
+mod failing;
 mod refused;
-mod scripts;
 mod words;
 
-use cord_io::{Files, MemFiles, MemSink};
+use cord_io::{Files, FuseFiles, FuseSink, MemFiles, MemSink};
 use cord_shell::drive;
 use std::process::Abort;
 
 // The words that run the script at "s": by its plan, and as its statements stand.
 const WAYS: &[&[&str]] = &[&["s"], &["--unplanned", "s"]];
 
-const HELLO: &[u8] = b"let x \"hello\"\nput x\n";
+// The calls that a device passes which never fails.
+const ALL: u64 = u64::MAX;
 
-// Appends bytes.
-fn add(rt: &impl Abort, bytes: &mut Vec<u8>, more: &[u8]) {
-    again!(rt, bytes.extend_from_slice(more));
+// A script of less than ten lines, the file "p" beside it, what is written, and the lines that put it, each with how
+// much is written then.
+#[derive(Clone, Copy)]
+struct Hostile<'a> {
+    script: &'a [u8],
+    file: &'a [u8],
+    written: &'a [u8],
+    puts: &'a [(u32, usize)],
 }
 
-// Files with one script, at "s".
-fn files_with(rt: &(impl AllocGlobal + Abort), script: &[u8]) -> MemFiles {
-    let alloc = rt.alloc();
-    let mut files = MemFiles::new(alloc);
-    again!(rt, files.add(alloc, "s", script));
-    files
-}
+const HELLO: Hostile<'static> = Hostile {
+    script: b"let x \"hello\"\nput x\n",
+    file: b"",
+    written: b"hello",
+    puts: &[(2, 5)],
+};
 
-// Files with one script, at "s", and one other file.
-fn files_and(rt: &(impl AllocGlobal + Abort), script: &[u8], path: &str, bytes: &[u8]) -> MemFiles {
-    let alloc = rt.alloc();
-    let mut files = MemFiles::new(alloc);
-    again!(rt, files.add(alloc, "s", script));
-    again!(rt, files.add(alloc, path, bytes));
-    files
-}
+const FILE_TWICE: Hostile<'static> = Hostile {
+    script: b"file x \"p\"\nput x\nput x\n",
+    file: b"line\n",
+    written: b"line\nline\n",
+    puts: &[(2, 5), (3, 10)],
+};
 
-fn word_of(rt: &(impl AllocGlobal + Abort), word: &str) -> String {
-    again!(rt, String::from_str(rt.alloc(), word))
-}
-
-fn words_of(rt: &(impl AllocGlobal + Abort), words: &[&str]) -> Vec<String> {
-    let mut all = Vec::new(rt.alloc());
-    for word in words {
-        again!(rt, all.push(word_of(rt, word)));
-    }
-    all
-}
-
-// What came of the program's words: the status, what is written and what is reported.
+// What came of the program's words: the status, how often the files failed, what is written and what is reported.
 #[derive(Drop)]
-struct Driven {
+struct Come {
     status: u8,
-    out: MemSink,
+    files_failed: u64,
+    out: FuseSink<MemSink>,
     err: MemSink,
 }
 
-// Drives the words over files.
-fn drive_over<F: Files + Drop>(
-    rt: &(impl AllocGlobal + Abort),
-    words: &[&str],
-    files: F,
-) -> Driven {
+fn words_of(rt: &(impl AllocGlobal + Abort), words: &[&str]) -> Vec<String> {
     let alloc = rt.alloc();
-    let words = words_of(rt, words);
-    assert!(rt; files.failures() < u64::MAX);
-    let mut out = MemSink::new(alloc);
-    let mut err = MemSink::new(alloc);
-    let (status, _) = drive(alloc, &words, files, &mut out, &mut err);
-    Driven { status, out, err }
-}
-
-// Compares what came of a case's words.
-fn expect_come(
-    rt: &impl Abort,
-    name: &str,
-    come: &Driven,
-    status: u8,
-    written: &[u8],
-    reported: &[u8],
-) {
-    assert!(rt; come.status == status, "{name}: the status");
-    assert!(rt; come.out.bytes() == written, "{name}: what is written");
-    assert!(rt; come.err.bytes() == reported, "{name}: what is reported");
-}
-
-// Drives a script at "s" both ways, and compares what comes of it.
-fn expect_both(
-    rt: &(impl AllocGlobal + Abort),
-    name: &str,
-    script: &[u8],
-    status: u8,
-    written: &[u8],
-    reported: &[u8],
-) {
-    for &words in WAYS {
-        let come = drive_over(rt, words, files_with(rt, script));
-        expect_come(rt, name, &come, status, written, reported);
+    let mut all = Vec::new(alloc);
+    for word in words {
+        again!(rt, all.push(again!(rt, String::from_str(alloc, word))));
     }
-}
-
-// So many copies of a byte after a text.
-fn filled(rt: &(impl AllocGlobal + Abort), text: &[u8], byte: u8, count: usize) -> Vec<u8> {
-    let mut bytes = Vec::from_elem(rt.alloc(), byte, count).expect(rt, "no memory");
-    let mut all = Vec::from_slice(rt.alloc(), text).expect(rt, "no memory");
-    add(rt, &mut all, &bytes);
     all
 }
 
-// So many bytes: those from 0 to 250 in turn.
-fn numbered(rt: &(impl AllocGlobal + Abort), count: usize) -> Vec<u8> {
-    let mut bytes = Vec::new(rt.alloc());
-    for k in 0..count {
-        bytes.push((k % 251) as u8).expect(rt, "no memory");
-    }
-    bytes
+// Files with the script at "s", and the file at "p".
+fn files_of(rt: &(impl AllocGlobal + Abort), hostile: &Hostile<'_>) -> MemFiles {
+    let alloc = rt.alloc();
+    let mut files = MemFiles::new(alloc);
+    again!(rt, files.add(alloc, "s", hostile.script));
+    again!(rt, files.add(alloc, "p", hostile.file));
+    files
 }
 
-// The bytes of a script that is written with ` ; ` between its lines.
-fn lines(rt: &(impl AllocGlobal + Abort), printed: &str) -> Vec<u8> {
-    let mut script = again!(rt, printed.replace(rt.alloc(), " ; ", "\n")).into_bytes();
-    add(rt, &mut script, b"\n");
-    script
+// Drives words over files that pass so many calls and an output that passes so many of at most so many bytes.
+fn come_of(
+    rt: &(impl AllocGlobal + Abort),
+    hostile: &Hostile<'_>,
+    words: &[&str],
+    passes: (u64, u64),
+    most: u64,
+) -> Come {
+    let alloc = rt.alloc();
+    let words = words_of(rt, words);
+    assert!(rt; most >= 1);
+    let files = FuseFiles::new(files_of(rt, hostile), passes.0);
+    let mut out = FuseSink::new(MemSink::new(alloc), passes.1, most);
+    let mut err = MemSink::new(alloc);
+    let (status, files) = drive(alloc, &words, files, &mut out, &mut err);
+    Come {
+        status,
+        files_failed: files.failures(),
+        out,
+        err,
+    }
 }
