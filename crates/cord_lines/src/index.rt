@@ -30,12 +30,12 @@ const NEAR: u64 = 512;
 ///
 /// A line ends with the byte 10, which the last one may lack. Blocks have 6,656 bytes at first, so the index takes less
 /// than a thousandth of the text's memory. A look-up passes the sums of 4,096 blocks each, 64 sums of 64 blocks each and
-/// 64 blocks, and reads a part of one block. Near the last edit it reads only what lies between.
+/// 64 blocks, and reads a part of one block: near the place of the last `edited_from` only what lies between.
 #[derive(Drop)]
 pub struct LineIndex {
     blocks: Blocks,
     lacks_end: bool,
-    // The counts of the bytes before the place of the last edit.
+    // The counts of the bytes before the place of the last edit of which the text before was given, or of no bytes.
     mark: Counts,
 }
 
@@ -191,7 +191,8 @@ impl LineIndex {
         self.follow(alloc, after, edit, edit.known_removed(), mark)
     }
 
-    /// As `edited`, but of an edit of the text `before` within one block only what is removed and what is new is counted.
+    /// As `edited`, but of an edit of the text `before` within one block only what is removed and what is new is counted,
+    /// and what is before its place, from which the look-ups of its line begin.
     pub fn edited_from(
         &mut self,
         alloc: Global,
