@@ -1,19 +1,19 @@
 -- Texts that are cut into pieces.
-use Rattle.std.proofs.Common.{◌≡◌, ℕ, suc, zero, ◌+◌, ◌-◌, ◌<◌, ◌≤◌, List, [], ◌∷◌, ◌++◌, length, take, drop, refl, sym, ap, ◌∙◌, arith, append_assoc, subst, min, length-take, Bool}
+use Rattle.std.proofs.Common.{◌≡◌, ℕ, suc, zero, ◌+◌, ◌-◌, ◌<◌, ◌≤◌, List, [], ◌∷◌, ◌++◌, length, take, drop, refl, sym, ap, ◌∙◌, arith, append_assoc, subst, min, length-append, length-take, Bool}
 use Rattle.std.specs.Prelude.{map}
-use Rattle.std.proofs.lemmas.List.{append-nil, take_all, drop-drop, take-append-drop}
+use Rattle.std.proofs.lemmas.List.{append-nil, take_all, drop-drop, take-append-drop, take-append-le, take-take}
 use Rattle.std.proofs.lemmas.List.Sums.{sum_by-take-le}
 use Rattle.std.proofs.Math.Seq.{take-add, take-append_seam, drop-append_seam}
 use Rattle.cord_io.specs.declared.TheConstants.{MAX_LEN}
 use Rattle.cord_node.proofs.Ranges.{take-append_right}
-use Rattle.cord_lines.specs.Lines.{after_ends, lacks_end}
+use Rattle.cord_lines.specs.Lines.{after_ends, lacks_end, IsEditOf}
 use Rattle.cord_lines.specs.Index.{Indexed, AreCountsOf, IsIndexOf}
 use Rattle.cord_lines.proofs.Ends.{past_all}
 use Rattle.cord_lines.specs.declared.counting.Counts.{Counts}
 use Rattle.cord_lines.specs.declared.blocks.Block.{Block}
 use Rattle.cord_lines.specs.Counts.{counts_of, ends_in, plus, AreFew, AreNarrow}
 use Rattle.cord_lines.specs.inner.Blocks.{block_counts, total, without}
-use Rattle.cord_lines.specs.inner.Cuts.{AreBlocksOf, AreModest, AreOfSomeText, shown}
+use Rattle.cord_lines.specs.inner.Cuts.{AreBlocksOf, AreModest, AreOfSomeText, IsModest, shown}
 use Rattle.cord_lines.proofs.Countings.{counts-append, ends-le, chars-le, part_left}
 use Rattle.cord_lines.proofs.Sums.{min_prefix, total-cons}
 
@@ -36,11 +36,41 @@ counted_of (b ∷ bs) x (piece, rest, text, here, more) =
     let left : drop b.bytes x ≡ rest = ap (λ (n : ℕ). drop n x) len ∙ ap (drop (length piece)) text ∙ drop-append_seam piece rest in
     (here ∙ ap counts_of (sym first), subst (λ (y : List ℕ). AreCountsOf (map block_counts bs) y) (sym left) (counted_of bs rest more))
 
-pub cut_from : (bs : List Block) (lacks : Bool) (i : Indexed) (x : List ℕ) → shown bs lacks ≡ i → IsIndexOf i x → AreBlocksOf bs x
-cut_from bs lacks i x seen is = cut_of bs x (subst (λ (j : Indexed). AreCountsOf j.pieces x) (sym seen) is.counted)
+module _ (bs : List Block) (lacks : Bool) (mark : Counts) where
+  pub cut_from : (i : Indexed) (x : List ℕ) → shown bs lacks mark ≡ i → IsIndexOf i x → AreBlocksOf bs x
+  cut_from i x seen is = cut_of bs x (subst (λ (j : Indexed). AreCountsOf j.pieces x) (sym seen) is.counted)
 
-pub index_from : (bs : List Block) (lacks : Bool) (x : List ℕ) → AreBlocksOf bs x → lacks ≡ lacks_end x → IsIndexOf (shown bs lacks) x
-index_from bs lacks x c e = record { counted = counted_of bs x c; end = e }
+  pub marked_from : (i : Indexed) (x : List ℕ) → shown bs lacks mark ≡ i → IsIndexOf i x → mark ≡ counts_of (take mark.bytes x)
+  marked_from i x seen is = subst (λ (j : Indexed). j.mark ≡ counts_of (take j.mark.bytes x)) (sym seen) is.marked
+
+  pub index_from : (x : List ℕ) → AreBlocksOf bs x → lacks ≡ lacks_end x → mark ≡ counts_of (take mark.bytes x) →
+      IsIndexOf (shown bs lacks mark) x
+  index_from x c e m = record { counted = counted_of bs x c; end = e; marked = m }
+
+-- the counts of some first bytes are those of as many as they say
+pub own_mark : (x : List ℕ) (place : ℕ) (c : Counts) → c ≡ counts_of (take place x) → c ≡ counts_of (take c.bytes x)
+own_mark x place c is =
+    let len : c.bytes ≡ length (take place x) = ap (λ (a : Counts). a.bytes) is in
+    is ∙ ap counts_of (sym (min_prefix x place c.bytes (omega (arith, len, length-take place x))))
+
+-- a mark, and some bytes more
+pub mark_more : (x : List ℕ) (mark : Counts) (end place : ℕ) → mark ≡ counts_of (take mark.bytes x) → mark.bytes ≤ end →
+    end ≡ min (length x) place → plus mark (counts_of (take (end - mark.bytes) (drop mark.bytes x))) ≡ counts_of (take place x)
+mark_more x mark end place is le min-is =
+    let whole : end ≡ mark.bytes + (end - mark.bytes) = omega (arith, le) in
+    let piece = take (end - mark.bytes) (drop mark.bytes x) in
+    ap (λ (a : Counts). plus a (counts_of piece)) is ∙ sym (counts-append (take mark.bytes x) piece)
+    ∙ ap counts_of (sym (ap (λ (n : ℕ). take n x) whole ∙ take-add mark.bytes (end - mark.bytes) x) ∙ min_prefix x place end min-is)
+
+-- an edit leaves a mark before it
+pub kept_mark : (before after : List ℕ) (start removed inserted : ℕ) (mark : Counts) → IsEditOf before after start removed inserted →
+    mark ≡ counts_of (take mark.bytes before) → mark.bytes ≤ start → mark ≡ counts_of (take mark.bytes after)
+kept_mark before after start removed inserted mark e is le =
+    let prefix = take start before in
+    let inside : mark.bytes ≤ length prefix = omega (arith, le, e.inside, length-take start before) in
+    let further : mark.bytes ≤ length (prefix ++ e.fresh) = omega (arith, inside, length-append prefix e.fresh) in
+    is ∙ ap counts_of (sym (ap (take mark.bytes) e.text ∙ take-append-le mark.bytes (prefix ++ e.fresh) (drop (start + removed) before) further
+    ∙ take-append-le mark.bytes prefix e.fresh inside ∙ take-take mark.bytes start before le))
 
 -- a text in two, between two blocks
 pub record Split (i : ℕ) (bs : List Block) (x : List ℕ) : Type 0 where
@@ -105,6 +135,16 @@ range_more x from place end le le2 =
 
 pub short : (n : ℕ) (x : List ℕ) → length (take n x) ≤ n
 short n x = omega (arith, length-take n x)
+
+-- a mark, and some bytes more, fit
+pub few_marked : (mark : Counts) (n : ℕ) (x : List ℕ) → IsModest mark → n ≤ MAX_LEN → AreFew (plus mark (counts_of (take n x)))
+few_marked mark n x m le =
+    let here = short n x in
+    record {
+      bytes = omega (arith, m.bytes, le, here);
+      ends = omega (arith, m.ends, le, here, ends-le (take n x));
+      chars = omega (arith, m.chars, le, here, chars-le (take n x));
+    }
 
 pub narrow : (x : List ℕ) → length x < 65536 → AreNarrow (counts_of x)
 narrow x lt = record { bytes = lt; ends = omega (arith, lt, ends-le x); chars = omega (arith, lt, chars-le x) }

@@ -1,10 +1,12 @@
 -- Lines begin after the ends of those before them.
 use Rattle.std.proofs.Common.{◌≡◌, ℕ, suc, zero, ◌+◌, ◌-◌, ◌<◌, ◌≤◌, Bool, true, false, cond, Some, None, List, [], ◌∷◌, ◌++◌, length, length-append, length-drop, get_or, take, drop, refl, sym, ap, ◌∙◌, arith, min, map, subst, true≢false}
-use Rattle.std.specs.Prelude.{◌||◌, if◌then◌else◌, not, slice_get, option_map}
+use Rattle.std.specs.Prelude.{◌||◌, if◌then◌else◌, not, slice_get, option_map, Option}
 use Rattle.std.proofs.lemmas.List.{drop_all, drop-map, length-map, take-append-drop}
 use Rattle.std.proofs.lemmas.Option.{slice_get_past, slice_get-get_or, slice_get-map}
 use Rattle.std.proofs.Math.Seq.{drop-append_seam}
+use Rattle.cord_core.specs.Texts.{here_or, last}
 use Rattle.cord.specs.Lines.{lines, led_by, bare, bare_lines, lines_as}
+use Rattle.cord.specs.Places.{last_before}
 use Rattle.cord_lines.specs.Counts.{is_end, ends_in}
 use Rattle.cord_lines.specs.Lines.{after_ends, lacks_end, is_inside_line, IsEditOf}
 use Rattle.cord_lines.proofs.Ends.{ends-cons, none_passed, one_more}
@@ -229,3 +231,64 @@ pub begins_before : (place : ℕ) (x : List ℕ) → after_ends (ends_in (take p
 begins_before zero x = omega (arith, none_passed x)
 begins_before (suc place) [] = omega arith
 begins_before (suc place) (b ∷ x) = omega (arith, begins_step place b x (is_end b) refl (begins_before place x))
+
+-- ---- the line that a place is in begins after the last end before it
+no_byte : (n b : ℕ) → slice_get [] n ≡ Some b → ⊥
+no_byte n b at = let none : None ≡ Some b = sym (slice_get_past {X = ℕ} [] n (omega arith)) ∙ at in cc
+
+-- a byte more
+ends_next : (n : ℕ) (x : List ℕ) (b : ℕ) → slice_get x n ≡ Some b → ends_in (take (suc n) x) ≡ ends_in (take n x) + cond (is_end b) 1 0
+ends_next n [] b at = absurd (no_byte n b at)
+ends_next zero (a ∷ x) b at =
+    let same : a ≡ b = cc in
+    omega (arith, ends-cons a [] (is_end a) refl, ap (λ (c : ℕ). unit (is_end c)) same)
+ends_next (suc n) (a ∷ x) b at =
+    omega (arith, ends-cons a (take (suc n) x) (is_end a) refl, ends-cons a (take n x) (is_end a) refl, ends_next n x b at)
+
+-- an end more, after which the next line begins
+begins_more : (a n k : ℕ) (x : List ℕ) (is : Bool) → is_end a ≡ is → 0 < k → after_ends k x ≡ suc n → after_ends (cond is 1 0 + k) (a ∷ x) ≡ suc (suc n)
+begins_more a n k x true h some past =
+    one_more (1 + k) x a true h (omega arith) ∙ ap (λ (m : ℕ). 1 + after_ends m x) (let e : 1 + k - 1 ≡ k = omega arith in e)
+    ∙ ap (λ (m : ℕ). 1 + m) past ∙ omega arith
+begins_more a n k x false h some past =
+    one_more (0 + k) x a false h (omega (arith, some)) ∙ ap (λ (m : ℕ). 1 + after_ends m x) (let e : 0 + k ≡ k = omega arith in e)
+    ∙ ap (λ (m : ℕ). 1 + m) past ∙ omega arith
+
+begins_after : (n : ℕ) (x : List ℕ) (b : ℕ) → slice_get x n ≡ Some b → is_end b ≡ true → after_ends (ends_in (take (suc n) x)) x ≡ suc n
+begins_after n [] b at h = absurd (no_byte n b at)
+begins_after zero (a ∷ x) b at h =
+    let same : a ≡ b = cc in
+    let end : is_end a ≡ true = ap is_end same ∙ h in
+    let one : ends_in (a ∷ []) ≡ 1 = omega (arith, ends-cons a [] true end) in
+    ap (λ (n : ℕ). after_ends n (a ∷ x)) one ∙ one_more 1 x a true end (omega arith) ∙ ap (λ (n : ℕ). 1 + n) (none_passed x)
+begins_after (suc n) (a ∷ x) b at h =
+    let k = ends_in (take (suc n) x) in
+    let some : 0 < k = omega (arith, ends_next n x b at, ap unit h) in
+    ap (λ (m : ℕ). after_ends m (a ∷ x)) (ends-cons a (take (suc n) x) (is_end a) refl)
+    ∙ begins_more a n k x (is_end a) refl some (begins_after n x b at h)
+
+abbrev pub begin_of : Option ℕ → ℕ
+begin_of None = 0
+begin_of (Some place) = place + 1
+
+last_step : (n : ℕ) (x : List ℕ) (b : ℕ) (is : Bool) (others : Option ℕ) → slice_get x n ≡ Some b → is_end b ≡ is →
+    after_ends (ends_in (take n x)) x ≡ begin_of others → after_ends (ends_in (take (suc n) x)) x ≡ begin_of (if is then Some n else others)
+last_step n x b true others at h before = begins_after n x b at h ∙ omega arith
+last_step n x b false others at h before =
+    let same : ends_in (take (suc n) x) ≡ ends_in (take n x) = omega (arith, ends_next n x b at, ap unit h) in
+    ap (λ (k : ℕ). after_ends k x) same ∙ before
+
+last_byte : (n : ℕ) (x : List ℕ) (others : Option ℕ) → n < length x → after_ends (ends_in (take n x)) x ≡ begin_of others →
+    after_ends (ends_in (take (suc n) x)) x ≡ begin_of (here_or n (slice_get x n) 10 others)
+last_byte n x others lt before =
+    let b = get_or x n 0 in
+    let at : slice_get x n ≡ Some b = slice_get-get_or x n 0 lt in
+    last_step n x b (is_end b) others at refl before ∙ ap (λ (o : Option ℕ). begin_of (here_or n o 10 others)) (sym at)
+
+last_to : (n : ℕ) (x : List ℕ) → n < length x → after_ends (ends_in (take (suc n) x)) x ≡ begin_of (last x n 10)
+last_to zero x lt = last_byte zero x None lt (none_passed x)
+last_to (suc n) x lt = last_byte (suc n) x (last x n 10) lt (last_to n x (omega (arith, lt)))
+
+pub last_begins : (place : ℕ) (x : List ℕ) → place ≤ length x → after_ends (ends_in (take place x)) x ≡ begin_of (last_before x place 10)
+last_begins zero x le = none_passed x
+last_begins (suc n) x le = last_to n x (omega (arith, le))

@@ -19,6 +19,10 @@ ends_in x = count_by is_end x
 abbrev pub chars_in : List ℕ → ℕ
 chars_in x = count_by begins_char x
 
+-- the counts of no bytes
+abbrev pub no_counts : Counts
+no_counts = record { bytes = 0; ends = 0; chars = 0 }
+
 -- all three
 abbrev pub counts_of : List ℕ → Counts
 counts_of x = record { bytes = length x; ends = ends_in x; chars = chars_in x }

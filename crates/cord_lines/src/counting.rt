@@ -1,10 +1,11 @@
 // What is counted in some bytes.
-ghost use Rattle.std.specs.Prelude.{◌≡◌, ◌↔◌, ◌+◌, ◌<◌, ◌≤◌, ◌^◌, IsTrue, length, true, if◌then◌else◌, ◌||◌, nat_lt, nat_le};
+ghost use Rattle.std.specs.Prelude.{◌≡◌, ◌↔◌, ◌+◌, ◌<◌, ◌≤◌, ◌^◌, ℕ, List, IsTrue, length, take, true, if◌then◌else◌, ◌||◌, nat_lt, nat_le};
 ghost use Rattle.cord.specs.Chunks.{chunk_bytes};
 ghost use Rattle.cord_lines.specs.Counts.{begins_char, chars_in, counts_of, ends_in, plus, AreFew};
 ghost use Rattle.cord_lines.specs.inner.Blocks.{exchanged, without, AreWithin};
+ghost use Rattle.cord_lines.specs.inner.Cuts.{IsModest};
 
-use cord::Chunk;
+use cord::{Chunk, MAX_LEN};
 
 /// How many bytes, ends of lines and first bytes of characters some bytes have.
 #[derive(Clone, Copy)]
@@ -53,6 +54,27 @@ impl Counts {
         ensures { IsTrue result ↔ AreWithin self all }
     {
         self.bytes <= all.bytes && self.ends <= all.ends && self.chars <= all.chars
+    }
+
+    /// Whether they are of no more bytes than a text can have.
+    pub(crate) fn are_modest(self) -> bool
+        ensures { IsTrue result ↔ IsModest self }
+    {
+        self.bytes <= MAX_LEN && self.ends <= MAX_LEN && self.chars <= MAX_LEN
+    }
+
+    /// These counts, where they are of no more than `most` bytes: else those of no bytes.
+    pub(crate) fn up_to(self, most: u64) -> Counts
+        requires { IsModest self }
+        ensures modest { IsModest result }
+        ensures from { result.bytes ≤ most }
+        ensures marked { (x : List ℕ) → self ≡ counts_of (take self.bytes x) → result ≡ counts_of (take result.bytes x) }
+    {
+        if self.bytes <= most {
+            self
+        } else {
+            Counts::NONE
+        }
     }
 
     /// These counts with others in the place of a part of them.

@@ -6,13 +6,13 @@ ghost use Rattle.cord_lines.specs.Counts.{chars_in, counts_of, ends_in};
 ghost use Rattle.cord_lines.specs.Lines.{after_ends, is_inside_line, lacks_end, IsEditOf};
 ghost use Rattle.cord_lines.specs.Index.{FollowsEdit, IsIndexOf, of_no_bytes};
 ghost use Rattle.cord_lines.specs.inner.Blocks.{total};
-ghost use Rattle.cord_lines.specs.inner.Cuts.{AreBlocksOf, AreModest};
+ghost use Rattle.cord_lines.specs.inner.Cuts.{AreBlocksOf, AreModest, IsModest};
 ghost use Rattle.cord_lines.specs.inner.Edits.{AreRemoved};
 
 use crate::blocks::{Blocks, Found, Measure};
 use crate::counting::Counts;
 use crate::cutting::{BLOCK, cut};
-use crate::reading::{count_range, end_from};
+use crate::reading::{after_last_end, count_range, end_from};
 use crate::renewing::{Edit, renew};
 use cord::Text;
 use std::alloc::{AllocError, Global};
@@ -21,28 +21,33 @@ use std::marker::Model;
 /// How far before the place where the end of a line is guessed the search begins.
 const MARGIN: u64 = 256;
 
+/// A place is near the last edit where at most so many bytes lie between them.
+const NEAR: u64 = 512;
+
 /// How many lines end, and how many characters begin, in each block of a text, so that a line is found by its number
 /// and by a place in it without a walk through the text. It belongs to one text and doesn't keep it: each call is given
 /// that text once more, and of another text its answers mean nothing.
 ///
 /// A line ends with the byte 10, which the last one may lack. Blocks have 6,656 bytes at first, so the index takes less
 /// than a thousandth of the text's memory. A look-up passes the sums of 4,096 blocks each, 64 sums of 64 blocks each and
-/// 64 blocks, and reads a part of one block.
+/// 64 blocks, and reads a part of one block: near the place of the last `edited_from` only what lies between.
 #[derive(Drop)]
 pub struct LineIndex {
     blocks: Blocks,
     lacks_end: bool,
+    // The counts of the bytes before the place of the last edit of which the text before was given, or of no bytes.
+    mark: Counts,
 }
 
 impl Model for LineIndex {
     ghost use Rattle.cord_lines.specs.Index.{Indexed};
-    ghost use Rattle.cord_lines.specs.inner.Cuts.{AreOfSomeText, shown};
+    ghost use Rattle.cord_lines.specs.inner.Cuts.{AreOfSomeText, IsModest, shown};
 
     ghost Value = { Indexed };
 
-    ghost view = { λ i. shown i.blocks i.lacks_end };
+    ghost view = { λ i. shown i.blocks i.lacks_end i.mark };
 
-    ghost invariant = { λ i. AreOfSomeText i.blocks };
+    ghost invariant = { λ i. AreOfSomeText i.blocks × IsModest i.mark };
 }
 
 impl LineIndex {
@@ -53,6 +58,7 @@ impl LineIndex {
         LineIndex {
             blocks: Blocks::none(alloc),
             lacks_end: false,
+            mark: Counts::NONE,
         }
     }
 
@@ -65,6 +71,7 @@ impl LineIndex {
         Ok(LineIndex {
             blocks,
             lacks_end: lacks_end_of(text),
+            mark: Counts::NONE,
         })
     }
 
@@ -82,6 +89,9 @@ impl LineIndex {
     {
         if n == 0 {
             return 0;
+        }
+        if n == self.mark.ends && self.mark.bytes <= text.len() && self.has_end_near() {
+            return after_last_end(text, self.mark.bytes);
         }
         let before = before_line(&self.blocks, text, n);
         let from = before.bytes.min(text.len());
@@ -177,10 +187,12 @@ impl LineIndex {
             removed,
             inserted,
         };
-        self.follow(alloc, after, edit, edit.known_removed())
+        let mark = self.mark.up_to(start);
+        self.follow(alloc, after, edit, edit.known_removed(), mark)
     }
 
-    /// As `edited`, but of an edit of the text `before` within one block only what is removed and what is new is counted.
+    /// As `edited`, but of an edit of the text `before` within one block only what is removed and what is new is counted,
+    /// and what is before its place, from which the look-ups of its line begin.
     pub fn edited_from(
         &mut self,
         alloc: Global,
@@ -199,18 +211,24 @@ impl LineIndex {
             removed,
             inserted,
         };
-        self.follow(alloc, after, edit, edit.removed_from(before))
+        let mark = mark_at(&self.blocks, self.mark, before, start);
+        self.follow(alloc, after, edit, edit.removed_from(before), mark)
     }
 
-    // Makes it the index of the text after an edit, of which the counts of what was removed may be known.
+    // Makes it the index of the text after an edit, of which the counts of what was removed may be known, and of some of
+    // what is before its place are.
     fn follow(
         &mut self,
         alloc: Global,
         after: &Text,
         edit: Edit,
         removed: Option<Counts>,
+        mark: Counts,
     ) -> Result<(), AllocError>
+        requires modest { IsModest mark }
+        requires from { mark.bytes ≤ edit.start }
         ensures index { OnOk result ((before : List ℕ) → IsIndexOf self.old before → AreRemoved removed edit before →
+            mark ≡ counts_of (take mark.bytes before) →
             IsEditOf before after.now edit.start edit.removed edit.inserted → IsIndexOf self.new after.now) }
         ensures unchanged { IsErr result → self.new ≡ self.old }
     {
@@ -220,20 +238,56 @@ impl LineIndex {
             return Ok(());
         }
         renew(&mut self.blocks, alloc, after, edit, removed)?;
-        if edit.start + edit.removed == len {
-            self.lacks_end = lacks_end_of(after);
-        }
+        self.lacks_end = lacks_end_after(edit, len, self.lacks_end, after);
+        self.mark = mark;
         Ok(())
+    }
+
+    // Whether a line ends before the place of the last edit in the block of that place, so that the way back is short.
+    fn has_end_near(&self) -> bool {
+        let found = self.blocks.find(Measure::Bytes, self.mark.bytes);
+        found.before.ends < self.mark.ends
     }
 
     // The counts of the bytes before a place.
     fn counts_before(&self, text: &Text, place: u64) -> Counts
         ensures { IsIndexOf self.now text.now → result ≡ counts_of (take place text.now) }
     {
-        let end = place.min(text.len());
-        let found = self.blocks.find(Measure::Bytes, end);
-        counts_within(&self.blocks, text, found, end)
+        counts_from(&self.blocks, self.mark, text, place)
     }
+}
+
+// The counts of the bytes before a place, counted from the last mark or in a block: of no bytes where a text can't have
+// so many.
+fn mark_at(blocks: &Blocks, last: Counts, text: &Text, place: u64) -> Counts
+    requires modest { AreModest blocks.now }
+    requires last { IsModest last }
+    ensures modest { IsModest result }
+    ensures from { result.bytes ≤ place }
+    ensures marked { AreBlocksOf blocks.now text.now → last ≡ counts_of (take last.bytes text.now) →
+        result ≡ counts_of (take result.bytes text.now) }
+{
+    let counts = counts_from(blocks, last, text, place);
+    if counts.are_modest() {
+        counts.up_to(place)
+    } else {
+        Counts::NONE
+    }
+}
+
+// The counts of the bytes before a place, counted from a mark, where that is near, and else in a block.
+fn counts_from(blocks: &Blocks, mark: Counts, text: &Text, place: u64) -> Counts
+    requires modest { AreModest blocks.now }
+    requires mark { IsModest mark }
+    ensures { AreBlocksOf blocks.now text.now → mark ≡ counts_of (take mark.bytes text.now) →
+        result ≡ counts_of (take place text.now) }
+{
+    let end = place.min(text.len());
+    if mark.bytes <= end && end - mark.bytes <= NEAR {
+        return mark.plus(count_range(text, mark.bytes, end));
+    }
+    let found = blocks.find(Measure::Bytes, end);
+    counts_within(blocks, text, found, end)
 }
 
 // The counts of the bytes before a place of a block, counted from the nearer end of the block.
@@ -287,6 +341,19 @@ fn offset_of(block: Counts, passed: u64) -> u64 {
         (block.bytes.saturating_mul(passed) / block.ends).saturating_sub(MARGIN)
     } else {
         0
+    }
+}
+
+// Whether the last line lacks its end after an edit of a text of this length, where it is known of that.
+fn lacks_end_after(edit: Edit, len: u64, known: bool, after: &Text) -> bool
+    requires { edit.start + edit.removed ≤ len }
+    ensures { (before : List ℕ) → length before ≡ len → known ≡ lacks_end before →
+        IsEditOf before after.now edit.start edit.removed edit.inserted → result ≡ lacks_end after.now }
+{
+    if edit.start + edit.removed == len {
+        lacks_end_of(after)
+    } else {
+        known
     }
 }
 

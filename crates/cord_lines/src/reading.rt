@@ -1,7 +1,7 @@
 // A text from a place on.
 ghost use Rattle.std.specs.Prelude.{◌≡◌, ◌+◌, ◌-◌, ◌<◌, ◌≤◌, ◌^◌, length, take, drop};
 ghost use Rattle.cord.specs.Chunks.{chunk_bytes};
-ghost use Rattle.cord_lines.specs.Counts.{counts_of};
+ghost use Rattle.cord_lines.specs.Counts.{counts_of, ends_in};
 ghost use Rattle.cord_lines.specs.Lines.{after_ends};
 ghost use Rattle.cord_lines.specs.inner.Reading.{GivesPrefix, IsSearch};
 
@@ -77,6 +77,17 @@ pub(crate) fn end_from(text: &Text, from: u64, n: u64) -> u64
         place += chunk.len();
     }
     place
+}
+
+/// The place after the last end of a line before a place of a text: 0 where there is none.
+pub(crate) fn after_last_end(text: &Text, place: u64) -> u64
+    requires { place ≤ length text.now }
+    ensures { result ≡ after_ends (ends_in (take place text.now)) text.now }
+{
+    match text.rfind_byte(b'\n', place) {
+        Some(end) => end + 1,
+        None => 0,
+    }
 }
 
 // Looks for the `n`th end of a line in a chunk.

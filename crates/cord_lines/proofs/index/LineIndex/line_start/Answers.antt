@@ -8,12 +8,12 @@ pub returns-then-n-eq0 : goal.returns-then-n-eq0
 returns-then-n-eq0 c = λ is. sym (ap (λ (n : ℕ). after_ends n c.args.text.now) c.if-n-eq0.true ∙ none_passed c.args.text.now)
 
 pub before_line-before-requires-clause-modest : goal.before_line-before-requires-clause-modest
-before_line-before-requires-clause-modest c = modest_by c.self.inside.blocks c.self.invariant
+before_line-before-requires-clause-modest c = modest_by c.self.inside.blocks c.self.invariant.0
 
 pub returns : goal.returns
 returns c = λ is.
-    let from : c.min-from.result ≡ min c.before_line-before.result.bytes (length c.args.text.now) = omega (arith, c.min-from.ensures, c.len.ensures.value) in
+    let from : c.min-from.result ≡ min c.before_line-before.result.bytes (length c.args.text.now) = omega (arith, c.min-from.ensures, c.len-2.ensures.value) in
     c.end_from.ensures
     ∙ past_counts c.args.text.now c.before_line-before.result c.min-from.result c.args.n
-    (c.before_line-before.ensures.counts (cut_from c.self.inside.blocks c.self.inside.lacks_end c.args.self.now c.args.text.now c.self.view_is is))
+    (c.before_line-before.ensures.counts (cut_from c.self.inside.blocks c.self.inside.lacks_end c.self.inside.mark c.args.self.now c.args.text.now c.self.view_is is))
     from c.before_line-before.ensures.few

@@ -18,10 +18,10 @@ unit_le false = omega arith
 pub overflow_add-result : goal.overflow_add-result
 overflow_add-result c =
     let ends = ap (λ (a : Counts). a.ends) c.counts.ensures in
-    omega (arith, ends, (modest_by c.self.inside.blocks c.self.invariant).ends, c.from.ensures ∙ byte_is c.self.inside.lacks_end, unit_le c.self.inside.lacks_end)
+    omega (arith, ends, (modest_by c.self.inside.blocks c.self.invariant.0).ends, c.from.ensures ∙ byte_is c.self.inside.lacks_end, unit_le c.self.inside.lacks_end)
 
 pub returns : goal.returns
 returns c = λ x is.
-    let ends : c.counts.result.ends ≡ ends_in x = ap (λ (a : Counts). a.ends) (c.counts.ensures ∙ total_is c.self.inside.blocks x (cut_from c.self.inside.blocks c.self.inside.lacks_end c.args.self.now x c.self.view_is is)) in
+    let ends : c.counts.result.ends ≡ ends_in x = ap (λ (a : Counts). a.ends) (c.counts.ensures ∙ total_is c.self.inside.blocks x (cut_from c.self.inside.blocks c.self.inside.lacks_end c.self.inside.mark c.args.self.now x c.self.view_is is)) in
     let last = c.from.ensures ∙ byte_is c.self.inside.lacks_end ∙ ap (λ (i : Indexed). cond i.lacks_end 1 0) c.self.view_is ∙ ap (λ (b : Bool). cond b 1 0) is.end in
     ap (λ (n : ℕ). n + c.from.result) ends ∙ ap (λ (n : ℕ). ends_in x + n) last ∙ sym (line_count x)
