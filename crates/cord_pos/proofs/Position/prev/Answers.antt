@@ -1,6 +1,9 @@
-use Rattle.std.proofs.Common.{◌-◌, arith}
+use Rattle.std.proofs.Common.{◌-◌, arith, rules}
 use Rattle.cord_pos.proofs.Standings.{position_cord, prev_still, prev_still_visits, move_bound, move_one_part}
 use Rattle.cord_pos.proofs.Position.prev.Goals as goal
+
+pub returns-in_default : goal.returns-in_default
+returns-in_default c = search rules
 
 pub invariant_of-self : goal.invariant_of-self
 invariant_of-self c =

@@ -1,4 +1,4 @@
-use Rattle.std.proofs.Common.{arith}
+use Rattle.std.proofs.Common.{arith, rules}
 use Rattle.cord_pos.proofs.Standings.{set_bound, set_limit}
 use Rattle.cord_pos.proofs.Position.set.Goals as goal
 
@@ -19,3 +19,6 @@ pub returns-clause-limit : goal.returns-clause-limit
 returns-clause-limit c =
     let visits = rw c.new-tree.ensures.cord at c.enter-part.ensures.visits in
     omega (arith, visits, set_limit c.args.cord.now c.args.index c.new-tree.ensures.sound)
+
+pub returns-clause-index : goal.returns-clause-index
+returns-clause-index c = search rules

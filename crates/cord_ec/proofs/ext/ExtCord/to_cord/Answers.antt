@@ -1,4 +1,4 @@
-use Rattle.std.proofs.Common.{◌≡◌, ◌++◌, ◌∙◌, List, ap, refl, subst, sym}
+use Rattle.std.proofs.Common.{◌≡◌, ◌++◌, ◌∙◌, List, ap, refl, subst, sym, rules}
 use Rattle.std.specs.Prelude.{Option}
 use Rattle.cord_node.specs.declared.Node.{Node}
 use Rattle.cord_node.specs.PartsFrom.{Part, PartsFrom}
@@ -32,3 +32,6 @@ returns-in_err-flush-clause-stays c =
     (PartsFrom_same before (parts_of c.flush.new.cord ++ leaf_parts c.flush.new.buffer)
     (ap (λ (ps : List Part). ps ++ leaf_parts c.flush.new.buffer) cord
     ∙ ap (λ (ps : List Part). parts_of c.self.inside.cord ++ ps) buffer))
+
+pub returns-clause-same : goal.returns-clause-same
+returns-clause-same c = search rules
