@@ -1,10 +1,9 @@
 -- The members of a `cat`: how their text grows, and that each is smaller than all of them.
 use Rattle.std.proofs.Common.{◌≡◌, ◌<◌, ℕ, zero, suc, ◌+◌, List, [], ◌∷◌, ◌++◌, length, map, get_or, refl, sym, ap, ◌∙◌, subst}
 use Rattle.std.proofs.Common.{append_assoc, arith}
-use Rattle.std.specs.Prelude.{if◌then◌else◌}
 use Rattle.cord_plan.specs.Exprs as plain
 use Rattle.cord_plan.specs.PlanText.{expr, exprs, more_exprs}
-use Rattle.cord_plan.specs.inner.Exprs.{is_nothing}
+use Rattle.cord_plan.specs.inner.Fragments.{blank_after, exprs_after}
 use Rattle.cord_plan.specs.Views.{Shared, members_of, shared_view}
 use Rattle.cord_plan.proofs.Spacing.{AreSpaced}
 
@@ -26,9 +25,9 @@ member_below [] i d h = absurd (omega (arith, h))
 member_below (m ∷ ms) zero d h = omega arith
 member_below (m ∷ ms) (suc i) d h = let below = member_below ms i d (omega (arith, h)) in omega (arith, below)
 
--- the text of members
-abbrev pub members_text : List Shared → List ℕ
-members_text ms = exprs (members_of (map shared_view ms))
+-- the text of members, where this stands before the first one
+abbrev pub members_text : List ℕ → List Shared → List ℕ
+members_text first ms = exprs_after first (members_of (map shared_view ms))
 
 -- each after a blank
 abbrev pub more_text : List Shared → List ℕ
@@ -39,18 +38,26 @@ more_append plain.nothing b = refl
 more_append (plain.member e a) b = ap (λ (text : List ℕ). 32 ∷ expr e ++ text) (more_append a b)
     ∙ sym (append_assoc (32 ∷ expr e) (more_exprs a) (more_exprs b))
 
--- the text of members after others
-pub exprs_append : (a b : plain.Exprs) → exprs (plain.append a b) ≡ exprs a ++ (if is_nothing a then exprs b else more_exprs b)
-exprs_append plain.nothing b = refl
+-- the text of members after nothing, and after others
+pub exprs_alone : (es : plain.Exprs) → exprs_after [] es ≡ exprs es
+exprs_alone plain.nothing = refl
+exprs_alone (plain.member e es) = refl
+
+exprs_blank : (es : plain.Exprs) → exprs_after (32 ∷ []) es ≡ more_exprs es
+exprs_blank plain.nothing = refl
+exprs_blank (plain.member e es) = refl
+
+pub exprs_append : (a b : plain.Exprs) → exprs (plain.append a b) ≡ exprs a ++ exprs_after (blank_after a) b
+exprs_append plain.nothing b = sym (exprs_alone b)
 exprs_append (plain.member e a) b = ap (λ (text : List ℕ). expr e ++ text) (more_append a b)
-    ∙ sym (append_assoc (expr e) (more_exprs a) (more_exprs b))
+    ∙ (sym (append_assoc (expr e) (more_exprs a) (more_exprs b)) ∙ ap (λ (text : List ℕ). (expr e ++ more_exprs a) ++ text) (sym (exprs_blank b)))
 
 -- one of them
 abbrev pub member_text : Shared → List ℕ
 member_text m = expr (shared_view m)
 
-pub members_spaced : AreSpaced members_text more_text member_text
-members_spaced = record { nil = refl; cons = λ m ms. refl; suffix = record { nil = refl; cons = λ m ms. refl } }
+pub members_spaced : (first : List ℕ) → AreSpaced first (members_text first) more_text member_text
+members_spaced first = record { nil = refl; cons = λ m ms. refl; suffix = record { nil = refl; cons = λ m ms. refl } }
 
 -- the member at hand on a walk over all of them
 pub member_there : (ms : List Shared) (i : ℕ) (m : Shared) → i < length ms → m ≡ get_or ms i m →

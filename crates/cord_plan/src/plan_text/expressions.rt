@@ -1,12 +1,14 @@
 // The text of expressions.
-ghost use Rattle.std.specs.Prelude.{map};
+ghost use Rattle.std.specs.Prelude.{◌≡◌, [], ◌∷◌, ◌++◌, map};
 ghost use Rattle.cord_iter.specs.Output.{Writes};
-ghost use Rattle.cord_plan.specs.PlanText.{expr, exprs, more_exprs};
+ghost use Rattle.cord_plan.specs.PlanText.{expr, exprs, number};
+ghost use Rattle.cord_plan.specs.inner.Fragments.{blank_after, exprs_after};
 ghost use Rattle.cord_plan.specs.Views.{expr_view, members_of, members_view, shared_view};
 
 use super::fragments::{Fragment, put_fragments, put_text};
 use crate::{Expr, Members};
 use cord_io::{Sink, WriteFault};
+use cord_script::Number;
 use std::rc::Rc;
 
 // Hands a sink the text of an expression.
@@ -16,16 +18,7 @@ pub(crate) fn put_expression<W: Sink>(expression: &Expr, sink: &mut W) -> Result
 {
     match expression {
         Expr::Name(name) => put_text(name.as_slice(), sink),
-        Expr::Run { byte, count } => {
-            let numbers = [
-                Fragment::Plain(b"run("),
-                Fragment::Number(byte),
-                Fragment::Plain(b" "),
-                Fragment::Number(count),
-                Fragment::Plain(b")"),
-            ];
-            put_fragments(&numbers, sink)
-        }
+        Expr::Run { byte, count } => put_numbers(b"run(", byte, count, sink),
         Expr::Cat(members) => {
             put_text(b"cat(", sink)?;
             put_members(members, sink)?;
@@ -38,16 +31,38 @@ pub(crate) fn put_expression<W: Sink>(expression: &Expr, sink: &mut W) -> Result
         } => {
             put_text(b"sub(", sink)?;
             put_expression(expression.as_ref(), sink)?;
-            let numbers = [
-                Fragment::Plain(b" "),
-                Fragment::Number(start),
-                Fragment::Plain(b" "),
-                Fragment::Number(count),
-                Fragment::Plain(b")"),
-            ];
-            put_fragments(&numbers, sink)
+            put_numbers(b" ", start, count, sink)
         }
     }
+}
+
+// Two numbers between this and a bracket.
+fn put_numbers<'a, W: Sink>(
+    opened: &'a [u8],
+    first: &'a Number,
+    second: &'a Number,
+    sink: &mut W,
+) -> Result<(), WriteFault>
+    ensures { Writes ⟦<W as Sink>⟧ (opened.now ++ (number first.now ++ 32 ∷ (number second.now ++ 41 ∷ []))) sink.old
+        sink.new result }
+{
+    put_fragments(
+        &[
+            Fragment::Plain(opened),
+            Fragment::Number(first),
+            Fragment::Plain(b" "),
+            Fragment::Number(second),
+            Fragment::Plain(b")"),
+        ],
+        sink,
+    )
+}
+
+// What stands before the members that follow these.
+fn blank_after(members: &Members) -> &'static [u8]
+    ensures { result.now ≡ blank_after (members_view members.now) }
+{
+    if members.is_nothing() { b"" } else { b" " }
 }
 
 // The members of a `cat`, separated by one blank.
@@ -57,40 +72,25 @@ fn put_members<W: Sink>(members: &Members, sink: &mut W) -> Result<(), WriteFaul
 {
     let (prefix, rest) = members.halves();
     match prefix {
-        None => put_listed(rest, sink),
+        None => put_listed(b"", rest, sink),
         Some(prefix) => {
             put_members(prefix, sink)?;
-            if prefix.is_nothing() {
-                put_listed(rest, sink)
-            } else {
-                put_more(rest, sink)
-            }
+            put_listed(blank_after(prefix), rest, sink)
         }
     }
 }
 
-// The same of these members.
+// These members, separated by one blank; the first one stands after this.
 #[cycle(printed_expressions)]
-fn put_listed<W: Sink>(members: &[Rc<Expr>], sink: &mut W) -> Result<(), WriteFault>
-    ensures { Writes ⟦<W as Sink>⟧ (exprs (members_of (map shared_view members.now))) sink.old sink.new result }
+fn put_listed<W: Sink>(first: &[u8], members: &[Rc<Expr>], sink: &mut W) -> Result<(), WriteFault>
+    ensures { Writes ⟦<W as Sink>⟧ (exprs_after first.now (members_of (map shared_view members.now))) sink.old sink.new
+        result }
 {
-    let mut blank: &[u8] = b"";
+    let mut blank = first;
     for member in members {
         put_text(blank, sink)?;
         put_expression(member.as_ref(), sink)?;
         blank = b" ";
-    }
-    Ok(())
-}
-
-// Each of these members after a blank.
-#[cycle(printed_expressions)]
-fn put_more<W: Sink>(members: &[Rc<Expr>], sink: &mut W) -> Result<(), WriteFault>
-    ensures { Writes ⟦<W as Sink>⟧ (more_exprs (members_of (map shared_view members.now))) sink.old sink.new result }
-{
-    for member in members {
-        put_text(b" ", sink)?;
-        put_expression(member.as_ref(), sink)?;
     }
     Ok(())
 }

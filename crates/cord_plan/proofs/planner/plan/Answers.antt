@@ -1,10 +1,11 @@
-use Rattle.std.proofs.Common.{List, sym, subst}
+use Rattle.std.proofs.Common.{List, map, sym, ap, ◌∙◌, subst}
 use Rattle.std.specs.Prelude.{All}
 use Rattle.cord_syntax.specs.declared.statements.Statement.{Statement}
 use Rattle.cord_plan.specs.Verbatim.{KeepsNoOther}
 use Rattle.cord_plan.specs.inner.Extensions.{AreExtending}
 use Rattle.cord_plan.specs.inner.Liveness.{reports}
-use Rattle.cord_plan.specs.Planned.{Operation}
+use Rattle.cord_plan.specs.Planned.{Operation, planned}
+use Rattle.cord_plan.specs.Views.{operation_view}
 use Rattle.cord_plan.specs.Liveness.{IsLater}
 use Rattle.cord_plan.proofs.Extending.{all_extending}
 use Rattle.cord_plan.proofs.MeaningKept.{planned_keeps}
@@ -18,6 +19,14 @@ returns-clause-means c = λ g text read limit most files.
     subst (λ (s : List Statement). IsLater s later) c.statements-statements.ensures c.in_ok-later.ensures.later in
     rw (c.of-2.ensures, c.in_ok-operations.ensures, c.statements-statements.ensures)
     (planned_keeps limit most files c.args.script.now g text later read is)
+
+pub returns-clause-made : goal.returns-clause-made
+returns-clause-made c =
+    let later = reports c.in_ok-later.later in (
+      later,
+      subst (λ (s : List Statement). IsLater s later) c.statements-statements.ensures c.in_ok-later.ensures.later,
+      ap (map operation_view) c.of-2.ensures ∙ (c.in_ok-operations.ensures ∙ ap (λ s. planned s later) c.statements-statements.ensures),
+    )
 
 pub of-requires-2 : goal.of-requires-2
 of-requires-2 c =

@@ -1,7 +1,6 @@
-use Rattle.std.proofs.Common.{◌≡◌, ℕ, ◌+◌, ◌<◌, false, List, [], ◌∷◌, ◌++◌, length, get_or, take, map, Option, refl, sym, ap, ◌∙◌, arith}
+use Rattle.std.proofs.Common.{◌≡◌, ℕ, ◌+◌, ◌<◌, false, List, [], ◌∷◌, ◌++◌, length, get_or, take, map, refl, sym, ap, ◌∙◌, arith}
 use Rattle.std.proofs.lemmas.List.{map-append, take_more}
 use Rattle.cord_syntax.specs.declared.statements.Statement.{Statement}
-use Rattle.cord_plan.specs.Exprs.{Expr}
 use Rattle.cord_plan.specs.Inlined.{defining}
 use Rattle.cord_plan.specs.Planned.{operation, or_nothing, trivial}
 use Rattle.cord_plan.specs.declared.operations.Operation.{Operation}
@@ -16,21 +15,19 @@ trivial_then [] l = refl
 trivial_then (x ∷ xs) l = ap (λ os. operation x (or_nothing (defining x)) false false ∷ os) (trivial_then xs l)
 
 -- the operations of the lines before i, and the next one
-one_more : (xs : List Statement) (i : ℕ) (l : Statement) (e : Option Expr) (before : List Operation) (o : Operation) →
-    i < length xs → l ≡ get_or xs i l → map operation_view before ≡ trivial (take i xs) → e ≡ defining l →
-    operation_view o ≡ operation l (or_nothing e) false false →
+one_more : (xs : List Statement) (i : ℕ) (l : Statement) (before : List Operation) (o : Operation) → i < length xs → l ≡ get_or xs i l →
+    map operation_view before ≡ trivial (take i xs) → operation_view o ≡ operation l (or_nothing (defining l)) false false →
     map operation_view (before ++ o ∷ []) ≡ trivial (take (i + 1) xs)
-one_more xs i l e before o within at so_far owned made =
+one_more xs i l before o within at so_far made =
     map-append operation_view before (o ∷ [])
     ∙ (ap (λ os. os ++ operation_view o ∷ []) so_far
-    ∙ (ap (λ p. trivial (take i xs) ++ p ∷ []) (made ∙ ap (λ f. operation l (or_nothing f) false false) owned)
+    ∙ (ap (λ p. trivial (take i xs) ++ p ∷ []) made
     ∙ (sym (trivial_then (take i xs) l)
     ∙ ap trivial (ap (λ m. take i xs ++ m ∷ []) at ∙ sym (take_more xs i l within)))))
 
 pub lines-preserved : goal.lines-preserved
 lines-preserved c = record {
   so_far = ap (map operation_view) c.push_reserved.ensures.items
-      ∙ one_more _ _ _ _ _ _ c.lines-test.true c.statement-item.is c.lines.invariant.so_far c.in_ok-expression.ensures.made
-      c.in_ok-operation_of.ensures.made;
+      ∙ one_more _ _ _ _ _ c.lines-test.true c.statement-item.is c.lines.invariant.so_far c.in_ok-trivial_operation.ensures;
   room = omega (arith, c.lines-test.true, c.lines.invariant.room, c.push_reserved.ensures.len, c.push_reserved.ensures.capacity);
 }

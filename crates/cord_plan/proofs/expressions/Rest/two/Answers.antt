@@ -2,6 +2,5 @@ use Rattle.std.proofs.Common.{[], ◌∷◌}
 use Rattle.cord_plan.proofs.ExprViews.{view-Two}
 use Rattle.cord_plan.proofs.expressions.Rest.two.Goals as goal
 
--- a must-fail edit breaks it
 pub returns : goal.returns
 returns c = view-Two (record { members = c.args.first ∷ c.args.second ∷ [] })

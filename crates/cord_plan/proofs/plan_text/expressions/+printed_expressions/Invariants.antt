@@ -2,7 +2,7 @@ use Rattle.std.proofs.Common.{◌≡◌, ◌+◌, take, map, Ok}
 use Rattle.cord_io.specs.declared.faults.WriteFault.{WriteFault}
 use Rattle.cord_iter.specs.Output.{Writes}
 use Rattle.cord_plan.specs.Views.{expr_view, members_of, members_view, shared_view}
-use Rattle.cord_plan.proofs.MemberTexts.{weight, weights, members_text, more_text}
+use Rattle.cord_plan.proofs.MemberTexts.{weight, weights, members_text}
 use Rattle.cord_plan.proofs.Spacing.{blank_at}
 use Rattle.cord_plan.proofs.plan_text.expressions.+printed_expressions.Given as goal
 
@@ -15,15 +15,8 @@ decreases-put_members g l = weights (members_view l.members.now) + 1
 abbrev pub decreases-put_listed : goal.decreases-put_listed
 decreases-put_listed g l = weights (members_of (map shared_view l.members.now))
 
-abbrev pub decreases-put_more : goal.decreases-put_more
-decreases-put_more g l = weights (members_of (map shared_view l.members.now))
-
-abbrev pub invariant-put_more-loop-member : goal.invariant-put_more-loop-member
-invariant-put_more-loop-member g l =
-    Writes {E = WriteFault} g.W.Sink (more_text (take l.member-index l.members)) l.initial.sink l.sink (Ok tt)
-
 abbrev pub invariant-put_listed-loop-member : goal.invariant-put_listed-loop-member
 invariant-put_listed-loop-member g l = record {
-  taken : Writes {E = WriteFault} g.W.Sink (members_text (take l.member-index l.members)) l.initial.sink l.sink (Ok tt);
-  blank : l.blank ≡ blank_at l.member-index;
+  taken : Writes {E = WriteFault} g.W.Sink (members_text l.fn.first (take l.member-index l.members)) l.initial.sink l.sink (Ok tt);
+  blank : l.blank ≡ blank_at l.fn.first l.member-index;
 }

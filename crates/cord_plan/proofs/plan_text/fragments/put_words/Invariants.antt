@@ -1,4 +1,4 @@
-use Rattle.std.proofs.Common.{◌≡◌, take, map, Ok}
+use Rattle.std.proofs.Common.{◌≡◌, [], take, map, Ok}
 use Rattle.cord_io.specs.declared.faults.WriteFault.{WriteFault}
 use Rattle.cord_iter.specs.Output.{Writes}
 use Rattle.cord_plan.specs.PlanText.{spaced}
@@ -9,5 +9,5 @@ use Rattle.cord_plan.proofs.plan_text.fragments.put_words.Given as goal
 abbrev pub invariant-loop-word : goal.invariant-loop-word
 invariant-loop-word g l = record {
   taken : Writes {E = WriteFault} g.W.Sink (spaced (map fragment_text (take l.word-index l.words))) l.initial.sink l.sink (Ok tt);
-  blank : l.blank ≡ blank_at l.word-index;
+  blank : l.blank ≡ blank_at [] l.word-index;
 }

@@ -1,6 +1,0 @@
-use Rattle.std.proofs.Common.{rules}
-use Rattle.cord_plan.proofs.flow.liveness.Later.is_operand_later.Goals as goal
-
--- a must-fail edit breaks it
-pub returns-in-ByLines : goal.returns-in-ByLines
-returns-in-ByLines c = search rules

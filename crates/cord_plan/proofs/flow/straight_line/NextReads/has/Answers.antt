@@ -1,6 +1,0 @@
-use Rattle.std.proofs.Common.{rules}
-use Rattle.cord_plan.proofs.flow.straight_line.NextReads.has.Goals as goal
-
--- a must-fail edit breaks it
-pub returns : goal.returns
-returns c = search rules
