@@ -6,7 +6,6 @@ mod cases;
 mod cords;
 mod depths;
 mod devices;
-mod edits;
 mod extensible;
 mod files;
 mod formats;

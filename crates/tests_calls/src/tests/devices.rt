@@ -1,11 +1,6 @@
 // Files, sources and sinks, and the files in memory that several cases use.
-mod cut;
 mod disk;
 mod faults;
-mod fuse_files;
-mod fuse_sink;
-mod memory;
-mod memory_sink;
 mod standard;
 
 ghost use Rattle.std.specs.Prelude.{◌≡◌, ◌<◌, ◌≤◌, ℕ, length, IsSome, IsSomeAnd};
@@ -14,16 +9,6 @@ use super::cases::expect_case;
 use cord_io::{FileNo, Files, MemFiles, OpenFault, ReadFault, Sink, WriteFault};
 use std::alloc::Global;
 use std::process::Abort;
-
-// Files in memory: ten digits, and an empty file.
-fn digits_file(rt: &impl Abort, alloc: Global) -> MemFiles {
-    let mut files = MemFiles::new(alloc);
-    files
-        .add(alloc, "digits", b"0123456789")
-        .expect(rt, "memory");
-    files.add(alloc, "empty", b"").expect(rt, "memory");
-    files
-}
 
 // What is asked of files of which one of ten bytes is opened, and what they answer.
 #[derive(Clone, Copy)]

@@ -6,10 +6,10 @@ ghost use Rattle.cord_io.specs.MemoryFileSystem.{file_system_in};
 
 use super::cases::expect_case;
 use super::trees::{Shape, is_cord};
-use Ask::{Eager, Failures, FromFile, Lazy, Len, Open, Put, Refused, Starts, Taken};
+use Ask::{Eager, Failures, FromFile, Lazy, Len, Open, Put, Taken};
 use cord_core::Cord;
 use cord_file::{FileError, Sources};
-use cord_io::{CutFiles, Files, MemFiles, MemSink, Source, SourceId};
+use cord_io::{Files, MemFiles, MemSink, Source, SourceId};
 use reading::put_part;
 use std::alloc::Global;
 use std::process::Abort;
@@ -24,14 +24,10 @@ enum Ask {
     Eager(&'static str, Shape),
     Lazy(&'static str, Shape),
     FromFile(&'static str, Shape),
-    // A path whose file fails to be read whole.
-    Refused(&'static str),
     // Bytes of the file at a path are put: where they stand, and how many.
     Put((&'static str, u64, u64), Result<(), FileError>),
     // What was put is this.
     Taken(&'static [u8]),
-    // What was put are the first of these bytes; what is put from now on is looked at by itself.
-    Starts(&'static [u8]),
     // How often a call of the files has failed.
     Failures(u64),
 }
@@ -93,10 +89,6 @@ fn expect_ask<F: Files>(
         Eager(path, shape) => expect_cord(rt, sources.eager(alloc, path), path, shape),
         Lazy(path, shape) => expect_cord(rt, sources.lazy(alloc, path), path, shape),
         FromFile(path, shape) => expect_cord(rt, sources.from_file(alloc, path), path, shape),
-        Refused(path) => {
-            let refused = sources.eager(alloc, path).err();
-            assert!(rt; refused == Some(FileError::ReadFailed));
-        }
         Put(range, answer) => {
             let end = put_part(alloc, sources, *range, sink);
             expect_case(rt, end == *answer, range.0, range.2);
@@ -104,10 +96,6 @@ fn expect_ask<F: Files>(
         Taken(bytes) => {
             assert!(rt; bytes.starts_with(sink.bytes()));
             assert!(rt; sink.bytes().len() == bytes.len());
-        }
-        Starts(bytes) => {
-            assert!(rt; bytes.starts_with(sink.bytes()));
-            *sink = MemSink::new(alloc);
         }
         Failures(count) => expect_case(rt, sources.failures() == *count, "failures", *count),
     }
@@ -178,36 +166,4 @@ fn sixty_five_paths(rt: HostRuntime) {
     expect_open(&rt, alloc, &mut sources, "none", &too_many);
     expect_open(&rt, alloc, &mut sources, "63", &Ok((SourceId(65), 1)));
     assert!(rt; sources.failures() == 0);
-}
-
-#[test]
-fn functions_are_read(rt: HostRuntime) {
-    let mut sources = table(&rt, rt.alloc(), MemFiles::new(rt.alloc()));
-    assert!(rt; sources.entry_len(SourceId(0)) == Some(1_099_511_627_775));
-    assert!(rt; sources.entry_len(SourceId(1)) == Some(1_099_511_627_775));
-    assert!(rt; sources.entry_len(SourceId(2)) == None);
-    let mut out = [0u8; 4];
-    assert!(rt; sources.read(SourceId(0), 8, &mut out[..3]) == Ok(()));
-    assert!(rt; out.starts_with(b"890"));
-    assert!(rt; sources.read(SourceId(0), 1_099_511_627_771, &mut out) == Ok(()));
-    assert!(rt; out.as_slice() == b"1234".as_slice());
-    assert!(rt; sources.read(SourceId(1), 254, &mut out) == Ok(()));
-    assert!(rt; out == [254, 255, 0, 1]);
-    assert!(rt; sources.read(SourceId(1), 1_099_511_627_775, &mut out[..0]) == Ok(()));
-    assert!(rt; sources.failures() == 0);
-}
-
-// Of a thousand bytes in the file "p" the first 600 alone are read.
-const CUT: &[Ask] = &[
-    Refused("p"),
-    Failures(1),
-    Len(2, Some(1000)),
-    Open("p", Ok((SourceId(2), 1000))),
-];
-
-#[test]
-fn cut_eager(rt: HostRuntime) {
-    let alloc = rt.alloc();
-    let files = one_file(&rt, alloc, "p", &[112; 1000]);
-    drop(answered(&rt, alloc, CutFiles::new(files, 600), CUT));
 }

@@ -1,11 +1,8 @@
 // Cases of worked examples, and a table of what C's printf writes.
-use super::trees::{bytes_of, cord_of, joined, run_of};
+use super::trees::{cord_of, expect_text, run_of};
 use cord_core::Cord;
 use cord_io::MAX_LEN;
-use cord_printf::{
-    Arg, ArgKind, Flags, Format, FormatError, Literal, Piece, PrintError, Radix, sprintf,
-    sprintf_len,
-};
+use cord_printf::{Arg, Format, FormatError, PrintError, sprintf, sprintf_len};
 use std::alloc::Global;
 use std::process::Abort;
 
@@ -19,8 +16,8 @@ enum Argument {
 
 use Argument::{Longest, Num, Text};
 
-// A format, its arguments, and the text that it prints of them.
-type Print = (&'static [u8], &'static [Argument], &'static [u8]);
+// A format, its arguments, and the text that it prints of them, or why it is refused.
+type Print<'a> = (&'a [u8], &'a [Argument], Result<&'a [u8], PrintError>);
 
 // A conversion of a number, the number, and what C's printf writes of it; the conversions are those of its `long long`.
 type Number = (&'static [u8], i64, &'static [u8]);
@@ -139,70 +136,48 @@ const TEXTS: &[(&[u8], &[u8], &[u8])] = &[
     (b"%-12.12s", b"hello", b"hello       "),
 ];
 
-// Prints of several arguments, by their names.
-const SEVERAL: &[(&str, Print)] = &[
-    ("format_calls", (b"%5d", &[Num(7)], b"    7")),
+// Prints of several arguments.
+const SEVERAL: &[Print] = &[
+    // format_calls
+    (b"%5d", &[Num(7)], Ok(b"    7")),
+    // sprintf_pads
     (
-        "sprintf_pads",
-        (
-            b"%5.2r|%-4d|%05d|%.0d|%%",
-            &[Text(b"hello"), Num(7), Num(-7), Num(0)],
-            b"   he|7   |-0007||%",
-        ),
+        b"%5.2r|%-4d|%05d|%.0d|%%",
+        &[Text(b"hello"), Num(7), Num(-7), Num(0)],
+        Ok(b"   he|7   |-0007||%"),
     ),
+    // sprintf_numbers
     (
-        "sprintf_numbers",
-        (
-            b"%08x|%+d|%o|%X|%c",
-            &[Num(255), Num(5), Num(8), Num(255), Num(65)],
-            b"000000ff|+5|10|FF|A",
-        ),
+        b"%08x|%+d|%o|%X|%c",
+        &[Num(255), Num(5), Num(8), Num(255), Num(65)],
+        Ok(b"000000ff|+5|10|FF|A"),
     ),
 ];
 
-// The length of a print.
-const LENGTHS: &[(&str, &[u8], &[Argument], u64)] = &[
-    ("format_calls", b"%5d", &[Num(7)], 5),
-    ("sprintf_too_long", b"%s", &[Longest], MAX_LEN),
-];
+// Of these the first reason counts for which a print is refused.
+const WRONG: &[Argument] = &[Longest, Num(-1), Num(300)];
 
-// The length of a wide print, and the bytes at its two ends.
-const WIDE: &[(&[u8], &[Argument], usize, &[u8], &[u8])] = &[
-    (b"%04000d", &[Num(-5)], 4000, b"-0", b"05"),
-    (b"%.9999x", &[Num(10)], 9999, b"00", b"0a"),
-    (b"%9999s|", &[Text(b"ab")], 10_000, b"  ", b" ab|"),
-    (b"%-300s|", &[Text(b"ab")], 301, b"ab ", b" |"),
-];
-
-// Why a print is refused.
-const REFUSALS: &[(&str, &[u8], &[Argument], PrintError)] = &[
-    ("every_byte", b"%c", &[Num(256)], PrintError::BadByte(0)),
-    ("every_byte", b"%c", &[Num(-1)], PrintError::BadByte(0)),
-    ("format_calls", b"%5d", &[], PrintError::WrongArgs),
+const REFUSALS: &[Print] = &[
+    (b"%c", &[Num(256)], Err(PrintError::BadByte(0))),
+    (b"%c", &[Num(-1)], Err(PrintError::BadByte(0))),
+    // format_calls
+    (b"%5d", &[], Err(PrintError::WrongArgs)),
     (
-        "format_calls",
         b"%d%u%c",
         &[Num(1), Num(-1), Num(300)],
-        PrintError::Negative(1),
+        Err(PrintError::Negative(1)),
     ),
-    (
-        "sprintf_negative_hex",
-        b"%x",
-        &[Num(-1)],
-        PrintError::Negative(0),
-    ),
-    ("sprintf_too_long", b"%s!", &[Longest], PrintError::TooLong),
-];
-
-// Why formats with a run of the longest length, -1 and 300 are refused: the first reason counts.
-const REFUSALS_IN_ORDER: &[(&[u8], PrintError)] = &[
-    (b"!%s%u%c", PrintError::Negative(1)),
-    (b"!%s%d%c", PrintError::BadByte(2)),
-    (b"!%s%d%d", PrintError::TooLong),
-    (b"!%s%u", PrintError::WrongArgs),
-    (b"!%s%u%s", PrintError::WrongArgs),
-    (b"%d%u%c", PrintError::WrongArgs),
-    (b"!", PrintError::WrongArgs),
+    // sprintf_negative_hex
+    (b"%x", &[Num(-1)], Err(PrintError::Negative(0))),
+    // sprintf_too_long
+    (b"%s!", &[Longest], Err(PrintError::TooLong)),
+    (b"!%s%u%c", WRONG, Err(PrintError::Negative(1))),
+    (b"!%s%d%c", WRONG, Err(PrintError::BadByte(2))),
+    (b"!%s%d%d", WRONG, Err(PrintError::TooLong)),
+    (b"!%s%u", WRONG, Err(PrintError::WrongArgs)),
+    (b"!%s%u%s", WRONG, Err(PrintError::WrongArgs)),
+    (b"%d%u%c", WRONG, Err(PrintError::WrongArgs)),
+    (b"!", WRONG, Err(PrintError::WrongArgs)),
 ];
 
 // The cases of formats with a number.
@@ -255,34 +230,6 @@ const BAD_FORMATS: &[BadText] = &[
     ("%5.l", 0),
 ];
 
-// A text of pieces, each so many times.
-type Pieces = &'static [(&'static [u8], usize)];
-
-// Bytes are gathered up to 256: prints around that number, and a text that is longer by itself.
-const LONG: &[(&str, Pieces, &[Argument], Pieces)] = &[
-    (
-        "long_lines_print_as_in_c",
-        &[(b"%20d|", 30)],
-        &[Num(-7); 30],
-        &[(b"                  -7|", 30)],
-    ),
-    (
-        "long_texts_of_formats_print_as_in_c",
-        &[(b"%05d", 1), (b"a", 300), (b"%x", 1)],
-        &[Num(42), Num(42)],
-        &[(b"00042", 1), (b"a", 300), (b"2a", 1)],
-    ),
-];
-
-// That something holds of a format.
-fn expect_format(rt: &impl Abort, holds: bool, name: &str, format: &[u8]) {
-    assert!(rt; holds, "{name}: {format:?}");
-}
-
-fn format_of(rt: &impl Abort, alloc: Global, format: &[u8]) -> Format {
-    Format::parse(alloc, format).expect(rt, "no format")
-}
-
 fn args_of(rt: &impl Abort, alloc: Global, arguments: &[Argument]) -> Vec<Arg> {
     let mut args = Vec::new(alloc);
     for it in arguments {
@@ -296,193 +243,66 @@ fn args_of(rt: &impl Abort, alloc: Global, arguments: &[Argument]) -> Vec<Arg> {
     args
 }
 
-// The print of a format with its arguments, whose length is reported alike.
-fn printed(rt: &impl Abort, alloc: Global, format: &[u8], arguments: &[Argument]) -> Cord {
-    let parsed = format_of(rt, alloc, format);
-    let args = args_of(rt, alloc, arguments);
-    let cord = sprintf(alloc, &parsed, &args).expect(rt, "no print");
-    let reported = sprintf_len(&parsed, &args);
-    expect_format(rt, reported == Ok(cord.len()), "the length", format);
-    cord
+// That something holds of a format.
+fn expect_format(rt: &impl Abort, holds: bool, format: &[u8]) {
+    assert!(rt; holds, "{format:?}");
 }
 
-// The bytes of the print of a format with its arguments.
-fn print_bytes(rt: &impl Abort, alloc: Global, format: &[u8], arguments: &[Argument]) -> Vec<u8> {
-    let bytes = bytes_of(alloc, &printed(rt, alloc, format, arguments)).expect(rt, "no memory");
-    bytes.expect(rt, "no text")
-}
-
-// That a format prints this text of its arguments.
-fn expect_printed(
+// That a print is this text, or refused for this.
+fn expect_answer(
     rt: &impl Abort,
     alloc: Global,
-    name: &str,
-    (format, arguments, want): (&[u8], &[Argument], &[u8]),
+    answer: Result<Cord, PrintError>,
+    (format, _, wanted): Print,
 ) {
-    let shown = print_bytes(rt, alloc, format, arguments);
-    expect_format(rt, shown.as_slice() == want, name, format);
+    match (answer, wanted) {
+        (Ok(cord), Ok(text)) => expect_text(rt, alloc, &cord, text),
+        (Err(error), Err(wanted)) => expect_format(rt, error == wanted, format),
+        _ => expect_format(rt, false, format),
+    }
 }
 
-// That the print of a format is refused for this.
-fn expect_refused(
-    rt: &impl Abort,
-    alloc: Global,
-    name: &str,
-    (format, arguments, error): (&[u8], &[Argument], PrintError),
-) {
-    let parsed = format_of(rt, alloc, format);
+// Prints, and takes the length of the print alone.
+fn expect_print(rt: &impl Abort, alloc: Global, print: Print) {
+    let (format, arguments, wanted) = print;
+    let parsed = Format::parse(alloc, format).expect(rt, "no format");
     let args = args_of(rt, alloc, arguments);
-    let reported = sprintf_len(&parsed, &args);
-    expect_format(rt, reported == Err(error), name, format);
-    let refused = sprintf(alloc, &parsed, &args).err();
-    expect_format(rt, refused == Some(error), name, format);
+    let length = match wanted {
+        Ok(text) => Ok(text.len() as u64),
+        Err(error) => Err(error),
+    };
+    expect_format(rt, sprintf_len(&parsed, &args) == length, format);
+    expect_answer(rt, alloc, sprintf(alloc, &parsed, &args), print);
 }
 
 #[test]
 fn prints_are_as_in_c(rt: HostRuntime) {
-    let alloc = rt.alloc();
     for numbers in NUMBERS {
         for &(format, number, want) in *numbers {
-            expect_printed(&rt, alloc, "a number", (format, &[Num(number)], want));
+            expect_print(&rt, rt.alloc(), (format, &[Num(number)], Ok(want)));
         }
     }
     for &(format, text, want) in TEXTS {
-        expect_printed(&rt, alloc, "a text", (format, &[Text(text)], want));
-    }
-    for &(name, print) in SEVERAL {
-        expect_printed(&rt, alloc, name, print);
-    }
-    for byte in 0..=255u8 {
-        let arguments = [Num(i64::from(byte))];
-        expect_printed(&rt, alloc, "every_byte", (b"%c", &arguments, &[byte]));
+        expect_print(&rt, rt.alloc(), (format, &[Text(text)], Ok(want)));
     }
 }
 
 #[test]
-fn lengths_of_prints(rt: HostRuntime) {
-    let alloc = rt.alloc();
-    for &(name, format, arguments, length) in LENGTHS {
-        let cord = printed(&rt, alloc, format, arguments);
-        expect_format(&rt, cord.len() == length, name, format);
+fn prints_and_refusals(rt: HostRuntime) {
+    for print in SEVERAL {
+        expect_print(&rt, rt.alloc(), *print);
     }
-    for &(format, arguments, length, start, end) in WIDE {
-        let shown = print_bytes(&rt, alloc, format, arguments);
-        expect_format(&rt, shown.len() == length, "the length", format);
-        expect_format(&rt, shown.starts_with(start), "the start", format);
-        expect_format(&rt, shown.ends_with(end), "the end", format);
-    }
-}
-
-#[test]
-fn refused_prints(rt: HostRuntime) {
-    let alloc = rt.alloc();
-    for &(name, format, arguments, error) in REFUSALS {
-        expect_refused(&rt, alloc, name, (format, arguments, error));
-    }
-    let arguments = [Longest, Num(-1), Num(300)];
-    for &(format, error) in REFUSALS_IN_ORDER {
-        expect_refused(&rt, alloc, "in order", (format, &arguments, error));
+    for print in REFUSALS {
+        expect_print(&rt, rt.alloc(), *print);
     }
 }
 
 #[test]
 fn bad_formats(rt: HostRuntime) {
-    let alloc = rt.alloc();
     for &(format, place) in BAD_FORMATS {
         let bytes = format.as_bytes();
-        let error = Format::parse(alloc, bytes).err();
-        expect_format(
-            &rt,
-            error == Some(FormatError::BadFormat(place)),
-            format,
-            bytes,
-        );
-        expect_format(&rt, Format::bad_offset(bytes) == Some(place), format, bytes);
+        let error = Format::parse(rt.alloc(), bytes).err();
+        let is_there = error == Some(FormatError::BadFormat(place));
+        expect_format(&rt, is_there, bytes);
     }
-}
-
-// Flat texts would take 300 gigabytes.
-#[test]
-fn prints_share_their_cords(rt: HostRuntime) {
-    let alloc = rt.alloc();
-    let format = format_of(&rt, alloc, b"%s,%-3s");
-    let run = run_of(&rt, alloc, 65, 1 << 30);
-    let mut cord = joined(&rt, alloc, &run, &cord_of(&rt, alloc, b"end"));
-    for _ in 0..300 {
-        let args = [Arg::Cord(cord), Arg::Cord(cord_of(&rt, alloc, b"x"))];
-        cord = sprintf(alloc, &format, &args).expect(&rt, "no print");
-    }
-    assert!(rt; cord.len() == (1 << 30) + 3 + 300 * 4);
-    let first = format_of(&rt, alloc, b"%.9999s");
-    let start = sprintf(alloc, &first, &[Arg::Cord(cord)]).expect(&rt, "no print");
-    assert!(rt; start.len() == 9999);
-}
-
-fn assembled(rt: &impl Abort, alloc: Global, pieces: Pieces) -> Vec<u8> {
-    let mut bytes = Vec::new(alloc);
-    for &(text, count) in pieces {
-        for _ in 0..count {
-            bytes.extend_from_slice(text).expect(rt, "no memory");
-        }
-    }
-    bytes
-}
-
-#[test]
-fn long_prints_are_as_in_c(rt: HostRuntime) {
-    let alloc = rt.alloc();
-    for &(name, format, arguments, want) in LONG {
-        let format = assembled(&rt, alloc, format);
-        let want = assembled(&rt, alloc, want);
-        expect_printed(&rt, alloc, name, (&format, arguments, &want));
-    }
-}
-
-#[test]
-fn texts_of_a_format(rt: HostRuntime) {
-    let format = format_of(&rt, rt.alloc(), b"ab%%c");
-    let [Piece::Text(first), Piece::Percent, Piece::Text(second)] = format.pieces() else {
-        panic!(rt; "other pieces");
-    };
-    assert!(rt; first.as_slice() == b"ab".as_slice());
-    assert!(rt; second.as_slice() == b"c".as_slice());
-    let kept = Vec::from_slice(rt.alloc(), b"kept").expect(&rt, "no memory");
-    assert!(rt; Literal::of(kept).into_vec().as_slice() == b"kept".as_slice());
-}
-
-#[test]
-fn conversions_of_a_format(rt: HostRuntime) {
-    let format = format_of(&rt, rt.alloc(), b"%-07.3lld%X%5c%.s");
-    let [signed, hex, byte, cord] = format.pieces() else {
-        panic!(rt; "other pieces");
-    };
-    let marked = Flags {
-        left: true,
-        zero: true,
-        plus: false,
-    };
-    assert!(rt;
-        matches!(signed, Piece::Signed { flags, width: 7, precision: Some(3) } if *flags == marked)
-    );
-    assert!(rt;
-        matches!(
-            hex,
-            Piece::Unsigned {
-                radix: Radix::UpperHex,
-                width: 0,
-                ..
-            }
-        )
-    );
-    assert!(rt; matches!(byte, Piece::Byte { width: 5, .. }));
-    assert!(rt;
-        matches!(
-            cord,
-            Piece::Cord {
-                precision: Some(0),
-                ..
-            }
-        )
-    );
-    assert!(rt; signed.wants() == Some(ArgKind::Number) && cord.wants() == Some(ArgKind::Cord));
 }

@@ -118,6 +118,7 @@ const WALKS: &[(&str, Parts, u64, &[Step])] = &[
         ],
     ),
     ("a_run_has_its_byte", &[Run(46, 3)], 2, &[At(Some(2), 1)]),
+    ("depth_fifty", &[Leaf(&[7; 65]); 51], 0, &[At(Some(0), 51)]),
 ];
 
 fn walk_on(position: &mut Position, steps: u32)
@@ -204,25 +205,4 @@ fn cases_of_walks(rt: HostRuntime) {
     for &(name, parts, start, steps) in WALKS {
         expect_walk(&rt, rt.alloc(), name, parts, start, steps);
     }
-}
-
-#[test]
-fn visits_of_whole_walks(rt: HostRuntime) {
-    let cord = made(&rt, rt.alloc(), FOUR_LEAVES);
-    assert!(rt; cord.len() == 400);
-    assert!(rt; Position::walk_to(&cord, 200).visits() == 6);
-    assert!(rt; Position::walk_through(&cord).visits() == 7);
-    assert!(rt; !Position::walk_through(&Cord::empty()).is_valid());
-}
-
-#[test]
-fn depth_fifty(rt: HostRuntime) {
-    let alloc = rt.alloc();
-    let piece = cord_of(&rt, alloc, &[7; 65]);
-    let mut cord = joined(&rt, alloc, &piece, &piece);
-    for _ in 0..49 {
-        cord = joined(&rt, alloc, &cord, &piece);
-    }
-    assert!(rt; cord.depth() == 50);
-    assert!(rt; Position::set(&cord, 0).visits() == 51);
 }

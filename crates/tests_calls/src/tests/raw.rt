@@ -71,19 +71,3 @@ fn raw_buf_full_chain(rt: HostRuntime) {
     }
     expect_full_chain(&rt, alloc, &buffer, &text);
 }
-
-// A buffer of several blocks is copied from each start, and serves again once it is cleared.
-#[test]
-fn ranges_of_a_buffer_that_is_cleared(rt: HostRuntime) {
-    let alloc = rt.alloc();
-    let text = pattern(alloc, 400).expect(&rt, "no memory");
-    let mut buffer = RawBuf::new(alloc).expect(&rt, "no memory");
-    extend(&rt, alloc, &mut buffer, &text);
-    expect_text(&rt, alloc, &buffer, &text);
-    for (start, range) in text.windows(130).enumerate() {
-        expect_at(&rt, alloc, &buffer, start as u64, range);
-    }
-    buffer.clear();
-    extend(&rt, alloc, &mut buffer, b"xyz");
-    expect_text(&rt, alloc, &buffer, b"xyz");
-}

@@ -1,8 +1,5 @@
 // The machine's files, real ones and those of a machine that fails on purpose.
-ghost use Rattle.std.specs.Prelude.{◌≡◌, ◌<◌, ◌≤◌, ℕ, length, take, drop, IfOk, IsErr, IsSomeAnd};
-ghost use Rattle.cord_io.specs.Device.{FileSystem, bytes_at};
-ghost use Rattle.cord_io.specs.DiskReported.{reported_by};
-ghost use Rattle.cord_io.specs.Reported.{Agrees};
+ghost use Rattle.std.specs.Prelude.{IsErr};
 
 use super::super::cases::expect_case;
 use super::Ask::{self, Failures, Fault, Open, Read as Reads};
@@ -328,65 +325,7 @@ where
     expect_answers(rt, &mut files, no, REMOVED);
 }
 
-// Reads from a place of a file on. A file system that agrees with all that was reported has these bytes there.
-fn read_reported<R: rt::Files>(
-    files: &mut DiskFiles<R>,
-    path: &str,
-    start: u64,
-    out: &mut [u8],
-) -> Result<usize, ReadFault>
-where
-    R::File: FileExt,
-    requires { 0 < length out.old }
-    ensures { (file_system : FileSystem) → Agrees file_system (reported_by files.new) → IfOk result (λ k.
-        take k out.new ≡ take k (drop start (bytes_at file_system path.now))) }
-{
-    let Ok((no, len)) = files.open(path) else {
-        return Err(ReadFault);
-    };
-    if len <= start {
-        return Err(ReadFault);
-    }
-    files.read_at(no, start, out)
-}
-
-// That these bytes are read of a path from a place on, or nothing.
-fn expect_reported<R: rt::Files>(
-    rt: &impl Abort,
-    files: &mut DiskFiles<R>,
-    path: &str,
-    start: u64,
-    bytes: Option<&[u8]>,
-)
-where
-    R::File: FileExt,
-{
-    let mut out = [0u8; 4];
-    let read = read_reported(files, path, start, &mut out);
-    let is_read = match bytes {
-        None => read == Err(ReadFault),
-        Some(bytes) => read == Ok(bytes.len()) && out.starts_with(bytes),
-    };
-    expect_case(rt, is_read, "from", start);
-}
-
-// What was reported of a real file agrees with what was written there.
-fn read_written<R: rt::Files + AllocGlobal + Abort + Clone>(rt: &R, path: &str)
-where
-    R::File: FileExt,
-{
-    fs::write(rt, path, DIGITS.as_slice()).expect(rt, "not written");
-    let mut files = real(rt);
-    expect_reported(rt, &mut files, path, 3, Some(b"3456"));
-    expect_reported(rt, &mut files, path, 8, Some(b"89"));
-    expect_reported(rt, &mut files, path, 10, None);
-    fs::remove_file(rt, path).expect(rt, "not removed");
-    expect_reported(rt, &mut files, path, 0, None);
-    expect_case(rt, files.failures() == 0, path, 0);
-}
-
 #[test]
 fn real_files(rt: HostRuntime) {
     read_removed(&rt);
-    read_written(&rt, "tests_calls_reported");
 }

@@ -4,11 +4,11 @@ ghost use Rattle.cord_io.specs.Table.{Lengths, length_at};
 ghost use Rattle.cord_core.specs.Cord.{CordFitsIn};
 
 use super::super::trees::{Shape, pattern};
-use super::Ask::{self, Eager, Failures, Put, Starts, Taken};
+use super::Ask::{self, Eager, Failures, Put};
 use super::{answered, expect_open, one_file, table};
 use cord_core::Cord;
 use cord_file::{FileError, Sources};
-use cord_io::{CutFiles, Files, FuseFiles, MemFiles, MemSink, Source, SourceId};
+use cord_io::{Files, FuseFiles, MemFiles, MemSink, Source, SourceId};
 use cord_iter::put;
 use cord_pos::Position;
 use std::alloc::Global;
@@ -33,30 +33,6 @@ pub(super) fn put_part<F: Files>(
 // All of a file of 10,000 bytes, in 20 blocks of which no two are alike.
 const LONG: Range = ("f", 0, 10_000);
 
-#[test]
-fn lazy_twice(rt: HostRuntime) {
-    let alloc = rt.alloc();
-    let bytes = pattern(alloc, 10_000).expect(&rt, "no memory");
-    let files = FuseFiles::new(one_file(&rt, alloc, "f", &bytes), 21);
-    let asks = [Put(LONG, Ok(())), Put(LONG, Ok(())), Failures(0)];
-    let sink = answered(&rt, alloc, files, &asks);
-    assert!(rt; sink.bytes().len() == 20_000);
-    let (first, second) = sink.bytes().split_at(10_000);
-    assert!(rt; first == bytes.as_slice());
-    assert!(rt; second == bytes.as_slice());
-}
-
-#[test]
-fn lazy_last_block_fails(rt: HostRuntime) {
-    let alloc = rt.alloc();
-    let bytes = pattern(alloc, 10_000).expect(&rt, "no memory");
-    let files = FuseFiles::new(one_file(&rt, alloc, "f", &bytes), 20);
-    let asks = [Put(LONG, Err(FileError::ReadFailed)), Failures(1)];
-    let sink = answered(&rt, alloc, files, &asks);
-    assert!(rt; sink.bytes().len() <= 9_728);
-    assert!(rt; bytes.starts_with(sink.bytes()));
-}
-
 // A file of 20,000 bytes is read into one leaf between two walks over the long file.
 const EAGER_BETWEEN: &[Ask] = &[
     Put(LONG, Ok(())),
@@ -74,31 +50,6 @@ fn eager_is_one_call(rt: HostRuntime) {
     assert!(rt; files.add(alloc, "g", &[103; 20_000]) == Ok(()));
     let sink = answered(&rt, alloc, FuseFiles::new(files, 23), EAGER_BETWEEN);
     assert!(rt; sink.bytes().len() == 20_000);
-}
-
-#[test]
-fn blocks_by_entry(rt: HostRuntime) {
-    let alloc = rt.alloc();
-    let mut files = one_file(&rt, alloc, "a", &[97; 600]);
-    assert!(rt; files.add(alloc, "b", &[98; 600]) == Ok(()));
-    let asks = [Put(("a", 550, 10), Ok(())), Put(("b", 550, 10), Ok(()))];
-    let sink = answered(&rt, alloc, files, &asks);
-    assert!(rt; sink.bytes() == b"aaaaaaaaaabbbbbbbbbb".as_slice());
-}
-
-// Of a thousand bytes in the file "p" the first 600 alone are read.
-const CUT: &[Ask] = &[
-    Put(("p", 0, 1000), Err(FileError::ReadFailed)),
-    Starts(&[112; 512]),
-    Put(("p", 0, 512), Ok(())),
-    Taken(&[112; 512]),
-];
-
-#[test]
-fn cut_lazy(rt: HostRuntime) {
-    let alloc = rt.alloc();
-    let files = one_file(&rt, alloc, "p", &[112; 1000]);
-    drop(answered(&rt, alloc, CutFiles::new(files, 600), CUT));
 }
 
 // So many bytes of a source from a place on.
