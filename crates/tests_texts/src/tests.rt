@@ -7,7 +7,7 @@ use std::process::Abort;
 
 // A text of these bytes.
 fn text_of(rt: &impl Abort, alloc: Global, bytes: &[u8]) -> Text {
-    Text::from_bytes(alloc, bytes).expect(rt, "no memory")
+    crate::text_of(alloc, bytes).expect(rt, "no memory")
 }
 
 // The text of most tests, of two that are joined.
