@@ -1,7 +1,10 @@
 // How deep ropes are, by the order in which they were built, and after many edits.
 use super::cases::expect_case;
-use super::trees::{balanced, cord_of, joined, splice};
+use super::trees::{balanced, cord_of, joined, part_of, splice};
+use cord_balance::slot_of;
 use cord_core::Cord;
+use cord_io::{MAX_DEPTH, MAX_LEN};
+use cord_node::Node;
 use std::alloc::Global;
 use std::process::Abort;
 
@@ -25,6 +28,30 @@ const ORDERS: &[(Order, u64, u32, u32)] = &[
     (Order::Turns, 3_000, 26, 17),
     (Order::Turns, 8_389, 27, 19),
 ];
+
+// How many parts a node has, counted one by one.
+fn counted(node: &Node) -> u64 {
+    match node {
+        Node::Cat { left, right, .. } => counted(left).saturating_add(counted(right)),
+        _ => 1,
+    }
+}
+
+// That a cord has so many parts as it stores, and is no deeper than their slot once it is balanced.
+fn expect_shallow(rt: &impl Abort, alloc: Global, cord: &Cord, name: &str) {
+    let shallow = balanced(rt, alloc, cord);
+    let parts = match shallow.root() {
+        None => 0,
+        Some(node) => {
+            let parts = counted(node);
+            expect_case(rt, node.part_count() == parts, name, parts);
+            parts
+        }
+    };
+    assert!(rt; 0 < parts && parts <= MAX_LEN);
+    expect_case(rt, shallow.depth() <= slot_of(parts), name, parts);
+    expect_case(rt, cord.depth() <= MAX_DEPTH, name, parts);
+}
 
 // So many leaves in an order.
 fn grown(rt: &impl Abort, alloc: Global, order: &Order, count: u64) -> Cord {
@@ -53,7 +80,38 @@ fn grown_ropes(rt: HostRuntime) {
         expect_case(&rt, cord.depth() == *depth, "grown", *count);
         let reached = balanced(&rt, alloc, &cord).depth();
         expect_case(&rt, reached == *shallow, "balanced", *count);
+        expect_shallow(&rt, alloc, &cord, "grown and balanced");
     }
+}
+
+// Doubled so often, it is a full tree, which is balanced.
+#[test]
+fn doubled_ropes(rt: HostRuntime) {
+    let alloc = rt.alloc();
+    let mut cord = cord_of(&rt, alloc, &[7; 65]);
+    for turn in 0..12 {
+        expect_case(&rt, cord.depth() == turn, "doubled", cord.len());
+        let reached = balanced(&rt, alloc, &cord).depth();
+        expect_case(&rt, reached == turn, "balanced", cord.len());
+        cord = joined(&rt, alloc, &cord, &cord);
+    }
+    expect_shallow(&rt, alloc, &cord, "doubled");
+}
+
+// Words put in at random places, by cutting and joining.
+#[test]
+fn inserted_at_random(rt: HostRuntime) {
+    let alloc = rt.alloc();
+    let word = cord_of(&rt, alloc, b"ten bytes.");
+    let mut cord = cord_of(&rt, alloc, &[7; 10_000]);
+    for turn in 0..2_000u64 {
+        let len = cord.len();
+        let place = turn.wrapping_mul(7_919_003) % len.max(1);
+        let prefix = joined(&rt, alloc, &part_of(&rt, alloc, &cord, 0, place), &word);
+        cord = joined(&rt, alloc, &prefix, &part_of(&rt, alloc, &cord, place, len));
+    }
+    assert!(rt; cord.len() == 30_000);
+    expect_shallow(&rt, alloc, &cord, "inserted at random");
 }
 
 #[test]
@@ -62,15 +120,37 @@ fn edited_at_one_place(rt: HostRuntime) {
     let byte = cord_of(&rt, alloc, b"x");
     let mut cord = grown(&rt, alloc, &Order::Append, 1_000);
     for turn in 0..100_000u64 {
-        let place = turn.saturating_add(32_000);
-        splice(&rt, alloc, &mut cord, (place, 0), &byte);
+        splice(
+            &rt,
+            alloc,
+            &mut cord,
+            (turn.saturating_add(32_000), 0),
+            &byte,
+        );
     }
     assert!(rt; cord.len() == 165_000);
+    expect_shallow(&rt, alloc, &cord, "edited at one place");
     let parts = match cord.root() {
         None => 0,
-        Some(node) => node.part_count(),
+        Some(node) => counted(node),
     };
-    assert!(rt; 0 < parts && parts <= 1_001 + 100_000 / 32);
+    assert!(rt; parts <= 1_001 + 100_000 / 32);
+}
+
+#[test]
+fn edited_at_random(rt: HostRuntime) {
+    let alloc = rt.alloc();
+    let byte = cord_of(&rt, alloc, b"x");
+    let mut cord = grown(&rt, alloc, &Order::Append, 1_000);
+    for turn in 0..100_000u64 {
+        let place = turn.wrapping_mul(7_919_003) % cord.len().max(1);
+        if turn % 2 == 0 {
+            splice(&rt, alloc, &mut cord, (place, 0), &byte);
+        } else {
+            splice(&rt, alloc, &mut cord, (place, 1), &Cord::empty());
+        }
+    }
+    expect_shallow(&rt, alloc, &cord, "edited at random");
 }
 
 // Two leaves of 40 bytes of which an edit leaves at most 64 become one, and no others.
