@@ -92,21 +92,31 @@ def places_changed(edit, crate):
             texts[file], old = known.replace(old, text), None
 
 
-def change(edit, crate):
-    """Makes an edit in a crate, and gives the files that it changed with their old texts."""
-    old_texts, file, old = {}, None, ""
+def changed(edit, crate):
+    """The files of a crate that an edit changes, each with its text before and after; an edit has to fit."""
+    texts, file, old = {}, None, ""
     for line in edit.read_text().split("\n"):
         key, _, text = line.partition(": ")
         if key == "file":
             file = crate / text.strip()
-            old_texts.setdefault(file, file.read_text())
+            before = file.read_text()
+            texts.setdefault(file, (before, before))
         elif key == "old":
             old = text
         elif line.startswith("new:"):
-            if file.read_text().count(old) != 1:
+            before, after = texts[file]
+            if after.count(old) != 1:
                 raise ValueError(f"{edit.name}: {old!r} doesn't stand once in {file.name}")
-            file.write_text(file.read_text().replace(old, text))
-    return old_texts
+            texts[file] = before, after.replace(old, text)
+    return texts
+
+
+def change(edit, crate):
+    """Makes an edit in a crate, and gives the files that it changed with their old texts."""
+    texts = changed(edit, crate)
+    for file, (_, after) in texts.items():
+        file.write_text(after)
+    return {file: before for file, (before, _) in texts.items()}
 
 
 def crates():
