@@ -19,6 +19,7 @@ use Rattle.cord_pos.proofs.Counts.{level_depth, depth_limit, preorder_first, pre
 use Rattle.cord_pos.proofs.Counts.{shared_below, size_len}
 use Rattle.cord_node.proofs.TreeLemmas.{len_limit, len_positive}
 use Rattle.cord_pos.proofs.SamePart.{HasRange, has_range, IsSamePart, same_part}
+use Rattle.cord_pos.proofs.SpotBytes.{IsSpotPart, spot_part}
 
 -- the part at the end of a way from a root is that of the cord
 pub on_cord : (c : Option Node) (n : Node) (index : ℕ) (part : Part) (ps : List Place) → c ≡ Some n → IsOnPart n index part ps →
@@ -75,23 +76,6 @@ still (Some n) spot path j on a b =
       visits_none = omega arith;
     }
 
--- the part at which a position stands begins no later than its index
-pub start_below : (c : Option Node) (spot : Spot) (path : Path) → IsPosition c (Some spot) path → spot.part.start ≤ spot.index
-start_below None spot path on = absurd on.on_spot
-start_below (Some n) spot path on =
-    let p : IsOnPart n spot.index spot.part (places path.stops.items) = on.on_spot in
-    let start : spot.part.start ≡ (part_at n 0 spot.index).1 = ap (λ (x : Node × ℕ). x.1) p.holder in
-    omega (arith, (has_range n 0 spot.index p.sound p.inside).first)
-
--- and ends after it
-pub end_above : (c : Option Node) (spot : Spot) (path : Path) → IsPosition c (Some spot) path → spot.index < spot.part.end
-end_above None spot path on = absurd on.on_spot
-end_above (Some n) spot path on =
-    let p : IsOnPart n spot.index spot.part (places path.stops.items) = on.on_spot in
-    let start : spot.part.start ≡ (part_at n 0 spot.index).1 = ap (λ (x : Node × ℕ). x.1) p.holder in
-    let len : len_of (node_of spot.part.node) ≡ len_of (part_at n 0 spot.index).0 = ap (λ (x : Node × ℕ). len_of x.0) p.holder in
-    omega (arith, p.end, (has_range n 0 spot.index p.sound p.inside).last)
-
 -- a `prev` is a move to the index before
 pub prev_move : (c : Option Node) (i : ℕ) → 0 < i → prev_visits c (Some i) ≡ move_visits c i (i - 1)
 prev_move c zero h = absurd (omega arith)
@@ -100,8 +84,7 @@ prev_move c (suc i) h = let e : suc i - 1 ≡ i = omega arith in rw e refl
 -- a `next` inside one part
 pub next_still : (c : Option Node) (spot : Spot) (path : Path) → IsPosition c (Some spot) path → spot.index + 1 < spot.part.end →
     IsStill c spot path (spot.index + 1)
-next_still c spot path on k = let l : spot.part.start ≤ spot.index = start_below c spot path on in
-    still c spot path (spot.index + 1) on (omega arith) k
+next_still c spot path on k = still c spot path (spot.index + 1) on (omega (arith, (spot_part c spot path on).from)) k
 
 -- its index
 pub next_still_index : (c : Option Node) (spot : Spot) (path : Path) → IsPosition c (Some spot) path → spot.index + 1 < spot.part.end →
@@ -119,7 +102,9 @@ next_still_visits c spot path on k =
 -- a `prev` inside one part
 pub prev_still : (c : Option Node) (spot : Spot) (path : Path) → IsPosition c (Some spot) path → spot.part.start < spot.index →
     IsStill c spot path (spot.index - 1)
-prev_still c spot path on k = still c spot path (spot.index - 1) on (omega arith) (omega (arith, end_above c spot path on))
+prev_still c spot path on k =
+    let h : IsSpotPart c spot = spot_part c spot path on in
+    still c spot path (spot.index - 1) on (omega arith) (omega (arith, h.inside, h.end))
 
 -- its visits: none
 pub prev_still_visits : (c : Option Node) (spot : Spot) (path : Path) → IsPosition c (Some spot) path → spot.part.start < spot.index →

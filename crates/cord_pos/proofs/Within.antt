@@ -1,5 +1,5 @@
 -- Where nodes below a node, and spans of them, stand in its text.
-use Rattle.std.proofs.Common.{◌≡◌, ℕ, ◌+◌, ◌-◌, ◌<◌, ◌≤◌, List, length, take, drop, refl, sym, ◌∙◌, ap, arith, length-drop}
+use Rattle.std.proofs.Common.{◌≡◌, ℕ, ◌+◌, ◌-◌, ◌<◌, ◌≤◌, List, length, take, drop, refl, sym, ◌∙◌, ap, arith, length-drop, Some}
 use Rattle.std.specs.Prelude.{replicate}
 use Rattle.std.specs.declared.rc.Rc.{Rc}
 use Rattle.std.specs.Global.{Global}
@@ -15,12 +15,11 @@ use Rattle.cord_node.specs.declared.Node.TheVariants.{Leaf, Run, Func, Cat'}
 use Rattle.cord_node.specs.Tree.{len_of, IsSound}
 use Rattle.cord_node.specs.Tables.{bytes_over, lengths_of}
 use Rattle.cord_node.proofs.Ranges.{range_of_range, range_left, range_right}
-use Rattle.cord_node.proofs.TreeLemmas.{len_positive}
+use Rattle.cord_core.proofs.OverLemmas.{length-bytes}
 use Rattle.cord_pos.specs.inner.Path.{part_at}
 use Rattle.cord_pos.specs.Spans.{span_len, span_bytes, SpanFitsIn, IsSpanAt}
 use Rattle.cord_pos.specs.inner.Spans.{IsWithin}
 use Rattle.cord_pos.specs.declared.span.Span.{Span}
-use Rattle.cord_pos.proofs.Bytes.{length_bytes}
 use Rattle.cord_pos.proofs.Sides.{part_at-left, part_at-right}
 
 -- a place of a node is one of that node
@@ -49,66 +48,36 @@ within_on n place m at l to v w = record {
       ∙ w.text t (v.fits (lengths_of t) f) i k h;
 }
 
--- a concatenation is as long as its two sides
-pub cat_len : (m : Node) (p : Rc (Unit {0}) Global) (l : Node) (q : Rc (Unit {0}) Global) (r : Node) (len depth count : ℕ) (mark : List Part) →
-    m ≡ Cat' mark depth len p l q r count → IsSound m → len_of m ≡ len_of l + len_of r
-cat_len m p l q r len depth count mark e s = let v : IsSound (Cat' mark depth len p l q r count) = rw e at s in ap len_of e ∙ v.2
+module _ (p q : Rc (Unit {0}) Global) (left right : Node) (len depth count : ℕ) (mark : List Part)
+    (sound : IsSound (Cat' mark depth len p left q right count)) where
+  -- a place of the left side
+  pub within_left : (i : ℕ) → IsWithin (Cat' mark depth len p left q right count) i left i
+  within_left i = record {
+    offset = 0;
+    here = omega arith;
+    inside = omega (arith, sound.2);
+    sound = sound.0;
+    fits = λ lengths f. f.0;
+    text = λ t f j k h.
+        let left_len : len_of left ≡ length (bytes_over t left) = length-bytes t (Some left) sound.0 f.0 in
+        let z : 0 + j ≡ j = omega arith in
+        rw z (range_left (bytes_over t left) (bytes_over t right) j k (omega (arith, h, left_len)));
+  }
 
--- each side is shorter
-pub left_shorter : (m : Node) (p : Rc (Unit {0}) Global) (l : Node) (q : Rc (Unit {0}) Global) (r : Node) (len depth count : ℕ)
-    (mark : List Part) → m ≡ Cat' mark depth len p l q r count → IsSound m → len_of l < len_of m
-left_shorter m p l q r len depth count mark e s =
-    let v : IsSound (Cat' mark depth len p l q r count) = rw e at s in
-    let some : 0 < len_of r = len_positive r v.1 in
-    let both : len_of m ≡ len_of l + len_of r = cat_len m p l q r len depth count mark e s in
-    omega (arith, some, both)
-
-pub right_shorter : (m : Node) (p : Rc (Unit {0}) Global) (l : Node) (q : Rc (Unit {0}) Global) (r : Node) (len depth count : ℕ)
-    (mark : List Part) → m ≡ Cat' mark depth len p l q r count → IsSound m → len_of r < len_of m
-right_shorter m p l q r len depth count mark e s =
-    let v : IsSound (Cat' mark depth len p l q r count) = rw e at s in
-    let some : 0 < len_of l = len_positive l v.0 in
-    let both : len_of m ≡ len_of l + len_of r = cat_len m p l q r len depth count mark e s in
-    omega (arith, some, both)
-
--- and so is the left side of what is within
-pub within_left : (n : Node) (place : ℕ) (m : Node) (at : ℕ) (p : Rc (Unit {0}) Global) (l : Node) (q : Rc (Unit {0}) Global) (r : Node)
-    (len depth count : ℕ) (mark : List Part) → m ≡ Cat' mark depth len p l q r count → IsWithin n place m at → IsWithin n place l at
-within_left n place m at p l q r len depth count mark e w =
-    let v : IsWithin n place (Cat' mark depth len p l q r count) at = rw e at w in
-    let long : len ≡ len_of l + len_of r = v.sound.2 in
-    record {
-      offset = v.offset;
-      here = v.here;
-      inside = omega (arith, v.inside, long);
-      sound = v.sound.0;
-      fits = λ lengths f. (v.fits lengths f).0;
-      text = λ t f i k h.
-          let len : length (bytes_over t l) ≡ len_of l = length_bytes t l v.sound.0 (v.fits (lengths_of t) f).0 in
-          v.text t f i k (omega (arith, h, long)) ∙ range_left (bytes_over t l) (bytes_over t r) i k (omega (arith, h, len));
-    }
-
--- and the right side
-pub within_right : (n : Node) (place : ℕ) (m : Node) (at next : ℕ) (p : Rc (Unit {0}) Global) (l : Node) (q : Rc (Unit {0}) Global)
-    (r : Node) (len depth count : ℕ) (mark : List Part) → m ≡ Cat' mark depth len p l q r count → at ≡ len_of l + next → IsWithin n place m at →
-    IsWithin n place r next
-within_right n place m at next p l q r len depth count mark e seam w =
-    let v : IsWithin n place (Cat' mark depth len p l q r count) at = rw e at w in
-    let long : len ≡ len_of l + len_of r = v.sound.2 in
-    record {
-      offset = v.offset + len_of l;
-      here = omega (arith, v.here, seam);
-      inside = omega (arith, v.inside, long);
-      sound = v.sound.1;
-      fits = λ lengths f. (v.fits lengths f).1;
-      text = λ t f i k h.
-          let len : length (bytes_over t l) ≡ len_of l = length_bytes t l v.sound.0 (v.fits (lengths_of t) f).0 in
-          let from : v.offset + len_of l + i ≡ v.offset + (len_of l + i) = omega arith in
-          let to : len_of l + i - length (bytes_over t l) ≡ i = omega (arith, len) in
-          ap (λ (j : ℕ). take k (drop j (bytes_over t n))) from ∙ v.text t f (len_of l + i) k (omega (arith, h, long))
-          ∙ range_right (bytes_over t l) (bytes_over t r) (len_of l + i) k (omega (arith, len))
-          ∙ ap (λ (j : ℕ). take k (drop j (bytes_over t r))) to;
-    }
+  -- a place of the right side
+  pub within_right : (i : ℕ) → len_of left ≤ i → IsWithin (Cat' mark depth len p left q right count) i right (i - len_of left)
+  within_right i after = record {
+    offset = len_of left;
+    here = omega arith;
+    inside = omega (arith, sound.2);
+    sound = sound.1;
+    fits = λ lengths f. f.1;
+    text = λ t f j k h.
+        let left_len : len_of left ≡ length (bytes_over t left) = length-bytes t (Some left) sound.0 f.0 in
+        let to : len_of left + j - length (bytes_over t left) ≡ j = omega (arith, left_len) in
+        range_right (bytes_over t left) (bytes_over t right) (len_of left + j) k (omega (arith, left_len))
+        ∙ ap (λ (x : ℕ). take k (drop x (bytes_over t right))) to;
+  }
 
 -- a span of what is within is one of the node
 within_span : (n : Node) (place : ℕ) (m : Node) (at i j : ℕ) (s : Span) (w : IsWithin n place m at) → j ≡ w.offset + i →
@@ -186,12 +155,11 @@ part_within (Cat' mark depth len p left q right count) s i at z h k =
     let n : Node = Cat' mark depth len p left q right count in
     ⊎_elim
     (λ (a : i < len_of left).
-    let w : IsWithin n i left i = within_left n i n i p left q right len depth count mark refl (within_self n i h) in
-    rw (part_at-left p q left right len depth count mark s i a) (within_on n i left i _ _ w (part_within left s i at z h.0 a)))
+    rw (part_at-left p q left right len depth count mark s i a)
+    (within_on n i left i _ _ (within_left p q left right len depth count mark h i) (part_within left s i at z h.0 a)))
     (λ (a : len_of left ≤ i).
-    let w : IsWithin n i right (i - len_of left) =
-    within_right n i n i (i - len_of left) p left q right len depth count mark refl (omega arith) (within_self n i h) in
-    rw (part_at-right p q left right len depth count mark s i a) (within_on n i right (i - len_of left) _ _ w
+    rw (part_at-right p q left right len depth count mark s i a)
+    (within_on n i right (i - len_of left) _ _ (within_right p q left right len depth count mark h i a)
     (part_within right (s + len_of left) (i - len_of left) at (omega arith) h.1 (omega (arith, h.2)))))
     (cases_lt i (len_of left))
 

@@ -1,15 +1,15 @@
 -- Spans: texts that lie in one part of a cord.
 use Rattle.std.specs.Prelude.{◌≡◌, ◌↔◌, ℕ, ◌+◌, ◌-◌, ◌<◌, ◌≤◌, List, length, take, drop, replicate, Option, Some, None, ⊤}
+use Rattle.std.specs.Prelude.{Bool, true, false, nat_lt, if◌then◌else◌}
 use Rattle.cord_io.specs.Table.{Table, Lengths, length_at}
 use Rattle.cord_io.specs.declared.TheConstants.{MAX_LEN}
 use Rattle.cord_node.specs.declared.Node.{Node}
+use Rattle.cord_node.specs.declared.Node.TheVariants.{Leaf, Run, Func, Cat'}
+use Rattle.cord_node.specs.Tree.{len_of}
 use Rattle.cord_core.specs.Cord.{text_len, bytes_of, CordFitsIn, CordFits}
 use Rattle.cord_pos.specs.Position.{IsOnePart}
 use Rattle.cord_pos.specs.declared.span.Span.{Span}
 use Rattle.cord_pos.specs.declared.span.Span.TheVariants.{Bytes, Run, Func}
-use Rattle.std.specs.Prelude.{◌≡◌, ℕ, Bool, true, false, Some}
-use Rattle.cord_io.specs.Table.{Table}
-use Rattle.cord_node.specs.declared.Node.TheVariants.{Leaf, Run, Func, Cat'}
 
 -- its length
 abbrev pub span_len : Span → ℕ
@@ -79,3 +79,10 @@ is_part (Leaf len bytes start mark) = true
 is_part (Run byte len) = true
 is_part (Func id len start) = true
 is_part (Cat' mark depth len p left q right count) = false
+
+-- the side of a node that holds its index `i`, and where the side begins in the node's text: none of a part
+abbrev pub side_at : Node → ℕ → Option (Node × ℕ)
+side_at (Leaf len bytes s mark) i = None
+side_at (Run byte len) i = None
+side_at (Func id len s) i = None
+side_at (Cat' mark depth len p left q right count) i = if nat_lt i (len_of left) then Some (left, 0) else Some (right, len_of left)

@@ -1,7 +1,7 @@
 // Nodes that were visited. Elsewhere in the crate a node is a `Visited`, and a cord that is gone into a `Tree`;
 // `span.rt` alone is given a node, a part whose bytes it lends, and gives none out. The fields of the two are
-// private to this file, and so is what makes a `Visited`, which counts it. So the one way to a root, or from a node to
-// its child, is a step that is counted.
+// private to this file, and so is what makes a `Visited`, which counts it. So the one way to a root, or from a `Visited`
+// to its child, is a step that is counted. `side_of` counts none: other crates call it, with nodes of their own.
 ghost use Rattle.std.specs.Prelude.{◌≡◌, ◌+◌, ◌-◌, ◌<◌, ◌≤◌, min, true, is_err, is_some, IfOk, IfSome, Some, None};
 ghost use Rattle.std.specs.Prelude.{MatchOption};
 ghost use Rattle.cord_io.specs.Device.{FileSystem, count_after};
@@ -9,10 +9,9 @@ ghost use Rattle.cord_io.specs.Frames.{LeavesSource};
 ghost use Rattle.cord_node.specs.Tree.{len_of, IsSound};
 ghost use Rattle.cord_node.specs.Tables.{FitsIn};
 ghost use Rattle.cord_core.specs.Cord.{text_len, IsCord};
-ghost use Rattle.cord_pos.specs.inner.Path.{node_of, side_at};
+ghost use Rattle.cord_pos.specs.inner.Path.{node_of};
 ghost use Rattle.cord_pos.specs.inner.Parts.{HasByte};
-ghost use Rattle.cord_pos.specs.Spans.{is_part};
-ghost use Rattle.cord_pos.specs.Spans.{span_len, IsSpanAt};
+ghost use Rattle.cord_pos.specs.Spans.{is_part, side_at, span_len, IsSpanAt};
 
 use crate::span::Span;
 use cord_core::Cord;
@@ -42,6 +41,22 @@ pub(crate) struct Visited<'a> {
 pub(crate) struct Side<'a> {
     pub(crate) node: Visited<'a>,
     pub(crate) offset: u64,
+}
+
+/// The side of a concatenation that holds a place of its text, and where in that text the side's own begins: none of a
+/// part. It is no visit.
+pub fn side_of(node: &Node, place: u64) -> Option<(&Node, u64)>
+    ensures { MatchOption result (side_at node.now place ≡ None)
+        (λ side. side_at node.now place ≡ Some (side.0.now, side.1)) }
+{
+    let Node::Cat { left, right, .. } = node else {
+        return None;
+    };
+    let seam = left.len();
+    if place < seam {
+        return Some((left.as_ref(), 0));
+    }
+    Some((right.as_ref(), seam))
 }
 
 impl Visits {
@@ -123,16 +138,9 @@ impl<'a> Visited<'a> {
         ensures count { MatchOption result (visits.new.count ≡ visits.old.count)
             (λ _. visits.new.count ≡ min (visits.old.count + 1) u64.MAX) }
     {
-        let Node::Cat { left, right, .. } = self.node else {
-            return None;
-        };
-        let seam = left.len();
-        if index < seam {
-            let node = visits.visit(left.as_ref());
-            return Some(Side { node, offset: 0 });
-        }
-        let node = visits.visit(right.as_ref());
-        Some(Side { node, offset: seam })
+        let (side, offset) = side_of(self.node, index)?;
+        let node = visits.visit(side);
+        Some(Side { node, offset })
     }
 
     /// What a part has from one place on, up to another: the caller gets no node.

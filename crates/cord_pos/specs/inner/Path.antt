@@ -25,13 +25,6 @@ place_of o = (option_map node_of o.node, o.start)
 abbrev pub places : List Occurrence → List Place
 places os = map place_of os
 
--- the side of a node that holds its index `i`, and where the side begins in the node's text: none of a part
-abbrev pub side_at : Node → ℕ → Option (Node × ℕ)
-side_at (Leaf len bytes s mark) i = None
-side_at (Run byte len) i = None
-side_at (Func id len s) i = None
-side_at (Cat' mark depth len p left q right count) i = if nat_lt i (len_of left) then Some (left, 0) else Some (right, len_of left)
-
 -- the places below a node that begins at `start`, down to the part that holds the index `i` of the node
 abbrev pub below : Node → ℕ → ℕ → List Place
 below (Leaf len bytes s mark) start i = []

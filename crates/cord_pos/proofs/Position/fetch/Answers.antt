@@ -2,25 +2,26 @@ use Rattle.cord_pos.proofs.SpotBytes.{spot_part, spot_byte}
 use Rattle.cord_pos.proofs.Position.fetch.Goals as goal
 
 pub overflow_sub-spot : goal.overflow_sub-spot
-overflow_sub-spot g c = (spot_part (g.S.Source.lengths c.args.src.now) _ _ _ (rw c.in-Some.is at c.self.invariant)).from
+overflow_sub-spot g c = (spot_part _ _ _ (rw c.in-Some.is at c.self.invariant)).from
 
 pub byte-requires-clause-part : goal.byte-requires-clause-part
-byte-requires-clause-part g c = (spot_part (g.S.Source.lengths c.args.src.now) _ _ _ (rw c.in-Some.is at c.self.invariant)).part
+byte-requires-clause-part g c = (spot_part _ _ _ (rw c.in-Some.is at c.self.invariant)).part
 
 pub byte-requires-clause-sound : goal.byte-requires-clause-sound
-byte-requires-clause-sound g c = (spot_part (g.S.Source.lengths c.args.src.now) _ _ _ (rw c.in-Some.is at c.self.invariant)).sound
+byte-requires-clause-sound g c = (spot_part _ _ _ (rw c.in-Some.is at c.self.invariant)).within.sound
 
 pub byte-requires-clause-inside : goal.byte-requires-clause-inside
-byte-requires-clause-inside g c = (spot_part (g.S.Source.lengths c.args.src.now) _ _ _ (rw c.in-Some.is at c.self.invariant)).inside
+byte-requires-clause-inside g c = (spot_part _ _ _ (rw c.in-Some.is at c.self.invariant)).inside
 
 pub byte-requires-clause-fits : goal.byte-requires-clause-fits
-byte-requires-clause-fits g c = (spot_part (g.S.Source.lengths c.args.src.now) _ _ _ (rw c.in-Some.is at c.self.invariant)).fits
-    (rw (← c.self.view_is) at c.requires.fits)
+byte-requires-clause-fits g c =
+    let on = spot_part _ _ _ (rw c.in-Some.is at c.self.invariant) in
+    on.within.fits (g.S.Source.lengths c.args.src.now) (rw (← c.self.view_is, on.is) at c.requires.fits)
 
 pub returns-clause-byte : goal.returns-clause-byte
 returns-clause-byte g c file_system agrees =
     let lengths = g.S.Source.lengths c.args.src.now in
     let reported = g.met.S.Source.lengths_of_table c.args.src.now file_system (c.byte.ensures.source.earlier file_system agrees) in
     rw (← c.self.view_is, c.in-Some.is)
-    (spot_byte lengths (g.S.Source.table c.args.src.now file_system) _ _ _ _ (rw c.in-Some.is at c.self.invariant) reported
+    (spot_byte _ _ _ (rw c.in-Some.is at c.self.invariant) lengths (g.S.Source.table c.args.src.now file_system) _ reported
     (rw (← c.self.view_is) at c.requires.fits) (c.in_ok-byte.ensures.byte file_system agrees))
