@@ -12,7 +12,7 @@ use path::{Part, Path};
 pub use span::Span;
 use std::marker::Model;
 use visited::Tree;
-pub use visited::side_of;
+pub use visited::{Side, side_of};
 
 mod fetch;
 mod next;

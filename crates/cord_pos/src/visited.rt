@@ -36,27 +36,45 @@ pub(crate) struct Visited<'a> {
     node: &'a Node,
 }
 
-/// A side of a node, and the place in the node's text where its own begins.
+/// A side of a node that was visited, and the place in the node's text where its own begins.
 #[derive(Clone, Copy)]
-pub(crate) struct Side<'a> {
+pub(crate) struct VisitedSide<'a> {
     pub(crate) node: Visited<'a>,
     pub(crate) offset: u64,
 }
 
-/// The side of a concatenation that holds a place of its text, and where in that text the side's own begins: none of a
-/// part. It is no visit.
-pub fn side_of(node: &Node, place: u64) -> Option<(&Node, u64)>
-    ensures { MatchOption result (side_at node.now place ≡ None)
-        (λ side. side_at node.now place ≡ Some (side.0.now, side.1)) }
+/// The side of a node that holds a place of its text.
+#[derive(Clone, Copy)]
+pub struct Side<'a> {
+    pub node: &'a Node,
+    /// Where the side's own text begins in that of the node.
+    pub start: u64,
+    /// The place, as one of the side.
+    pub place: u64,
+}
+
+/// The side of a concatenation that holds a place of its text: none of a part. It is no visit.
+pub fn side_of(node: &Node, place: u64) -> Option<Side<'_>>
+    ensures side { MatchOption result (side_at node.now place ≡ None)
+        (λ side. side_at node.now place ≡ Some (side.node.now, side.start)) }
+    ensures place { IfSome result (λ side. side.place ≡ place - side.start) }
 {
     let Node::Cat { left, right, .. } = node else {
         return None;
     };
     let seam = left.len();
     if place < seam {
-        return Some((left.as_ref(), 0));
+        return Some(Side {
+            node: left.as_ref(),
+            start: 0,
+            place,
+        });
     }
-    Some((right.as_ref(), seam))
+    Some(Side {
+        node: right.as_ref(),
+        start: seam,
+        place: place - seam,
+    })
 }
 
 impl Visits {
@@ -132,15 +150,18 @@ impl<'a> Visited<'a> {
 
     /// Steps down to the side that holds an index, if the node is no part. A step to the right reads the left side's
     /// length, which is no visit.
-    pub(crate) fn step(self, index: u64, visits: &mut Visits) -> Option<Side<'a>>
+    pub(crate) fn step(self, index: u64, visits: &mut Visits) -> Option<VisitedSide<'a>>
         ensures side { MatchOption result (side_at (node_of self.entry) index ≡ None)
             (λ side. side_at (node_of self.entry) index ≡ Some (node_of side.node, side.offset)) }
         ensures count { MatchOption result (visits.new.count ≡ visits.old.count)
             (λ _. visits.new.count ≡ min (visits.old.count + 1) u64.MAX) }
     {
-        let (side, offset) = side_of(self.node, index)?;
-        let node = visits.visit(side);
-        Some(Side { node, offset })
+        let side = side_of(self.node, index)?;
+        let node = visits.visit(side.node);
+        Some(VisitedSide {
+            node,
+            offset: side.start,
+        })
     }
 
     /// What a part has from one place on, up to another: the caller gets no node.
