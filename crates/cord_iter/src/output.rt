@@ -1,11 +1,12 @@
 // Output of cords.
-ghost use Rattle.std.specs.Prelude.{◌≡◌, ◌+◌, ◌<◌, ◌≤◌, ◌++◌, OnOk, OnErr, length};
+ghost use Rattle.std.specs.Prelude.{◌≡◌, ◌+◌, ◌<◌, ◌≤◌, ◌++◌, true, OnOk, OnErr, length};
 ghost use Rattle.cord_io.specs.Device.{FileSystem};
 ghost use Rattle.cord_io.specs.Frames.{LeavesSource};
 ghost use Rattle.cord_io.specs.Table.{length_at};
 ghost use Rattle.cord_node.specs.Tree.{IsSound};
 ghost use Rattle.cord_node.specs.Tables.{FitsIn};
 ghost use Rattle.cord_core.specs.Cord.{text_len, bytes_of, CordFitsIn};
+ghost use Rattle.cord_pos.specs.Spans.{is_part};
 ghost use Rattle.cord_iter.specs.Output.{IsPrefixOf, Takes, CountsFaults, failures_of};
 ghost use Rattle.cord_iter.specs.inner.Output.{IsTextRead, IsPrefixOver};
 
@@ -78,6 +79,31 @@ fn put_node<S: Source, W: Sink>(node: &Node, src: &mut S, sink: &mut W) -> Resul
     ensures finished { W.finished sink.new ≡ W.finished sink.old }
 {
     match node {
+        Node::Cat { left, right, .. } => {
+            put_node(left.as_ref(), src, sink)?;
+            put_node(right.as_ref(), src, sink)?;
+        }
+        _ => put_part(node, src, sink)?,
+    }
+    Ok(())
+}
+
+// Hands a sink the text of a part.
+fn put_part<S: Source, W: Sink>(node: &Node, src: &mut S, sink: &mut W) -> Result<(), CordError>
+    requires part { is_part node.now ≡ true }
+    requires sound { IsSound node.now }
+    requires fits { FitsIn (S.lengths src.old) node.now }
+    ensures text { OnOk result (Takes (IsTextRead (S.consistent src.new) (S.table src.old) node.now) (W.taken sink.old)
+        (W.taken sink.new)) }
+    ensures prefix { OnErr result (Takes (IsPrefixOver (S.consistent src.new) (S.table src.old) node.now)
+        (W.taken sink.old)
+        (W.taken sink.new)) }
+    ensures faults { CountsFaults (failures_of ⟦<S as Source>⟧ ⟦<W as Sink>⟧ src.old sink.old)
+        (failures_of ⟦<S as Source>⟧ ⟦<W as Sink>⟧ src.new sink.new) result }
+    ensures source { LeavesSource ⟦<S as Source>⟧ src.old src.new }
+    ensures finished { W.finished sink.new ≡ W.finished sink.old }
+{
+    match node {
         Node::Leaf {
             bytes,
             start,
@@ -91,10 +117,7 @@ fn put_node<S: Source, W: Sink>(node: &Node, src: &mut S, sink: &mut W) -> Resul
         }
         Node::Run { byte, len } => put_run(*byte, *len, sink)?,
         Node::Func { id, start, len } => put_func(*id, *start, *len, src, sink)?,
-        Node::Cat { left, right, .. } => {
-            put_node(left.as_ref(), src, sink)?;
-            put_node(right.as_ref(), src, sink)?;
-        }
+        Node::Cat { .. } => unreachable!(),
     }
     Ok(())
 }

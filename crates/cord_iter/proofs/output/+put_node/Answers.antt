@@ -13,7 +13,7 @@ returns-in_err-put_node-in-Cat-clause-prefix g t c =
     let sides : AreSides left right node = cat_sides _ left _ right _ _ _ _ node c.in-Cat.is c.requires.sound in
     let first : Takes (IsPrefixOver (consistent c.put_node.new.src) table left) (g.W.Sink.taken c.args.sink.now)
     (g.W.Sink.taken c.put_node.new.sink) = rw c.as_ref.ensures at c.in_err-put_node-in-Cat.ensures.prefix in
-    on_err c.from_residual-in_err-put_node-in-Cat.result (takes_such first (λ x. cat_left table left right node x sides))
+    on_err c.from_residual.result (takes_such first (λ x. cat_left table left right node x sides))
 
 pub returns-in_err-put_node-in-Cat-2-clause-prefix : goal.returns-in_err-put_node-in-Cat-2-clause-prefix
 returns-in_err-put_node-in-Cat-2-clause-prefix g t c =
