@@ -2,10 +2,10 @@
 use Rattle.std.proofs.Common.{◌≡◌, ℕ, ◌+◌, ◌-◌, ◌<◌, ◌≤◌, true, false, List, [], ◌∷◌, ◌++◌, length, take, drop, get_or, None, Some, refl}
 use Rattle.std.proofs.Common.{sym, ◌∙◌, ap, subst, arith, ⊎_elim, append_assoc, length-drop, length-append}
 use Rattle.std.specs.Prelude.{Option}
-use Rattle.std.specs.Ordering.{nat_cmp}
+use Rattle.std.specs.Ordering.{nat_cmp, is_eq}
 use Rattle.std.specs.Cmp.Lexicographic.{slice_cmp}
 use Rattle.std.specs.declared.cmp.Ordering.{Ordering}
-use Rattle.std.specs.declared.cmp.Ordering.TheVariants.{Equal}
+use Rattle.std.specs.declared.cmp.Ordering.TheVariants.{Less, Equal, Greater}
 use Rattle.std.proofs.Math.Seq.{take-add}
 use borrow.Rule.Slice.PartMut.{put_mid, post_of}
 use Rattle.std.proofs.lemmas.Bool.{cases_lt}
@@ -180,20 +180,20 @@ nothing_stands t x s place low e p q = record {
     empty (b ∷ xs) h = absurd (omega arith)
 
 -- the order tells whether a text stands in another
-pub order_stands : (t : Table) (x s : Option Node) (place n m : ℕ) (r : Ordering) → r ≡ Equal → place + text_len s ≤ text_len x →
-    n ≡ text_len s → m ≡ text_len s → length (bytes_of t x) ≡ text_len x → length (bytes_of t s) ≡ text_len s →
-    IsOrderOf t x place n s 0 m r → IsStanding t x place s true
-order_stands t x s place n m r is inside d e p q h =
+order_stands : (t : Table) (x s : Option Node) (place n m : ℕ) → place + text_len s ≤ text_len x → n ≡ text_len s → m ≡ text_len s →
+    length (bytes_of t x) ≡ text_len x → length (bytes_of t s) ≡ text_len s → IsOrderOf t x place n s 0 m Equal →
+    IsStanding t x place s true
+order_stands t x s place n m inside d e p q h =
     let y = drop place (bytes_of t x) in
     let same : take n y ≡ bytes_of t s =
-    cmp_equal (take n y) (take m (bytes_of t s)) (sym h ∙ is) ∙ take_all m (bytes_of t s) (omega (arith, e, q)) in
+    cmp_equal (take n y) (take m (bytes_of t s)) (sym h) ∙ take_all m (bytes_of t s) (omega (arith, e, q)) in
     record {
       within = omega (arith, p, inside);
       rest = drop n y;
       here = sym (take-append-drop n y) ∙ ap (λ (ys : List ℕ). ys ++ drop n y) same;
     }
 
-pub order_stands_not : (t : Table) (x s : Option Node) (place n m : ℕ) (r : Ordering) → (r ≡ Equal → ⊥) → n ≡ text_len s → m ≡ text_len s →
+order_stands_not : (t : Table) (x s : Option Node) (place n m : ℕ) (r : Ordering) → (r ≡ Equal → ⊥) → n ≡ text_len s → m ≡ text_len s →
     length (bytes_of t s) ≡ text_len s → IsOrderOf t x place n s 0 m r → IsStanding t x place s false
 order_stands_not t x s place n m r not d e q h =
     λ at.
@@ -202,3 +202,10 @@ order_stands_not t x s place n m r not d e q h =
     let right : take m text ≡ text = take_all m text (omega (arith, e, q)) in
     not (h ∙ ap (λ (ys : List ℕ). slice_cmp nat_cmp ys (take m text)) left ∙ ap (λ (ys : List ℕ). slice_cmp nat_cmp text ys) right
     ∙ cmp_same text)
+
+pub order_tells : (t : Table) (x s : Option Node) (place n m : ℕ) (r : Ordering) → place + text_len s ≤ text_len x → n ≡ text_len s →
+    m ≡ text_len s → length (bytes_of t x) ≡ text_len x → length (bytes_of t s) ≡ text_len s → IsOrderOf t x place n s 0 m r →
+    IsStanding t x place s (is_eq r)
+order_tells t x s place n m Equal inside d e p q h = order_stands t x s place n m inside d e p q h
+order_tells t x s place n m Less inside d e p q h = order_stands_not t x s place n m Less (λ f. cc) d e q h
+order_tells t x s place n m Greater inside d e p q h = order_stands_not t x s place n m Greater (λ f. cc) d e q h

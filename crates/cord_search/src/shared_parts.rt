@@ -1,10 +1,10 @@
 // What two texts have at two places: bytes that both share, or a span of each.
-ghost use Rattle.std.specs.Prelude.{◌≡◌, ◌+◌, ◌-◌, ◌<◌, ◌≤◌, true, Option, None, IfSome, IfNone};
+ghost use Rattle.std.specs.Prelude.{◌≡◌, ℕ, ◌+◌, ◌-◌, ◌<◌, ◌≤◌, true, Option, None, IfSome, IfNone};
 ghost use Rattle.arrayvec.specs.ArrayVec.{array_vec_len};
 ghost use Rattle.cord_core.specs.Cord.{text_len};
 ghost use Rattle.cord_node.specs.declared.Node.{Node as Tree};
 ghost use Rattle.cord_node.specs.Tree.{len_of, depth_of, IsSound};
-ghost use Rattle.cord_pos.specs.Spans.{is_part, span_len, IsSpanAt};
+ghost use Rattle.cord_pos.specs.Spans.{is_part, span_len, IsSpanOf, IsSpanAt};
 ghost use Rattle.cord_pos.specs.inner.Spans.{IsWithin};
 ghost use Rattle.cord_search.specs.inner.SharedParts.{IsSpot, AreOneSpot, IsSpotOf, IsWay, IsCommonAhead};
 
@@ -12,7 +12,7 @@ use crate::spans::begin_alike;
 use arrayvec::ArrayVec;
 use cord_core::{Cord, Node};
 use cord_io::MAX_DEPTH;
-use cord_pos::Span;
+use cord_pos::{Span, side_of};
 
 // The most nodes on a way: a root, and a step for each level below it.
 const WAY_LEN: usize = MAX_DEPTH as usize + 1;
@@ -109,19 +109,10 @@ impl<'a> Spot<'a> {
         ensures lower { IfSome result (λ side. depth_of side.node.now < depth_of self.entry.node.now) }
         ensures part { result ≡ None → is_part self.entry.node.now ≡ true }
     {
-        let Node::Cat { left, right, .. } = self.node else {
-            return None;
-        };
-        let seam = left.len();
-        if self.place < seam {
-            return Some(Spot {
-                node: left.as_ref(),
-                place: self.place,
-            });
-        }
+        let side = side_of(self.node, self.place)?;
         Some(Spot {
-            node: right.as_ref(),
-            place: self.place - seam,
+            node: side.node,
+            place: side.place,
         })
     }
 }
@@ -268,9 +259,18 @@ pub(crate) fn look_ahead<'a>(
     }
     let span = way.span(spot, i);
     let next = other_way.span(other, j);
-    let count = most.min(span.len()).min(next.len());
-    if begin_alike(span, next) {
+    both_ahead(span, next, most)
+}
+
+// What begins with two spans, at most `most` bytes.
+fn both_ahead<'a>(span: Span<'a>, other: Span<'a>, most: u64) -> Ahead<'a>
+    requires { 0 < most }
+    ensures { (x : Option Tree) → (i : ℕ) → (y : Option Tree) → (j : ℕ) → IsSpanOf x i span.entry →
+        IsSpanOf y j other.entry → IsCommonAhead x i y j most result }
+{
+    let count = most.min(span.len()).min(other.len());
+    if begin_alike(span, other) {
         return Ahead::Same(count);
     }
-    Ahead::Apart(span.up_to(count), next.up_to(count))
+    Ahead::Apart(span.up_to(count), other.up_to(count))
 }

@@ -17,7 +17,6 @@ use cord_core::Cord;
 use cord_io::{CordError, ReadFault, Source};
 use cord_pos::{Position, Span};
 use memchr::memmem::Finder;
-use std::cmp::Ordering;
 
 // Room for the windows in which a text of at most `PIECE_LEN` bytes is looked for.
 const ROOM_LEN: usize = 4 * PIECE_LEN;
@@ -458,9 +457,5 @@ fn stands_at<S: Source>(x: &Cord, place: u64, s: &Cord, src: &mut S) -> Result<b
         IfOk result (IsStanding (S.table src.old file_system) x.now place s.now) }
     ensures read { HasRead ⟦<S as Source>⟧ src.old src.new result }
 {
-    match compare(x, place, s.len(), s, 0, s.len(), src)? {
-        Ordering::Equal => Ok(true),
-        Ordering::Less => Ok(false),
-        Ordering::Greater => Ok(false),
-    }
+    Ok(compare(x, place, s.len(), s, 0, s.len(), src)?.is_eq())
 }

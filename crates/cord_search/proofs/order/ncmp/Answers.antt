@@ -14,3 +14,9 @@ returns-clause-order g c = λ file_system agrees.
     (omega (arith, c.min-left.ensures, c.saturating_sub.ensures, c.len.ensures.stored))
     (omega (arith, c.min-right.ensures, c.saturating_sub-2.ensures, c.len-2.ensures.stored)) c.sign.ensures
     (c.in_ok-ordering.ensures.order file_system agrees)
+
+pub compare-requires-clause-left_inside : goal.compare-requires-clause-left_inside
+compare-requires-clause-left_inside g c = λ some. omega (arith, some, c.min-left.ensures, c.saturating_sub.ensures, c.len.ensures.stored)
+
+pub compare-requires-clause-right_inside : goal.compare-requires-clause-right_inside
+compare-requires-clause-right_inside g c = λ some. omega (arith, some, c.min-right.ensures, c.saturating_sub-2.ensures, c.len-2.ensures.stored)

@@ -20,3 +20,6 @@ returns-clause-before g c = ends_within _ (length c.args.bytes.now) c.min-end.re
 pub returns-clause-within : goal.returns-clause-within
 returns-clause-within g c = ends_within _ (length c.args.bytes.now) c.min-end.result (text_len c.args.x.now)
     (omega (arith, c.min-end.ensures, c.len.ensures.stored)) c.in_ok-first_place_of_bytes.ensures.within
+
+pub returns-clause-from : goal.returns-clause-from
+returns-clause-from g c = c.in_ok-first_place_of_bytes.ensures.from

@@ -11,3 +11,6 @@ returns-clause-first g c = λ file_system agrees.
     let len = cord_len (g.S.Source.lengths c.args.src.now) t c.args.x.now reported c.len.ensures.sound c.requires.fits in
     whole_found (bytes_of t c.args.x.now) (bytes_of t c.args.s.now) c.args.start c.len.result c.str_in.result
     (omega (arith, len, c.len.ensures.stored)) (c.str_in.ensures.first file_system agrees)
+
+pub returns-clause-from : goal.returns-clause-from
+returns-clause-from g c = c.str_in.ensures.from

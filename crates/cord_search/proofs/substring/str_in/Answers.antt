@@ -53,3 +53,16 @@ returns-clause-before g c = ends_within _ (text_len c.args.s.now) c.min-end.resu
 pub returns-clause-within : goal.returns-clause-within
 returns-clause-within g c = ends_within _ (text_len c.args.s.now) c.min-end.result (text_len c.args.x.now)
     (omega (arith, c.min-end.ensures, c.len.ensures.stored)) c.in_ok-first_place.ensures.within
+
+pub returns-then-count-eq0-clause-before : goal.returns-then-count-eq0-clause-before
+returns-then-count-eq0-clause-before g c =
+    omega (arith, c.lies_inside.ensures.inside c.if-not-lies_inside.false, c.len-count.ensures.stored, c.min-end.ensures)
+
+pub returns-then-count-eq0-clause-within : goal.returns-then-count-eq0-clause-within
+returns-then-count-eq0-clause-within g c = omega (
+  arith,
+  c.lies_inside.ensures.inside c.if-not-lies_inside.false,
+  c.len-count.ensures.stored,
+  c.len.ensures.stored,
+  c.min-end.ensures,
+)
