@@ -1,9 +1,17 @@
--- Walks over a concatenation from a place on.
-use Rattle.std.proofs.Common.{◌≡◌, ℕ, ◌-◌, ◌≤◌, Bool, true, false, List, ◌++◌, length, drop, refl, ◌∙◌, ap}
+-- Walks over a text in pieces, over the tables of a source.
+use Rattle.std.proofs.Common.{◌≡◌, ℕ, ◌-◌, ◌≤◌, Bool, true, false, List, [], ◌++◌, length, drop, Ok, Err, Some, refl, sym, ◌∙◌, ap, subst, arith}
+use Rattle.std.specs.Prelude.{IsErr}
+use Rattle.std.specs.Result.{IfOk, OnErr}
+use Rattle.std.specs.declared.result.Result.{Result}
 use Rattle.std.specs.declared.rc.Rc.{Rc}
 use Rattle.std.specs.Global.{Global}
+use Rattle.std.proofs.lemmas.Bool.{false≢true}
 use Rattle.std.proofs.lemmas.List.{drop-append-le}
+use Rattle.std.proofs.lemmas.Result.{IfOk-weaker, on_err_weaker}
+use Rattle.cord_io.specs.Device.{FileSystem, raised}
+use Rattle.cord_io.specs.Frames.{LeavesSource}
 use Rattle.cord_io.specs.Table.{Table, Lengths, HasLengths}
+use Rattle.cord_io.specs.declared.sources.Source.{Ghosts}
 use Rattle.cord_node.specs.declared.Node.{Node}
 use Rattle.cord_node.specs.declared.Node.TheVariants.{Cat'}
 use Rattle.cord_node.specs.PartsFrom.{Part}
@@ -11,61 +19,107 @@ use Rattle.cord_node.specs.Tree.{len_of, IsSound}
 use Rattle.cord_node.specs.Tables.{bytes_over, FitsIn}
 use Rattle.cord_node.proofs.TableLemmas.{Fits-reported}
 use Rattle.cord_node.proofs.Ranges.{drop-append_right}
+use Rattle.cord_core.proofs.OverLemmas.{length-bytes}
 use Rattle.cord_iter.specs.Walk.{walk, WalkedPrefix}
-use Rattle.cord_iter.proofs.Lengths.{length-bytes_over}
+use Rattle.cord_iter.specs.inner.Walk.{Walks}
 use Rattle.cord_iter.proofs.Walks.{walk_on, walk_stop, prefix_first, prefix_second}
 
--- a node's text is that of two others, and the first of them is as long as it stores
-pub record IsCut (t : Table) (l r n : Node) : Type 0 where
-  pub bytes : bytes_over t n ≡ bytes_over t l ++ bytes_over t r
-  pub len : length (bytes_over t l) ≡ len_of l
+-- the text of a concatenation from a place in its left side on, and from one in its right side on
+pub record IsCut (t : Table) (l r n : Node) (from : ℕ) : Type 0 where
+  pub in_left : from ≤ len_of l → drop from (bytes_over t n) ≡ drop from (bytes_over t l) ++ bytes_over t r
+  pub in_right : len_of l ≤ from → drop (from - len_of l) (bytes_over t r) ≡ drop from (bytes_over t n)
 
 pub cut_of : (ls : Lengths) (t : Table) (p : Rc (Unit {0}) Global) (l : Node) (q : Rc (Unit {0}) Global) (r : Node) (len depth count : ℕ)
-    (mark : List Part) (n : Node) → n ≡ Cat' mark depth len p l q r count → IsSound n → FitsIn ls n → HasLengths ls t → IsCut t l r n
-cut_of ls t p l q r len depth count mark n e s f reported =
+    (mark : List Part) (n : Node) (from : ℕ) → n ≡ Cat' mark depth len p l q r count → IsSound n → FitsIn ls n → HasLengths ls t →
+    IsCut t l r n from
+cut_of ls t p l q r len depth count mark n from e s f reported =
     let sound : IsSound (Cat' mark depth len p l q r count) = rw e at s in
     let fits : FitsIn ls (Cat' mark depth len p l q r count) = rw e at f in
-    record { bytes = rw e refl; len = length-bytes_over t l sound.0 (Fits-reported ls t l reported fits.0) }
+    let long : len_of l ≡ length (bytes_over t l) = length-bytes t (Some l) sound.0 (Fits-reported ls t l reported fits.0) in
+    rw e (record {
+      in_left = λ h. drop-append-le from (bytes_over t l) (bytes_over t r) (omega (arith, h, long));
+      in_right = λ h. rw long (sym (drop-append_right (bytes_over t l) (bytes_over t r) from (omega (arith, h, long))));
+    })
 
--- from a place in the left one on
-from_left : (t : Table) (l r n : Node) (from : ℕ) → IsCut t l r n → from ≤ len_of l →
-    drop from (bytes_over t n) ≡ drop from (bytes_over t l) ++ bytes_over t r
-from_left t l r n from c h = ap (λ (x : List ℕ). drop from x) c.bytes ∙ drop-append-le from (bytes_over t l) (bytes_over t r) (rw c.len h)
+module _ {S V E : Type 0} {s : Ghosts S} {step : V → ℕ → V × Bool} where
+  -- a walk over bytes that were read, and over what is read of no source
+  pub walked_over : {text : Table → List ℕ} {old new : S} {a b : V} {stopped : Bool} → ((file_system : FileSystem) →
+      s.consistent new file_system → walk step a (text (s.table old file_system)) ≡ (b, stopped)) → s.failures new ≡ s.failures old →
+      LeavesSource s old new → Walks {E = E} s step text old new a b (Ok stopped)
+  walked_over h count source = record { walked = h; prefix = λ file_system agrees. tt; count = count; source = source }
 
--- from a place in the right one on
-from_right : (t : Table) (l r n : Node) (from : ℕ) → IsCut t l r n → len_of l ≤ from →
-    drop from (bytes_over t n) ≡ drop (from - len_of l) (bytes_over t r)
-from_right t l r n from c h =
-    ap (λ (x : List ℕ). drop from x) c.bytes ∙ drop-append_right (bytes_over t l) (bytes_over t r) from (rw c.len h)
-    ∙ ap (λ (k : ℕ). drop (from - k) (bytes_over t r)) c.len
+  pub walked_here : {text : Table → List ℕ} {old : S} {a b : V} {stopped : Bool} → ((file_system : FileSystem) →
+      s.consistent old file_system → walk step a (text (s.table old file_system)) ≡ (b, stopped)) →
+      Walks {E = E} s step text old old a b (Ok stopped)
+  walked_here h = walked_over h refl (record { lengths = refl; table = refl; earlier = λ file_system agrees. agrees })
 
--- the walk stops in the left one
-pub cut_stop : {S : Type 0} (step : S → ℕ → S × Bool) (a b : S) (t : Table) (l r n : Node) (from : ℕ) → IsCut t l r n → from ≤ len_of l →
-    walk step a (drop from (bytes_over t l)) ≡ (b, true) → walk step a (drop from (bytes_over t n)) ≡ (b, true)
-cut_stop step a b t l r n from c h k = ap (λ (x : List ℕ). walk step a x) (from_left t l r n from c h)
-    ∙ walk_stop step a b (drop from (bytes_over t l)) (bytes_over t r) k
+  -- nothing was read
+  pub walked_none : {text : Table → List ℕ} {old new : S} {a : V} {r : Result Bool E} → IsErr r →
+      s.failures new ≡ raised (s.failures old) → LeavesSource s old new → Walks s step text old new a a r
+  walked_none {r = Ok x} is count source = absurd (false≢true is)
+  walked_none {text} {old} {r = Err e} is count source = record {
+    walked = λ file_system agrees. tt;
+    prefix = λ file_system agrees. record { prefix = []; rest = text (s.table old file_system); split = refl; walked = refl };
+    count = count;
+    source = source;
+  }
 
--- it goes on in the right one
-pub cut_on : {S : Type 0} (step : S → ℕ → S × Bool) (a b : S) (p : S × Bool) (t : Table) (l r n : Node) (from : ℕ) → IsCut t l r n →
-    from ≤ len_of l → walk step a (drop from (bytes_over t l)) ≡ (b, false) → walk step b (drop 0 (bytes_over t r)) ≡ p →
-    walk step a (drop from (bytes_over t n)) ≡ p
-cut_on step a b p t l r n from c h k m = ap (λ (x : List ℕ). walk step a x) (from_left t l r n from c h)
-    ∙ walk_on step a b p (drop from (bytes_over t l)) (bytes_over t r) k m
+  module _ (text : Table → List ℕ) {old new : S} {a b : V} where
+    -- the text in another spelling
+    pub same_text : {other : Table → List ℕ} {r : Result Bool E} → Walks s step other old new a b r → ((file_system : FileSystem) →
+        s.consistent old file_system → other (s.table old file_system) ≡ text (s.table old file_system)) →
+        Walks s step text old new a b r
+    same_text {r = r} w e = record {
+      walked = λ file_system agrees. subst (λ xs. IfOk r (λ stopped. walk step a xs ≡ (b, stopped)))
+          (e file_system (w.source.earlier file_system agrees)) (w.walked file_system agrees);
+      prefix = λ file_system agrees. subst (λ xs. OnErr r (WalkedPrefix step a b xs))
+          (e file_system (w.source.earlier file_system agrees)) (w.prefix file_system agrees);
+      count = w.count;
+      source = w.source;
+    }
 
--- the left one could not be read to its end
-pub cut_prefix : {S : Type 0} (step : S → ℕ → S × Bool) (a b : S) (t : Table) (l r n : Node) (from : ℕ) → IsCut t l r n → from ≤ len_of l →
-    WalkedPrefix step a b (drop from (bytes_over t l)) → WalkedPrefix step a b (drop from (bytes_over t n))
-cut_prefix step a b t l r n from c h k = prefix_first step a b (drop from (bytes_over t n)) (drop from (bytes_over t l)) (bytes_over t r)
-    (from_left t l r n from c h) k
+    module _ (left right : Table → List ℕ) (split : (file_system : FileSystem) → s.consistent old file_system →
+        text (s.table old file_system) ≡ left (s.table old file_system) ++ right (s.table old file_system)) where
+      -- it stopped in the first part of the text
+      pub stopped_first : Walks {E = E} s step left old new a b (Ok true) → Walks {E = E} s step text old new a b (Ok true)
+      stopped_first w = walked_over (λ file_system agrees.
+          let t = s.table old file_system in
+          ap (λ xs. walk step a xs) (split file_system (w.source.earlier file_system agrees))
+          ∙ walk_stop step a b (left t) (right t) (w.walked file_system agrees)) w.count w.source
 
--- the right one could not
-pub cut_on_prefix : {S : Type 0} (step : S → ℕ → S × Bool) (a b d : S) (t : Table) (l r n : Node) (from : ℕ) → IsCut t l r n →
-    from ≤ len_of l → walk step a (drop from (bytes_over t l)) ≡ (b, false) → WalkedPrefix step b d (drop 0 (bytes_over t r)) →
-    WalkedPrefix step a d (drop from (bytes_over t n))
-cut_on_prefix step a b d t l r n from c h k m = prefix_second step a b d (drop from (bytes_over t n)) (drop from (bytes_over t l))
-    (bytes_over t r) (from_left t l r n from c h) k m
+      -- that could not be read to its end
+      pub failed_first : {e : E} {r : Result Bool E} → IsErr r → Walks s step left old new a b (Err e) → Walks s step text old new a b r
+      failed_first {r = Ok x} is w = absurd (false≢true is)
+      failed_first {r = Err e} is w = record {
+        walked = λ file_system agrees. tt;
+        prefix = λ file_system agrees.
+            let t = s.table old file_system in
+            prefix_first step a b (text t) (left t) (right t) (split file_system (w.source.earlier file_system agrees))
+            (w.prefix file_system agrees);
+        count = w.count;
+        source = w.source;
+      }
 
--- it begins in the right one
-pub cut_past : (P : List ℕ → Type 0) (t : Table) (l r n : Node) (from : ℕ) → IsCut t l r n → len_of l ≤ from →
-    P (drop (from - len_of l) (bytes_over t r)) → P (drop from (bytes_over t n))
-cut_past P t l r n from c h k = rw (from_right t l r n from c h) k
+      -- it goes on in the second part
+      pub then_second : {mid : S} {m : V} {r : Result Bool E} → Walks {E = E} s step left old mid a m (Ok false) →
+          Walks s step right mid new m b r → Walks s step text old new a b r
+      then_second {mid} {m} {r} w v = record {
+        walked = λ file_system agrees.
+            let t = s.table old file_system in
+            let before = v.source.earlier file_system agrees in
+            let on : IfOk r (λ stopped. walk step m (right t) ≡ (b, stopped)) = rw w.source.table at v.walked file_system agrees in
+            IfOk-weaker r _ _ (λ stopped on. ap (λ xs. walk step a xs) (split file_system (w.source.earlier file_system before))
+            ∙ walk_on step a m (b, stopped) (left t) (right t) (w.walked file_system before) on) on;
+        prefix = λ file_system agrees.
+            let t = s.table old file_system in
+            let before = v.source.earlier file_system agrees in
+            let some : OnErr r (WalkedPrefix step m b (right t)) = rw w.source.table at v.prefix file_system agrees in
+            on_err_weaker r (λ prefix. prefix_second step a m b (text t) (left t) (right t)
+            (split file_system (w.source.earlier file_system before)) (w.walked file_system before) prefix) some;
+        count = rw w.count at v.count;
+        source = record {
+          lengths = v.source.lengths ∙ w.source.lengths;
+          table = v.source.table ∙ w.source.table;
+          earlier = λ file_system agrees. w.source.earlier file_system (v.source.earlier file_system agrees);
+        };
+      }

@@ -4,7 +4,6 @@ use Rattle.std.proofs.Common.{◌∙◌, ap, arith, append_assoc}
 use Rattle.std.specs.Prelude.{replicate, if◌then◌else◌}
 use Rattle.std.proofs.lemmas.List.{drop-take, drop-drop, take_more, take-append-drop, take-replicate, replicate-append-replicate}
 use Rattle.std.proofs.Math.Seq.{take-add}
-use Rattle.cord_io.specs.Table.{Table}
 use Rattle.cord_iter.specs.Walk.{walk, WalkedPrefix}
 
 -- from where a walk ended, on over more bytes unless it stopped
@@ -101,41 +100,16 @@ run_on step a b p byte done count n piece h k = ap (λ (l : List ℕ). walk step
     ∙ walk_on step a b p (replicate done byte) (replicate count byte) h (rw (take-replicate count n byte piece) at k)
 
 -- a range: some of it, and a piece
-range_next : (xs : List ℕ) (s a b : ℕ) → take (a + b) (drop s xs) ≡ take a (drop s xs) ++ take b (drop (s + a) xs)
+pub range_next : (xs : List ℕ) (s a b : ℕ) → take (a + b) (drop s xs) ≡ take a (drop s xs) ++ take b (drop (s + a) xs)
 range_next xs s a b = take-add a b (drop s xs) ∙ ap (λ (l : List ℕ). take a (drop s xs) ++ take b l) (drop-drop a s xs)
 
 -- the same, and the rest
-range_split : (xs : List ℕ) (s a b n : ℕ) → a + b ≤ n → take n (drop s xs) ≡ (take a (drop s xs) ++ take b (drop (s + a) xs))
+pub range_split : (xs : List ℕ) (s a b n : ℕ) → a + b ≤ n → take n (drop s xs) ≡ (take a (drop s xs) ++ take b (drop (s + a) xs))
     ++ take (n - (a + b)) (drop (s + (a + b)) xs)
 range_split xs s a b n h =
     let e : n ≡ (a + b) + (n - (a + b)) = omega arith in
     ap (λ (k : ℕ). take k (drop s xs)) e ∙ range_next xs s (a + b) (n - (a + b))
     ∙ ap (λ (l : List ℕ). l ++ take (n - (a + b)) (drop (s + (a + b)) xs)) (range_next xs s a b)
-
-pub func_stop : {S : Type 0} (step : S → ℕ → S × Bool) (a b c : S) (t : Table) (id s len done count : ℕ) → done + count ≤ len →
-    walk step a (take done (drop s (t id))) ≡ (b, false) → walk step b (take count (drop (s + done) (t id))) ≡ (c, true) →
-    walk step a (take len (drop s (t id))) ≡ (c, true)
-func_stop step a b c t id s len done count inside h k = walk_stop_between step a b c (take len (drop s (t id))) (take done (drop s (t id)))
-    (take count (drop (s + done) (t id))) (take (len - (done + count)) (drop (s + (done + count)) (t id)))
-    (range_split (t id) s done count len inside) h k
-
-pub func_on : {S : Type 0} (step : S → ℕ → S × Bool) (a b : S) (p : S × Bool) (t : Table) (id s done count : ℕ) →
-    walk step a (take done (drop s (t id))) ≡ (b, false) → walk step b (take count (drop (s + done) (t id))) ≡ p →
-    walk step a (take (done + count) (drop s (t id))) ≡ p
-func_on step a b p t id s done count h k = ap (λ (l : List ℕ). walk step a l) (range_next (t id) s done count)
-    ∙ walk_on step a b p (take done (drop s (t id))) (take count (drop (s + done) (t id))) h k
-
--- some of a range was walked over, and the next piece was not read
-pub func_prefix : {S : Type 0} (step : S → ℕ → S × Bool) (a b c : S) (t : Table) (id s len done : ℕ) → done ≤ len → c ≡ b →
-    walk step a (take done (drop s (t id))) ≡ (b, false) → WalkedPrefix step a c (take len (drop s (t id)))
-func_prefix step a b c t id s len done inside e h =
-    let m : len ≡ done + (len - done) = omega arith in
-    record {
-      prefix = take done (drop s (t id));
-      rest = take (len - done) (drop (s + done) (t id));
-      split = ap (λ (k : ℕ). take k (drop s (t id))) m ∙ range_next (t id) s done (len - done);
-      walked = rw e h;
-    }
 
 -- what is after a place in a range
 pub range_rest : (xs : List ℕ) (s len from : ℕ) → from ≤ len → take (len - from) (drop (s + from) xs) ≡ drop from (take len (drop s xs))

@@ -8,6 +8,7 @@ ghost use Rattle.cord_node.specs.Tree.{len_of, IsSound};
 ghost use Rattle.cord_node.specs.Tables.{bytes_over, FitsIn};
 ghost use Rattle.cord_core.specs.Cord.{text_len, bytes_of, CordFitsIn};
 ghost use Rattle.cord_iter.specs.Walk.{walk, WalkedPrefix};
+ghost use Rattle.cord_iter.specs.inner.Walk.{Walks};
 
 use crate::pieces::piece_len;
 use crate::{PIECE_LEN, Visitor};
@@ -77,14 +78,8 @@ fn walk_node<S: Source, V: Visitor>(
     requires sound { IsSound node.now }
     requires inside { from ≤ len_of node.now }
     requires fits { FitsIn (S.lengths src.old) node.now }
-    ensures walked { (file_system : FileSystem) → S.consistent src.new file_system →
-        IfOk result (λ stopped. walk V.step (V.state visitor.old)
-        (drop from (bytes_over (S.table src.old file_system) node.now)) ≡ (V.state visitor.new, stopped)) }
-    ensures prefix { (file_system : FileSystem) → S.consistent src.new file_system →
-        OnErr result (WalkedPrefix V.step (V.state visitor.old) (V.state visitor.new)
-        (drop from (bytes_over (S.table src.old file_system) node.now))) }
-    ensures count { S.failures src.new ≡ count_after (is_err result) (S.failures src.old) }
-    ensures source { LeavesSource ⟦<S as Source>⟧ src.old src.new }
+    ensures { Walks ⟦<S as Source>⟧ V.step (λ t. drop from (bytes_over t node.now)) src.old src.new
+        (V.state visitor.old) (V.state visitor.new) result }
 {
     match node {
         Node::Leaf {
@@ -137,15 +132,8 @@ fn walk_func<S: Source, V: Visitor>(
 ) -> Result<bool, ReadFault>
     requires fits { start + len ≤ length_at (S.lengths src.old) id.0 }
     requires limit { start + len ≤ MAX_LEN }
-    ensures walked { (file_system : FileSystem) → S.consistent src.new file_system →
-        IfOk result (λ stopped. walk V.step (V.state visitor.old)
-        (take len (drop start (S.table src.old file_system id.0)))
-        ≡ (V.state visitor.new, stopped)) }
-    ensures prefix { (file_system : FileSystem) → S.consistent src.new file_system →
-        OnErr result (WalkedPrefix V.step (V.state visitor.old) (V.state visitor.new)
-        (take len (drop start (S.table src.old file_system id.0)))) }
-    ensures count { S.failures src.new ≡ count_after (is_err result) (S.failures src.old) }
-    ensures source { LeavesSource ⟦<S as Source>⟧ src.old src.new }
+    ensures { Walks ⟦<S as Source>⟧ V.step (λ t. take len (drop start (t id.0))) src.old src.new
+        (V.state visitor.old) (V.state visitor.new) result }
 {
     let mut done = 0;
     while done < len {
@@ -169,12 +157,8 @@ fn walk_piece<S: Source, V: Visitor>(
     requires some { 0 < count }
     requires piece { count ≤ PIECE_LEN }
     requires fits { start + count ≤ length_at (S.lengths src.old) id.0 }
-    ensures walked { (file_system : FileSystem) → S.consistent src.new file_system →
-        IfOk result (λ stopped. walk V.step (V.state visitor.old)
-        (take count (drop start (S.table src.old file_system id.0))) ≡ (V.state visitor.new, stopped)) }
-    ensures stays { OnErr result (V.state visitor.new ≡ V.state visitor.old) }
-    ensures count { S.failures src.new ≡ count_after (is_err result) (S.failures src.old) }
-    ensures source { LeavesSource ⟦<S as Source>⟧ src.old src.new }
+    ensures { Walks ⟦<S as Source>⟧ V.step (λ t. take count (drop start (t id.0))) src.old src.new
+        (V.state visitor.old) (V.state visitor.new) result }
 {
     let mut buffer = [0; PIECE_LEN];
     let piece = &mut buffer[..count];

@@ -1,19 +1,14 @@
-use Rattle.std.proofs.Common.{◌-◌, ◌≡◌, ◌≤◌, false, take, drop}
-use Rattle.cord_io.specs.Device.{FileSystem}
-use Rattle.cord_iter.specs.Walk.{walk}
+use Rattle.std.proofs.Common.{◌-◌, ◌≤◌, false, take, drop, Ok}
+use Rattle.cord_io.specs.declared.faults.ReadFault.{ReadFault}
+use Rattle.cord_iter.specs.inner.Walk.{Walks}
 use Rattle.cord_iter.proofs.forward.walk_func.Given as goal
 
 -- the first `done` bytes of the range were walked over without a stop, and no read has failed
 abbrev pub invariant-loop-done : goal.invariant-loop-done
 invariant-loop-done g l = record {
   in_range : l.done ≤ l.len;
-  walked : (file_system : FileSystem) → g.S.Source.consistent l.src file_system → walk g.V.Visitor.step
-      (g.V.Visitor.state l.initial.visitor)
-      (take l.done (drop l.start (g.S.Source.table l.initial.src file_system l.id.0))) ≡ (g.V.Visitor.state l.visitor, false);
-  reads : g.S.Source.failures l.src ≡ g.S.Source.failures l.initial.src;
-  lengths : g.S.Source.lengths l.src ≡ g.S.Source.lengths l.initial.src;
-  table : g.S.Source.table l.src ≡ g.S.Source.table l.initial.src;
-  earlier : (file_system : FileSystem) → g.S.Source.consistent l.src file_system → g.S.Source.consistent l.initial.src file_system;
+  walks : Walks {E = ReadFault} g.S.Source g.V.Visitor.step (λ t. take l.done (drop l.start (t l.id.0))) l.initial.src l.src
+      (g.V.Visitor.state l.initial.visitor) (g.V.Visitor.state l.visitor) (Ok false);
 }
 
 abbrev pub decreases-loop-done : goal.decreases-loop-done
