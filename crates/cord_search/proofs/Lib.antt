@@ -9,3 +9,4 @@ pub mod Repeating
 pub mod Moving
 pub mod Cuts
 pub mod Lasts
+pub mod Reading

@@ -15,6 +15,13 @@ pub record HasRead {S A E : Type 0} (s : Ghosts S) (old new : S) (result : Resul
   pub table : s.table new ≡ s.table old
   pub earlier : (file_system : FileSystem) → s.consistent new file_system → s.consistent old file_system
 
+-- the same of reads none of which failed
+pub record WasRead {S : Type 0} (s : Ghosts S) (old new : S) : Type 0 where
+  pub reads : s.failures new ≡ s.failures old
+  pub lengths : s.lengths new ≡ s.lengths old
+  pub table : s.table new ≡ s.table old
+  pub earlier : (file_system : FileSystem) → s.consistent new file_system → s.consistent old file_system
+
 -- the answer is the first place at `from` or later where the bytes stand in the text of x, over the tables of the source
 abbrev pub FindsBytes : {S E : Type 0} → Ghosts S → S → S → Option Node → ℕ → List ℕ → Result (Option ℕ) E → Type 0
 FindsBytes s old new x from bytes result = (file_system : FileSystem) → s.consistent new file_system →

@@ -1,5 +1,6 @@
 use Rattle.std.proofs.Common.{◌≡◌, ◌∙◌, refl, arith}
 use Rattle.cord_pos.specs.Spans.{span_len, IsSpanOf}
+use Rattle.cord_search.proofs.Reading.{not_read, read_on}
 use Rattle.cord_search.proofs.Ranges.{cord_len}
 use Rattle.cord_search.proofs.Finding.{first_on, first_past, first_found, first_none}
 use Rattle.cord_search.proofs.Moving.{set_valid}
@@ -13,10 +14,7 @@ loop-place-init g c = record {
   none = c.requires.none;
   cord = c.set-position.ensures.cord;
   valid = rw c.set-position.ensures.index (set_valid c.args.x.now c.args.from c.requires.start);
-  reads = refl;
-  lengths = refl;
-  table = refl;
-  earlier = λ file_system agrees. agrees;
+  read = not_read;
 }
 
 pub span_from-span-requires-clause-inside : goal.span_from-span-requires-clause-inside
@@ -28,7 +26,7 @@ first_piece-requires-clause-fits g c =
     let x = c.args.x.now in
     let span : IsSpanOf x c.loop-place.place c.span_from-span.result =
     rw c.loop-place.invariant.cord at c.span_from-span.ensures.span in
-    rw c.loop-place.invariant.lengths (c.in_block-block.ensures.prefix.fits (g.S.Source.lengths c.args.src.now)
+    rw c.loop-place.invariant.read.lengths (c.in_block-block.ensures.prefix.fits (g.S.Source.lengths c.args.src.now)
     (span.fits (g.S.Source.lengths c.args.src.now) c.requires.fits))
 
 pub loop-place-preserved-in-Some : goal.loop-place-preserved-in-Some
@@ -41,7 +39,7 @@ loop-place-preserved-in-Some g c =
       low = omega (arith, c.loop-place.invariant.low);
       high = omega (arith, whole, span.inside, c.len-len.ensures.stored);
       none = λ file_system agrees.
-          let reported = g.met.S.Source.lengths_of_table c.args.src.now file_system (c.loop-place.invariant.earlier file_system agrees) in
+          let reported = g.met.S.Source.lengths_of_table c.args.src.now file_system (c.loop-place.invariant.read.earlier file_system agrees) in
           let none = first_past (g.S.Source.lengths c.args.src.now) (g.S.Source.table c.args.src.now file_system) x s c.args.byte
           c.args.from
           c.loop-place.place reported c.requires.fits c.set-position.ensures.sound span c.in-Some.ensures.without
@@ -49,10 +47,7 @@ loop-place-preserved-in-Some g c =
           rw whole none;
       cord = c.span_from-span.ensures.cord ∙ c.loop-place.invariant.cord;
       valid = c.span_from-span.ensures.valid;
-      reads = c.loop-place.invariant.reads;
-      lengths = c.loop-place.invariant.lengths;
-      table = c.loop-place.invariant.table;
-      earlier = c.loop-place.invariant.earlier;
+      read = c.loop-place.invariant.read;
     }
 
 pub returns-in-Some-memchr-clause-first : goal.returns-in-Some-memchr-clause-first
@@ -62,13 +57,13 @@ returns-in-Some-memchr-clause-first g c = λ file_system agrees.
     let place = c.loop-place.place in
     let piece = c.in_ok-piece.piece.now in
     let before = c.in_ok-piece.ensures.read.earlier file_system agrees in
-    let reported = g.met.S.Source.lengths_of_table c.args.src.now file_system (c.loop-place.invariant.earlier file_system before) in
+    let reported = g.met.S.Source.lengths_of_table c.args.src.now file_system (c.loop-place.invariant.read.earlier file_system before) in
     let span : IsSpanOf x place c.span_from-span.result =
     rw c.loop-place.invariant.cord at c.span_from-span.ensures.span in
     let block = c.in_block-block.ensures in
     let text = block_piece (g.S.Source.lengths c.args.src.now) t x place c.span_from-span.result c.in_block-block.result piece reported
     c.requires.fits span block.some block.few block.prefix c.in_ok-piece.ensures.inside
-    (rw c.loop-place.invariant.table at c.in_ok-piece.ensures.text file_system agrees) in
+    (rw c.loop-place.invariant.read.table at c.in_ok-piece.ensures.text file_system agrees) in
     first_found t x piece c.args.byte c.args.from place c.in-Some-memchr.found _ c.in-Some-memchr.is c.memchr.ensures
     c.loop-place.invariant.low text (c.loop-place.invariant.none file_system before)
 
@@ -86,24 +81,21 @@ loop-place-preserved g c =
           let t = g.S.Source.table c.args.src.now file_system in
           let piece = c.in_ok-piece.piece.now in
           let before = c.in_ok-piece.ensures.read.earlier file_system agrees in
-          let reported = g.met.S.Source.lengths_of_table c.args.src.now file_system (c.loop-place.invariant.earlier file_system before) in
+          let reported = g.met.S.Source.lengths_of_table c.args.src.now file_system (c.loop-place.invariant.read.earlier file_system before) in
           let text = block_piece (g.S.Source.lengths c.args.src.now) t x place c.span_from-span.result c.in_block-block.result piece
           reported c.requires.fits span block.some block.few block.prefix c.in_ok-piece.ensures.inside
-          (rw c.loop-place.invariant.table at c.in_ok-piece.ensures.text file_system agrees) in
+          (rw c.loop-place.invariant.read.table at c.in_ok-piece.ensures.text file_system agrees) in
           first_on t x piece c.args.byte c.args.from place _ c.in-None.is c.memchr.ensures text
           (c.loop-place.invariant.none file_system before);
       cord = c.span_from-span.ensures.cord ∙ c.loop-place.invariant.cord;
       valid = c.span_from-span.ensures.valid;
-      reads = c.in_ok-piece.ensures.read.count ∙ c.loop-place.invariant.reads;
-      lengths = c.first_piece.ensures.read.lengths ∙ c.loop-place.invariant.lengths;
-      table = c.first_piece.ensures.read.table ∙ c.loop-place.invariant.table;
-      earlier = λ file_system agrees. c.loop-place.invariant.earlier file_system (c.in_ok-piece.ensures.read.earlier file_system agrees);
+      read = read_on c.loop-place.invariant.read c.in_ok-piece.ensures.read;
     }
 
 pub returns-clause-first : goal.returns-clause-first
 returns-clause-first g c = λ file_system agrees.
     let t = g.S.Source.table c.args.src.now file_system in
-    let reported = g.met.S.Source.lengths_of_table c.args.src.now file_system (c.loop-place.invariant.earlier file_system agrees) in
+    let reported = g.met.S.Source.lengths_of_table c.args.src.now file_system (c.loop-place.invariant.read.earlier file_system agrees) in
     let len = cord_len (g.S.Source.lengths c.args.src.now) t c.args.x.now reported c.set-position.ensures.sound c.requires.fits in
     first_none t c.args.x.now c.args.byte c.args.from c.loop-place.place (omega (arith, c.loop-place-test.false, c.len-len.ensures.stored))
     len (c.loop-place.invariant.none file_system agrees)

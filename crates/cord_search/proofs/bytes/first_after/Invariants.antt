@@ -2,6 +2,7 @@ use Rattle.std.proofs.Common.{◌≡◌, ◌-◌, ◌≤◌, [], ◌∷◌}
 use Rattle.std.specs.Prelude.{IsSome}
 use Rattle.cord_io.specs.Device.{FileSystem}
 use Rattle.cord_search.specs.inner.Pieces.{StandsNot}
+use Rattle.cord_search.specs.inner.Searches.{WasRead}
 use Rattle.cord_search.proofs.bytes.first_after.Given as goal
 
 -- the byte stands at no place before, the position is one of the text, and no read has failed
@@ -13,10 +14,7 @@ invariant-loop-place g l = record {
       (l.byte ∷ []) l.from l.place;
   cord : l.position.cord ≡ l.x;
   valid : IsSome l.position.index;
-  reads : g.S.Source.failures l.src ≡ g.S.Source.failures l.initial.src;
-  lengths : g.S.Source.lengths l.src ≡ g.S.Source.lengths l.initial.src;
-  table : g.S.Source.table l.src ≡ g.S.Source.table l.initial.src;
-  earlier : (file_system : FileSystem) → g.S.Source.consistent l.src file_system → g.S.Source.consistent l.initial.src file_system;
+  read : WasRead g.S.Source l.initial.src l.src;
 }
 
 abbrev pub decreases-loop-place : goal.decreases-loop-place

@@ -4,6 +4,7 @@ use Rattle.cord_io.specs.Device.{FileSystem}
 use Rattle.cord_core.specs.Cord.{bytes_of}
 use Rattle.cord_search.specs.inner.Pieces.{StandsNot}
 use Rattle.cord_search.specs.inner.Lasts.{IsLastSoFar}
+use Rattle.cord_search.specs.inner.Searches.{WasRead}
 use Rattle.cord_search.proofs.last.last_place.Given as goal
 
 -- the text stands at no place from `high` on, what was found lies right before `low`, and no read has failed
@@ -17,10 +18,7 @@ invariant-loop-low g l = record {
       IsLastSoFar (g.S.Source.table l.initial.src file_system) l.x (bytes_of (g.S.Source.table l.initial.src file_system) l.s) l.found l.low;
   none : (file_system : FileSystem) → g.S.Source.consistent l.src file_system → StandsNot (g.S.Source.table l.initial.src file_system) l.x
       (bytes_of (g.S.Source.table l.initial.src file_system) l.s) l.high l.limit;
-  reads : g.S.Source.failures l.src ≡ g.S.Source.failures l.initial.src;
-  lengths : g.S.Source.lengths l.src ≡ g.S.Source.lengths l.initial.src;
-  table : g.S.Source.table l.src ≡ g.S.Source.table l.initial.src;
-  earlier : (file_system : FileSystem) → g.S.Source.consistent l.src file_system → g.S.Source.consistent l.initial.src file_system;
+  read : WasRead g.S.Source l.initial.src l.src;
 }
 
 abbrev pub decreases-loop-low : goal.decreases-loop-low

@@ -4,6 +4,7 @@ use Rattle.cord_core.specs.Cord.{text_len, bytes_of}
 use Rattle.cord_io.specs.Device.{FileSystem}
 use Rattle.cord_pos.specs.Spans.{span_len}
 use Rattle.cord_search.specs.inner.Pieces.{IsOrderOf}
+use Rattle.cord_search.proofs.Reading.{read_on, read_all}
 use Rattle.cord_search.proofs.Ranges.{cord_len, cord_reported}
 use Rattle.cord_search.proofs.Sharing.{alike_on, same_on}
 use Rattle.cord_search.proofs.Comparing.{cmp_equal, order_of_ranges, different, no_different, range_len, cord_limit}
@@ -20,11 +21,11 @@ ranges_are g c file_system agrees =
     let t = g.S.Source.table c.args.src.now file_system in
     let lengths = g.S.Source.lengths c.args.src.now in
     let before = c.in_ok-ordering-in-Apart.ensures.read.earlier file_system agrees in
-    let reported = g.met.S.Source.lengths_of_table c.args.src.now file_system (c.loop-done.invariant.earlier file_system before) in
+    let reported = g.met.S.Source.lengths_of_table c.args.src.now file_system (c.loop-done.invariant.read.earlier file_system before) in
     order_of_ranges t c.args.x.now (c.args.i + c.loop-done.done) c.args.y.now (c.args.j + c.loop-done.done) c.in-Apart.span c.in-Apart.other
     c.in_ok-ordering-in-Apart.ordering (cord_reported lengths t c.args.x.now reported c.requires.left_fits)
     (cord_reported lengths t c.args.y.now reported c.requires.right_fits) c.in-Apart.ensures.ahead.0 c.in-Apart.ensures.ahead.1
-    c.in-Apart.ensures.ahead.2 (rw c.loop-done.invariant.table at c.in_ok-ordering-in-Apart.ensures.order file_system agrees)
+    c.in-Apart.ensures.ahead.2 (rw c.loop-done.invariant.read.table at c.in_ok-ordering-in-Apart.ensures.order file_system agrees)
 
 pub overflow_add-i : goal.overflow_add-i
 overflow_add-i g c =
@@ -39,27 +40,24 @@ overflow_add-j g c =
     omega (arith, inside, below, cord_limit c.args.y.now c.requires.right_sound)
 
 pub order_of_spans-requires-clause-left_fits : goal.order_of_spans-requires-clause-left_fits
-order_of_spans-requires-clause-left_fits g c = rw c.loop-done.invariant.lengths
+order_of_spans-requires-clause-left_fits g c = rw c.loop-done.invariant.read.lengths
     (c.in-Apart.ensures.ahead.0.fits (g.S.Source.lengths c.args.src.now) c.requires.left_fits)
 
 pub order_of_spans-requires-clause-right_fits : goal.order_of_spans-requires-clause-right_fits
-order_of_spans-requires-clause-right_fits g c = rw c.loop-done.invariant.lengths
+order_of_spans-requires-clause-right_fits g c = rw c.loop-done.invariant.read.lengths
     (c.in-Apart.ensures.ahead.1.fits (g.S.Source.lengths c.args.src.now) c.requires.right_fits)
 
 pub loop-done-preserved-in-Same : goal.loop-done-preserved-in-Same
 loop-done-preserved-in-Same g c = record {
   in_range = omega (arith, c.in-Same.ensures.ahead.1, c.loop-done-test.true, c.loop-done.invariant.in_range);
   same = λ file_system agrees.
-      let reported = g.met.S.Source.lengths_of_table c.args.src.now file_system (c.loop-done.invariant.earlier file_system agrees) in
+      let reported = g.met.S.Source.lengths_of_table c.args.src.now file_system (c.loop-done.invariant.read.earlier file_system agrees) in
       alike_on (g.S.Source.lengths c.args.src.now) (g.S.Source.table c.args.src.now file_system) c.args.x.now c.args.i c.args.y.now c.args.j
       c.loop-done.done c.in-Same.count reported c.requires.left_fits c.requires.right_fits c.in-Same.ensures.ahead.2
       (c.loop-done.invariant.same file_system agrees);
   left_way = c.in-Same.ensures.left_way;
   right_way = c.in-Same.ensures.right_way;
-  reads = c.loop-done.invariant.reads;
-  lengths = c.loop-done.invariant.lengths;
-  table = c.loop-done.invariant.table;
-  earlier = c.loop-done.invariant.earlier;
+  read = c.loop-done.invariant.read;
 }
 
 pub loop-done-preserved : goal.loop-done-preserved
@@ -78,11 +76,7 @@ loop-done-preserved g c = record {
       (c.loop-done.invariant.same file_system (c.in_ok-ordering-in-Apart.ensures.read.earlier file_system agrees)));
   left_way = c.in-Apart.ensures.left_way;
   right_way = c.in-Apart.ensures.right_way;
-  reads = c.in_ok-ordering-in-Apart.ensures.read.count ∙ c.loop-done.invariant.reads;
-  lengths = c.order_of_spans.ensures.read.lengths ∙ c.loop-done.invariant.lengths;
-  table = c.order_of_spans.ensures.read.table ∙ c.loop-done.invariant.table;
-  earlier = λ file_system agrees. c.loop-done.invariant.earlier file_system
-      (c.in_ok-ordering-in-Apart.ensures.read.earlier file_system agrees);
+  read = read_on c.loop-done.invariant.read c.in_ok-ordering-in-Apart.ensures.read;
 }
 
 pub returns-in_default : goal.returns-in_default
@@ -95,7 +89,7 @@ returns-in_default g c = record {
       let done = c.loop-done.done in
       let n = span_len c.in-Apart.span in
       let before = c.in_ok-ordering-in-Apart.ensures.read.earlier file_system agrees in
-      let reported = g.met.S.Source.lengths_of_table c.args.src.now file_system (c.loop-done.invariant.earlier file_system before) in
+      let reported = g.met.S.Source.lengths_of_table c.args.src.now file_system (c.loop-done.invariant.read.earlier file_system before) in
       let left : (c.args.i + done) + n ≤ text_len x = c.in-Apart.ensures.ahead.0.inside in
       let right : (c.args.j + done) + n ≤ text_len y = omega (arith, c.in-Apart.ensures.ahead.1.inside, c.in-Apart.ensures.ahead.2) in
       let len = range_len t x (c.args.i + done) n (cord_len lengths t x reported c.requires.left_sound c.requires.left_fits) (λ _. left)
@@ -106,20 +100,14 @@ returns-in_default g c = record {
       (omega (arith, c.in-Apart.ensures.ahead.3, c.min-both.ensures, c.loop-done-test.true)) len
       (ranges_are g (goal.at.returns-in_default g c).In_ok-ordering-in-Apart file_system agrees) c.in_default.not-Equal
       (c.loop-done.invariant.same file_system before);
-  read = record {
-    count = c.in_ok-ordering-in-Apart.ensures.read.count ∙ c.loop-done.invariant.reads;
-    lengths = c.order_of_spans.ensures.read.lengths ∙ c.loop-done.invariant.lengths;
-    table = c.order_of_spans.ensures.read.table ∙ c.loop-done.invariant.table;
-    earlier = λ file_system agrees. c.loop-done.invariant.earlier file_system
-        (c.in_ok-ordering-in-Apart.ensures.read.earlier file_system agrees);
-  };
+  read = read_all (read_on c.loop-done.invariant.read c.in_ok-ordering-in-Apart.ensures.read);
 }
 
 pub returns-clause-order : goal.returns-clause-order
 returns-clause-order g c = λ file_system agrees.
     let t = g.S.Source.table c.args.src.now file_system in
     let lengths = g.S.Source.lengths c.args.src.now in
-    let reported = g.met.S.Source.lengths_of_table c.args.src.now file_system (c.loop-done.invariant.earlier file_system agrees) in
+    let reported = g.met.S.Source.lengths_of_table c.args.src.now file_system (c.loop-done.invariant.read.earlier file_system agrees) in
     let left = range_len t c.args.x.now c.args.i c.args.left
     (cord_len lengths t c.args.x.now reported c.requires.left_sound c.requires.left_fits) c.requires.left_inside in
     let right = range_len t c.args.y.now c.args.j c.args.right

@@ -2,6 +2,7 @@ use Rattle.std.proofs.Common.{◌≡◌, ◌-◌, ◌≤◌}
 use Rattle.cord_io.specs.Device.{FileSystem}
 use Rattle.cord_search.specs.inner.SharedParts.{IsWay}
 use Rattle.cord_search.specs.inner.Pieces.{AreSame}
+use Rattle.cord_search.specs.inner.Searches.{WasRead}
 use Rattle.cord_search.proofs.order.compare.Given as goal
 
 -- the first `done` bytes are the same, and no read has failed
@@ -12,10 +13,7 @@ invariant-loop-done g l = record {
       l.y l.j l.done;
   left_way : IsWay l.x l.way;
   right_way : IsWay l.y l.other_way;
-  reads : g.S.Source.failures l.src ≡ g.S.Source.failures l.initial.src;
-  lengths : g.S.Source.lengths l.src ≡ g.S.Source.lengths l.initial.src;
-  table : g.S.Source.table l.src ≡ g.S.Source.table l.initial.src;
-  earlier : (file_system : FileSystem) → g.S.Source.consistent l.src file_system → g.S.Source.consistent l.initial.src file_system;
+  read : WasRead g.S.Source l.initial.src l.src;
 }
 
 abbrev pub decreases-loop-done : goal.decreases-loop-done

@@ -3,6 +3,7 @@ use Rattle.std.specs.Ordering.{nat_cmp}
 use Rattle.std.specs.Cmp.Lexicographic.{slice_cmp}
 use Rattle.cord_io.specs.Device.{FileSystem}
 use Rattle.cord_pos.specs.Spans.{span_len, span_bytes}
+use Rattle.cord_search.proofs.Reading.{read_on, read_all}
 use Rattle.cord_search.proofs.Ranges.{span_whole, take_on}
 use Rattle.cord_search.proofs.Comparing.{apart, cmp_equal, cmp_same}
 use Rattle.cord_search.proofs.span_order.order_by.Given.{Over}
@@ -19,9 +20,9 @@ pieces_are : (g : Over) (c : In_ok-other_piece g) (file_system : FileSystem) →
 pieces_are g c file_system agrees =
     let t = g.S.Source.table c.args.src.now file_system in
     let after = c.in_ok-other_piece.ensures.read.earlier file_system agrees in (
-      rw c.loop-done.invariant.table at c.in_ok-piece.ensures.text file_system after
+      rw c.loop-done.invariant.read.table at c.in_ok-piece.ensures.text file_system after
           ∙ ap (λ (m : ℕ). take m (drop c.loop-done.done (span_bytes t c.args.span))) c.in_ok-piece.ensures.len,
-      rw (c.part_of.ensures.read.table, c.loop-done.invariant.table) at c.in_ok-other_piece.ensures.text file_system agrees
+      rw (c.part_of.ensures.read.table, c.loop-done.invariant.read.table) at c.in_ok-other_piece.ensures.text file_system agrees
           ∙ ap (λ (m : ℕ). take m (drop c.loop-done.done (span_bytes t c.args.other))) c.in_ok-other_piece.ensures.len,
     )
 
@@ -35,11 +36,7 @@ loop-done-preserved g c = record {
       let one = cmp_equal c.in_ok-piece.piece.now c.in_ok-other_piece.other_piece.now (sym c.order_of.ensures ∙ c.in-Equal.is) in
       take_on (span_bytes t c.args.span) (span_bytes t c.args.other) c.loop-done.done c.min-count.result
       (sym pieces.0 ∙ one ∙ pieces.1) (c.loop-done.invariant.same file_system before);
-  reads = c.in_ok-other_piece.ensures.read.count ∙ (c.in_ok-piece.ensures.read.count ∙ c.loop-done.invariant.reads);
-  lengths = c.part_of-in-loop-done.ensures.read.lengths ∙ (c.part_of.ensures.read.lengths ∙ c.loop-done.invariant.lengths);
-  table = c.part_of-in-loop-done.ensures.read.table ∙ (c.part_of.ensures.read.table ∙ c.loop-done.invariant.table);
-  earlier = λ file_system agrees. c.loop-done.invariant.earlier file_system
-      (c.in_ok-piece.ensures.read.earlier file_system (c.in_ok-other_piece.ensures.read.earlier file_system agrees));
+  read = read_on (read_on c.loop-done.invariant.read c.in_ok-piece.ensures.read) c.in_ok-other_piece.ensures.read;
 }
 
 pub returns-in_default : goal.returns-in_default
@@ -59,13 +56,7 @@ returns-in_default g c = record {
       (ap (λ (zs : List ℕ). length zs) (sym pieces.0) ∙ len ∙ ap (λ (zs : List ℕ). length zs) pieces.1)
       (c.order_of.ensures ∙ ap (λ (zs : List ℕ). slice_cmp nat_cmp zs other) pieces.0
       ∙ ap (slice_cmp nat_cmp (take n (drop done u))) pieces.1) c.in_default.not-Equal (c.loop-done.invariant.same file_system before);
-  read = record {
-    count = c.in_ok-other_piece.ensures.read.count ∙ (c.in_ok-piece.ensures.read.count ∙ c.loop-done.invariant.reads);
-    lengths = c.part_of-in-loop-done.ensures.read.lengths ∙ (c.part_of.ensures.read.lengths ∙ c.loop-done.invariant.lengths);
-    table = c.part_of-in-loop-done.ensures.read.table ∙ (c.part_of.ensures.read.table ∙ c.loop-done.invariant.table);
-    earlier = λ file_system agrees. c.loop-done.invariant.earlier file_system
-        (c.in_ok-piece.ensures.read.earlier file_system (c.in_ok-other_piece.ensures.read.earlier file_system agrees));
-  };
+  read = read_all (read_on (read_on c.loop-done.invariant.read c.in_ok-piece.ensures.read) c.in_ok-other_piece.ensures.read);
 }
 
 pub returns-clause-order : goal.returns-clause-order

@@ -1,6 +1,7 @@
 use Rattle.std.proofs.Common.{◌≡◌, ◌-◌, ◌≤◌, take}
 use Rattle.cord_io.specs.Device.{FileSystem}
 use Rattle.cord_pos.specs.Spans.{span_len, span_bytes}
+use Rattle.cord_search.specs.inner.Searches.{WasRead}
 use Rattle.cord_search.proofs.span_order.order_by.Given as goal
 
 -- the first `done` bytes are the same, and no read has failed
@@ -10,10 +11,7 @@ invariant-loop-done g l = record {
   same : (file_system : FileSystem) → g.S.Source.consistent l.src file_system →
       take l.done (span_bytes (g.S.Source.table l.initial.src file_system) l.span)
       ≡ take l.done (span_bytes (g.S.Source.table l.initial.src file_system) l.other);
-  reads : g.S.Source.failures l.src ≡ g.S.Source.failures l.initial.src;
-  lengths : g.S.Source.lengths l.src ≡ g.S.Source.lengths l.initial.src;
-  table : g.S.Source.table l.src ≡ g.S.Source.table l.initial.src;
-  earlier : (file_system : FileSystem) → g.S.Source.consistent l.src file_system → g.S.Source.consistent l.initial.src file_system;
+  read : WasRead g.S.Source l.initial.src l.src;
 }
 
 abbrev pub decreases-loop-done : goal.decreases-loop-done

@@ -2,6 +2,7 @@ use Rattle.std.proofs.Common.{◌≡◌, ℕ, ◌+◌, ◌≤◌, ◌∙◌, ap,
 use Rattle.cord_io.specs.Table.{HasLengths}
 use Rattle.cord_core.specs.Cord.{bytes_of}
 use Rattle.cord_search.specs.inner.Pieces.{IsPieceOf}
+use Rattle.cord_search.proofs.Reading.{read_on}
 use Rattle.cord_search.proofs.Standing.{misfit_on, window_none, window_some}
 use Rattle.cord_search.proofs.Cuts.{first_within, none_within}
 use Rattle.cord_search.proofs.substring.first_at_or_after.Goals as goal
@@ -14,16 +15,13 @@ loop-head-preserved-then-skipped-gt0 g c = record {
       let lengths = g.S.Source.lengths c.args.src.now in
       let head = c.args.finder.now in
       let reported : HasLengths lengths t = g.met.S.Source.lengths_of_table c.args.src.now file_system
-      (c.loop-head.invariant.earlier file_system agrees) in
+      (c.loop-head.invariant.read.earlier file_system agrees) in
       misfit_on lengths t c.args.x.now c.args.start c.loop-head.place c.misfits-skipped.result c.span_from-span.result head reported
       c.set-position.ensures.sound c.requires.fits (rw c.loop-head.invariant.cord at c.span_from-span.ensures.span)
       (rw c.needle-head.ensures at c.misfits-skipped.ensures.misfit) (c.loop-head.invariant.none file_system agrees);
   cord = c.span_from-span.ensures.cord ∙ c.loop-head.invariant.cord;
   valid = c.span_from-span.ensures.valid;
-  reads = c.loop-head.invariant.reads;
-  lengths = c.loop-head.invariant.lengths;
-  table = c.loop-head.invariant.table;
-  earlier = c.loop-head.invariant.earlier;
+  read = c.loop-head.invariant.read;
 }
 
 pub loop-head-preserved : goal.loop-head-preserved
@@ -35,17 +33,14 @@ loop-head-preserved g c = record {
       let head = c.args.finder.now in
       let before = c.in_ok-window.ensures.read.earlier file_system agrees in
       let text : IsPieceOf t c.args.x.now c.loop-head.place window =
-      rw (c.loop-head.invariant.table, c.span_from-span.ensures.cord, c.loop-head.invariant.cord)
+      rw (c.loop-head.invariant.read.table, c.span_from-span.ensures.cord, c.loop-head.invariant.cord)
       at c.in_ok-window.ensures.text file_system agrees in
       let enough : length head ≤ length window = rw c.needle-head.ensures at c.in_ok-window.ensures.enough in
       rw c.needle-head.ensures (window_none t c.args.x.now c.args.start c.loop-head.place window head c.find.result c.in-None.is
       c.find.ensures enough text (c.loop-head.invariant.none file_system before));
   cord = c.in_ok-window.ensures.cord ∙ c.span_from-span.ensures.cord ∙ c.loop-head.invariant.cord;
   valid = c.in_ok-window.ensures.valid;
-  reads = c.in_ok-window.ensures.read.count ∙ c.loop-head.invariant.reads;
-  lengths = c.window_at.ensures.read.lengths ∙ c.loop-head.invariant.lengths;
-  table = c.window_at.ensures.read.table ∙ c.loop-head.invariant.table;
-  earlier = λ file_system agrees. c.loop-head.invariant.earlier file_system (c.in_ok-window.ensures.read.earlier file_system agrees);
+  read = read_on c.loop-head.invariant.read c.in_ok-window.ensures.read;
 }
 
 pub returns-in-Some-clause-first : goal.returns-in-Some-clause-first
@@ -55,7 +50,7 @@ returns-in-Some-clause-first g c = λ file_system agrees.
     let head = c.args.finder.now in
     let before = c.in_ok-window.ensures.read.earlier file_system agrees in
     let text : IsPieceOf t c.args.x.now c.loop-head.place window =
-    rw (c.loop-head.invariant.table, c.span_from-span.ensures.cord, c.loop-head.invariant.cord)
+    rw (c.loop-head.invariant.read.table, c.span_from-span.ensures.cord, c.loop-head.invariant.cord)
     at c.in_ok-window.ensures.text file_system agrees in
     first_within (bytes_of t c.args.x.now) head c.args.end c.args.start (c.loop-head.place + c.in-Some.found) (search rules)
     (window_some t c.args.x.now c.args.start c.loop-head.place c.in-Some.found window head c.find.result c.in-Some.is c.requires.some

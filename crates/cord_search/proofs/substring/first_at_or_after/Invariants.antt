@@ -3,6 +3,7 @@ use Rattle.std.specs.Prelude.{IsSome}
 use Rattle.cord_io.specs.Device.{FileSystem}
 use Rattle.cord_core.specs.Cord.{text_len}
 use Rattle.cord_search.specs.inner.Pieces.{StandsNot}
+use Rattle.cord_search.specs.inner.Searches.{WasRead}
 use Rattle.cord_search.proofs.substring.first_at_or_after.Given as goal
 
 -- the bytes stand at no place before, the position is one of the text, and no read has failed
@@ -13,10 +14,7 @@ invariant-loop-head g l = record {
       l.finder l.start l.place;
   cord : l.position.cord ≡ l.x;
   valid : IsSome l.position.index;
-  reads : g.S.Source.failures l.src ≡ g.S.Source.failures l.initial.src;
-  lengths : g.S.Source.lengths l.src ≡ g.S.Source.lengths l.initial.src;
-  table : g.S.Source.table l.src ≡ g.S.Source.table l.initial.src;
-  earlier : (file_system : FileSystem) → g.S.Source.consistent l.src file_system → g.S.Source.consistent l.initial.src file_system;
+  read : WasRead g.S.Source l.initial.src l.src;
 }
 
 abbrev pub decreases-loop-head : goal.decreases-loop-head

@@ -4,6 +4,7 @@ use Rattle.cord_io.specs.Device.{FileSystem}
 use Rattle.cord_io.specs.Table.{Table}
 use Rattle.cord_core.specs.Cord.{bytes_of}
 use Rattle.cord_core.specs.Texts.{first}
+use Rattle.cord_search.proofs.Reading.{read_on}
 use Rattle.cord_search.proofs.Ranges.{cord_len}
 use Rattle.cord_search.specs.inner.Pieces.{IsPieceOf, IsStanding, StandsNot}
 use Rattle.cord_search.specs.inner.Periods.{HasPeriods}
@@ -15,10 +16,10 @@ use Rattle.cord_search.proofs.substring.first_confirmed.Goals as goal
 pub passed-requires-clause-repeats : goal.passed-requires-clause-repeats
 passed-requires-clause-repeats g c = λ file_system agrees.
     let given = c.requires.repeats file_system
-    (c.loop-place.invariant.earlier file_system
+    (c.loop-place.invariant.read.earlier file_system
     (c.in_ok-found.ensures.read.earlier file_system (c.in_ok-stands_at.ensures.read.earlier file_system agrees))) in
     subst (λ (u : FileSystem → Table). IfSome c.args.repeats (HasPeriods (u file_system) c.args.s.now))
-    (sym (c.stands_at.ensures.read.table ∙ (c.first_of.ensures.read.table ∙ c.loop-place.invariant.table))) given
+    (sym (c.stands_at.ensures.read.table ∙ (c.first_of.ensures.read.table ∙ c.loop-place.invariant.read.table))) given
 
 pub loop-place-preserved : goal.loop-place-preserved
 loop-place-preserved g c = record {
@@ -29,28 +30,21 @@ loop-place-preserved g c = record {
       let after = c.in_ok-stands_at.ensures.read.earlier file_system stood in
       let before = c.in_ok-found.ensures.read.earlier file_system after in
       let prefix : IsPieceOf t c.args.s.now 0 c.args.prefix.now = c.requires.prefix file_system
-      (c.loop-place.invariant.earlier file_system before) in
+      (c.loop-place.invariant.read.earlier file_system before) in
       let hit : Some c.in-Some.found ≡ first (bytes_of t c.args.x.now) c.loop-place.place c.args.prefix.now =
       first_whole (bytes_of t c.args.x.now) c.args.prefix.now c.args.end c.loop-place.place c.in-Some.found
-      (sym c.in-Some.is ∙ (rw c.loop-place.invariant.table at c.in_ok-found.ensures.first file_system after)) in
+      (sym c.in-Some.is ∙ (rw c.loop-place.invariant.read.table at c.in_ok-found.ensures.first file_system after)) in
       let none = prefix_on t c.args.x.now c.args.s.now c.args.start c.loop-place.place c.in-Some.found c.args.prefix.now hit prefix
       (c.loop-place.invariant.none file_system before) in
       let here : IsStanding t c.args.x.now c.in-Some.found c.args.s.now false =
-      rw (c.first_of.ensures.read.table, c.loop-place.invariant.table, c.if-branch.false) at c.in_ok-stands_at.ensures.stands
+      rw (c.first_of.ensures.read.table, c.loop-place.invariant.read.table, c.if-branch.false) at c.in_ok-stands_at.ensures.stands
       file_system stood in
       let later : StandsNot t c.args.x.now (bytes_of t c.args.s.now) (c.in-Some.found + 1) (c.in-Some.found + c.in_ok-count.count) =
-      rw (c.stands_at.ensures.read.table, c.first_of.ensures.read.table, c.loop-place.invariant.table)
+      rw (c.stands_at.ensures.read.table, c.first_of.ensures.read.table, c.loop-place.invariant.read.table)
       at c.in_ok-count.ensures.none file_system agrees in
       passed_on t c.args.x.now (bytes_of t c.args.s.now) c.args.start c.in-Some.found (c.in-Some.found + c.in_ok-count.count)
       (stands_on t c.args.x.now c.args.s.now c.args.start c.in-Some.found here none) later;
-  reads = c.in_ok-count.ensures.read.count
-      ∙ (c.in_ok-stands_at.ensures.read.count ∙ (c.in_ok-found.ensures.read.count ∙ c.loop-place.invariant.reads));
-  lengths = c.passed.ensures.read.lengths
-      ∙ (c.stands_at.ensures.read.lengths ∙ (c.first_of.ensures.read.lengths ∙ c.loop-place.invariant.lengths));
-  table = c.passed.ensures.read.table ∙ (c.stands_at.ensures.read.table ∙ (c.first_of.ensures.read.table ∙ c.loop-place.invariant.table));
-  earlier = λ file_system agrees. c.loop-place.invariant.earlier file_system
-      (c.in_ok-found.ensures.read.earlier file_system
-      (c.in_ok-stands_at.ensures.read.earlier file_system (c.in_ok-count.ensures.read.earlier file_system agrees)));
+  read = read_on (read_on (read_on c.loop-place.invariant.read c.in_ok-found.ensures.read) c.in_ok-stands_at.ensures.read) c.in_ok-count.ensures.read;
 }
 
 pub returns-in_default-clause-first : goal.returns-in_default-clause-first
@@ -58,10 +52,10 @@ returns-in_default-clause-first g c = λ file_system agrees.
     let t = g.S.Source.table c.args.src.now file_system in
     let before = c.in_ok-found.ensures.read.earlier file_system agrees in
     let prefix : IsPieceOf t c.args.s.now 0 c.args.prefix.now = c.requires.prefix file_system
-    (c.loop-place.invariant.earlier file_system before) in
+    (c.loop-place.invariant.read.earlier file_system before) in
     let hit : None ≡ first (take c.args.end (bytes_of t c.args.x.now)) c.loop-place.place c.args.prefix.now =
     ◌∙◌ {c = first (take c.args.end (bytes_of t c.args.x.now)) c.loop-place.place c.args.prefix.now} (sym c.in_default.is)
-    (rw c.loop-place.invariant.table at c.in_ok-found.ensures.first file_system agrees) in
+    (rw c.loop-place.invariant.read.table at c.in_ok-found.ensures.first file_system agrees) in
     prefix_none t c.args.x.now c.args.s.now c.args.start c.loop-place.place c.args.end c.args.prefix.now hit prefix
     (c.loop-place.invariant.none file_system before)
 
@@ -70,12 +64,12 @@ returns-then-last-found-clause-first g c = λ file_system agrees.
     let t = g.S.Source.table c.args.src.now file_system in
     let lengths = g.S.Source.lengths c.args.src.now in
     let before = c.in_ok-found.ensures.read.earlier file_system agrees in
-    let first_agrees = c.loop-place.invariant.earlier file_system before in
+    let first_agrees = c.loop-place.invariant.read.earlier file_system before in
     let reported = g.met.S.Source.lengths_of_table c.args.src.now file_system first_agrees in
     let hit : Some c.in-Some.found ≡ first (bytes_of t c.args.x.now) c.loop-place.place c.args.prefix.now =
     first_whole (bytes_of t c.args.x.now) c.args.prefix.now c.args.end c.loop-place.place c.in-Some.found
     (◌∙◌ {c = first (take c.args.end (bytes_of t c.args.x.now)) c.loop-place.place c.args.prefix.now} (sym c.in-Some.is)
-    (rw c.loop-place.invariant.table at c.in_ok-found.ensures.first file_system agrees)) in
+    (rw c.loop-place.invariant.read.table at c.in_ok-found.ensures.first file_system agrees)) in
     let none = prefix_on t c.args.x.now c.args.s.now c.args.start c.loop-place.place c.in-Some.found c.args.prefix.now hit
     (c.requires.prefix file_system first_agrees) (c.loop-place.invariant.none file_system before) in
     let len = cord_len lengths t c.args.s.now reported c.requires.pattern_sound c.requires.pattern_fits in
@@ -88,18 +82,18 @@ returns-then-branch-clause-first g c = λ file_system agrees.
     let after = c.in_ok-stands_at.ensures.read.earlier file_system agrees in
     let before = c.in_ok-found.ensures.read.earlier file_system after in
     let prefix : IsPieceOf t c.args.s.now 0 c.args.prefix.now = c.requires.prefix file_system
-    (c.loop-place.invariant.earlier file_system before) in
+    (c.loop-place.invariant.read.earlier file_system before) in
     let lengths = g.S.Source.lengths c.args.src.now in
-    let first_agrees = c.loop-place.invariant.earlier file_system before in
+    let first_agrees = c.loop-place.invariant.read.earlier file_system before in
     let reported = g.met.S.Source.lengths_of_table c.args.src.now file_system first_agrees in
     let len = cord_len lengths t c.args.s.now reported c.requires.pattern_sound c.requires.pattern_fits in
     let hit : Some c.in-Some.found ≡ first (bytes_of t c.args.x.now) c.loop-place.place c.args.prefix.now =
     first_whole (bytes_of t c.args.x.now) c.args.prefix.now c.args.end c.loop-place.place c.in-Some.found
-    (sym c.in-Some.is ∙ (rw c.loop-place.invariant.table at c.in_ok-found.ensures.first file_system after)) in
+    (sym c.in-Some.is ∙ (rw c.loop-place.invariant.read.table at c.in_ok-found.ensures.first file_system after)) in
     let none = prefix_on t c.args.x.now c.args.s.now c.args.start c.loop-place.place c.in-Some.found c.args.prefix.now hit prefix
     (c.loop-place.invariant.none file_system before) in
     let here : IsStanding t c.args.x.now c.in-Some.found c.args.s.now true =
-    rw (c.first_of.ensures.read.table, c.loop-place.invariant.table, c.if-branch.true)
+    rw (c.first_of.ensures.read.table, c.loop-place.invariant.read.table, c.if-branch.true)
     at c.in_ok-stands_at.ensures.stands file_system agrees in
     first_within (bytes_of t c.args.x.now) (bytes_of t c.args.s.now) c.args.end c.args.start c.in-Some.found
     (omega (arith, len, c.if-last-found.false, c.len.ensures.stored, c.requires.inside))
@@ -109,7 +103,7 @@ pub returns-clause-first : goal.returns-clause-first
 returns-clause-first g c = λ file_system agrees.
     let t = g.S.Source.table c.args.src.now file_system in
     let lengths = g.S.Source.lengths c.args.src.now in
-    let reported = g.met.S.Source.lengths_of_table c.args.src.now file_system (c.loop-place.invariant.earlier file_system agrees) in
+    let reported = g.met.S.Source.lengths_of_table c.args.src.now file_system (c.loop-place.invariant.read.earlier file_system agrees) in
     let len = cord_len lengths t c.args.s.now reported c.requires.pattern_sound c.requires.pattern_fits in
     none_within t c.args.x.now (bytes_of t c.args.s.now) c.args.start c.loop-place.place c.args.end
     (omega (arith, len, c.loop-place-test.false, c.len.ensures.stored)) (c.loop-place.invariant.none file_system agrees)

@@ -2,6 +2,7 @@ use Rattle.std.proofs.Common.{◌≡◌, ◌+◌, ◌-◌, ◌≤◌}
 use Rattle.cord_io.specs.Device.{FileSystem}
 use Rattle.cord_core.specs.Cord.{bytes_of}
 use Rattle.cord_search.specs.inner.Pieces.{StandsNot}
+use Rattle.cord_search.specs.inner.Searches.{WasRead}
 use Rattle.cord_search.proofs.substring.first_confirmed.Given as goal
 
 -- the text stands at no place before, and no read has failed
@@ -10,10 +11,7 @@ invariant-loop-place g l = record {
   low : l.start ≤ l.place;
   none : (file_system : FileSystem) → g.S.Source.consistent l.src file_system → StandsNot (g.S.Source.table l.initial.src file_system) l.x
       (bytes_of (g.S.Source.table l.initial.src file_system) l.s) l.start l.place;
-  reads : g.S.Source.failures l.src ≡ g.S.Source.failures l.initial.src;
-  lengths : g.S.Source.lengths l.src ≡ g.S.Source.lengths l.initial.src;
-  table : g.S.Source.table l.src ≡ g.S.Source.table l.initial.src;
-  earlier : (file_system : FileSystem) → g.S.Source.consistent l.src file_system → g.S.Source.consistent l.initial.src file_system;
+  read : WasRead g.S.Source l.initial.src l.src;
 }
 
 abbrev pub decreases-loop-place : goal.decreases-loop-place
