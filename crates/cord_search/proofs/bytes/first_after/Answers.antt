@@ -1,4 +1,4 @@
-use Rattle.std.proofs.Common.{◌≡◌, ◌∙◌, refl, arith}
+use Rattle.std.proofs.Common.{◌≡◌, ◌∙◌, arith}
 use Rattle.cord_pos.specs.Spans.{span_len, IsSpanOf}
 use Rattle.cord_search.proofs.Reading.{not_read, read_on}
 use Rattle.cord_search.proofs.Ranges.{cord_len}

@@ -1,4 +1,4 @@
-use Rattle.std.proofs.Common.{◌≡◌, ◌+◌, ◌-◌, ◌≤◌, ◌∙◌, refl, length, arith}
+use Rattle.std.proofs.Common.{◌≡◌, ◌+◌, ◌-◌, ◌≤◌, ◌∙◌, length, arith}
 use Rattle.cord_pos.specs.Spans.{span_len, IsSpanOf}
 use Rattle.cord_search.specs.inner.Pieces.{IsPieceOf, HasNot}
 use Rattle.cord_search.proofs.Reading.{not_read, read_on}

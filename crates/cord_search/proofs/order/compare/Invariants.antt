@@ -1,4 +1,4 @@
-use Rattle.std.proofs.Common.{◌≡◌, ◌-◌, ◌≤◌}
+use Rattle.std.proofs.Common.{◌-◌, ◌≤◌}
 use Rattle.cord_io.specs.Device.{FileSystem}
 use Rattle.cord_search.specs.inner.SharedParts.{IsWay}
 use Rattle.cord_search.specs.inner.Pieces.{AreSame}

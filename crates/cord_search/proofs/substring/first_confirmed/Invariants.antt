@@ -1,4 +1,4 @@
-use Rattle.std.proofs.Common.{◌≡◌, ◌+◌, ◌-◌, ◌≤◌}
+use Rattle.std.proofs.Common.{◌+◌, ◌-◌, ◌≤◌}
 use Rattle.cord_io.specs.Device.{FileSystem}
 use Rattle.cord_core.specs.Cord.{bytes_of}
 use Rattle.cord_search.specs.inner.Pieces.{StandsNot}
