@@ -8,6 +8,7 @@ use Rattle.cord_file.specs.declared.TheConstants.{MAX_FILES}
 use Rattle.cord_file.specs.declared.files.OpenFile.{OpenFile}
 use Rattle.cord_file.specs.Files.{reported_of, opened_of}
 use Rattle.cord_file.specs.Opening.{Opens}
+use Rattle.cord_file.specs.Sources.{opened_in}
 use Rattle.cord_file.proofs.Growing.{opens_after, last_place}
 use Rattle.cord_file.proofs.BlockParts.{kept_after, kept_earlier, sound_moved}
 use Rattle.cord_file.proofs.Holding.{each_pushed, opened_more, IsFound, found_there, holds_file}
@@ -107,3 +108,9 @@ returns-clause-count g c = search rules
 
 pub returns-clause-once : goal.returns-clause-once
 returns-clause-once g c = search rules
+
+pub returns-then-len-ge-MAX_FILES-clause-refused : goal.returns-then-len-ge-MAX_FILES-clause-refused
+returns-then-len-ge-MAX_FILES-clause-refused g c =
+    let old = c.args.self.now in
+    let count : length (opened_in old) ≡ length old.open_files.items = length-map old.open_files.items reported_of in
+    search rules

@@ -9,3 +9,6 @@ read_whole-requires-clause-file g c = is_file (opened_of c.open.new.self.open_fi
 
 pub returns-then-len-le-SHORT_FILE-clause-cord : goal.returns-then-len-le-SHORT_FILE-clause-cord
 returns-then-len-le-SHORT_FILE-clause-cord g c = search rules
+
+pub returns-then-len-le-SHORT_FILE-clause-refused : goal.returns-then-len-le-SHORT_FILE-clause-refused
+returns-then-len-le-SHORT_FILE-clause-refused g c = search rules

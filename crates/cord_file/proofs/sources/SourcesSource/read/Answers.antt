@@ -34,3 +34,9 @@ returns-in_default-clause-count g c = search rules
 
 pub returns-in_default-clause-none_opened : goal.returns-in_default-clause-none_opened
 returns-in_default-clause-none_opened g c = search rules
+
+pub returns-in-0-clause-count : goal.returns-in-0-clause-count
+returns-in-0-clause-count g c = search rules
+
+pub returns-in-0-clause-functions : goal.returns-in-0-clause-functions
+returns-in-0-clause-functions g c = search rules
