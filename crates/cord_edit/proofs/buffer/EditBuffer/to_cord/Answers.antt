@@ -11,6 +11,7 @@ use Rattle.cord_edit.specs.declared.gap.Gap.{Gap}
 use Rattle.cord_edit.specs.Edits.{edited}
 use Rattle.cord_edit.specs.inner.Gaps.{gap_bytes}
 use Rattle.cord_ec.proofs.Growing.{cord_of}
+use Rattle.cord_edit.proofs.Lists.{around_nothing}
 use Rattle.cord_edit.proofs.Parting.{more, steps, no_gap, unchanged_parts}
 use Rattle.cord_edit.proofs.buffer.EditBuffer.to_cord.Goals as goal
 
@@ -41,3 +42,7 @@ pub returns-clause-stays : goal.returns-clause-stays
 returns-clause-stays c = subst (λ (old : List Part). Gathered 1 old (c.flush.new.cords.parts ++ leaf_parts (gap_bytes c.flush.new.gap)))
     (ap (λ (e : Growth). e.parts) c.self.view_is)
     (no_gap 1 _ c.flush.new.cords.parts (gap_bytes c.flush.new.gap) c.in_ok-end.ensures.emptied c.in_ok-end.ensures.gathered)
+
+pub returns-clause-same : goal.returns-clause-same
+returns-clause-same c = around_nothing c.flush.new.cords.text (gap_bytes c.flush.new.gap) c.in_ok-end.end c.in_ok-end.ensures.emptied
+    ∙ c.in_ok-end.ensures.text ∙ ap (λ (e : Growth). e.text) c.self.view_is
