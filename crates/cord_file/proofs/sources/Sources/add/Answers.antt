@@ -3,7 +3,7 @@ use Rattle.std.specs.Prelude.{is_ok, is_some, slice_get}
 use Rattle.std.specs.String.{string_bytes}
 use Rattle.std.proofs.lemmas.List.{length-map}
 use Rattle.cord_io.specs.declared.TheConstants.{MAX_LEN}
-use Rattle.cord_io.specs.Device.{FileSystem, file_at, bytes_at, HandsOut}
+use Rattle.cord_io.specs.Device.{FileSystem, file_at, bytes_at, count_after, open_failed, HandsOut}
 use Rattle.cord_file.specs.declared.TheConstants.{MAX_FILES}
 use Rattle.cord_file.specs.declared.files.OpenFile.{OpenFile}
 use Rattle.cord_file.specs.Files.{reported_of, opened_of}
@@ -104,10 +104,10 @@ returns-clause-file g c = λ file_system agrees.
     (found_there file_system _ _ (c.in_ok-no.ensures.found file_system agrees))
 
 pub returns-clause-count : goal.returns-clause-count
-returns-clause-count g c = search rules
+returns-clause-count g c = c.open.ensures.count ∙ ap (λ r. count_after (open_failed r) (g.F.Files.failures c.args.self.now.files)) c.in_ok-no.was
 
 pub returns-clause-once : goal.returns-clause-once
-returns-clause-once g c = search rules
+returns-clause-once g c = (c.in_ok-no.no.0, c.in_ok-no.ensures.opened)
 
 pub returns-then-len-ge-MAX_FILES-clause-refused : goal.returns-then-len-ge-MAX_FILES-clause-refused
 returns-then-len-ge-MAX_FILES-clause-refused g c =
