@@ -46,3 +46,6 @@ returns-clause-stays c = subst (λ (old : List Part). Gathered 1 old (c.with.new
     (ap (λ (e : Growth). e.parts) c.self.view_is)
     (made_beside IsGathered gathered_own 1 c.self.inside.cords.parts c.with.new.self.parts (leaf_parts (gap_bytes c.self.inside.gap))
     c.in_ok-cord.ensures.stays)
+
+pub with-requires-clause-within_limit : goal.with-requires-clause-within_limit
+with-requires-clause-within_limit c = omega (arith, c.in_ok-leaf.ensures.len, ap length c.bytes.ensures, c.self.invariant.0, c.self.invariant.1)

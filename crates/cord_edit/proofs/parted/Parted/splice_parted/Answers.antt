@@ -50,3 +50,13 @@ returns-clause-gathered c =
     (put_after (parts_of c.self.inside.prefix ++ parts_of c.self.inside.back) (parts_of c.args.middle.now) (parts_of c.in_ok-prefix.prefix)
     (parts_of c.in_ok-prefix.back) (parts_of c.in_ok-longer.longer) c.in_ok-prefix.ensures.few c.in_ok-prefix.ensures.prefix_from
     c.in_ok-prefix.ensures.back_from c.in_ok-longer.ensures.parts_from)
+
+pub returns-clause-text : goal.returns-clause-text
+returns-clause-text c =
+    let m : List Cell = text c.args.middle.now in
+    let old : List Cell = text c.self.inside.prefix ++ text c.self.inside.back in
+    let longer : text c.in_ok-longer.longer ≡ take c.args.from old ++ m =
+    c.in_ok-longer.ensures.text ∙ ap (λ (xs : List Cell). xs ++ m) c.in_ok-prefix.ensures.prefix in
+    ap (λ (xs : List Cell). xs ++ text c.in_ok-prefix.back) longer
+    ∙ ap (λ (xs : List Cell). take c.args.from old ++ m ++ xs) c.in_ok-prefix.ensures.back
+    ∙ ap (λ (e : Growth). take c.args.from e.text ++ m ++ drop c.args.until e.text) c.self.view_is

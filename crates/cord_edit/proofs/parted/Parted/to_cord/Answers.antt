@@ -20,3 +20,6 @@ returns-clause-gathered c = subst (λ (old : List Part). Gathered 0 old (parts_o
     (ap (λ (e : Growth). e.parts) c.self.view_is)
     (made_from IsGathered gathered_own (parts_of c.self.inside.prefix ++ parts_of c.self.inside.back) (parts_of c.in_ok-cord.cord)
     c.in_ok-cord.ensures.parts_from)
+
+pub returns-clause-text : goal.returns-clause-text
+returns-clause-text c = c.in_ok-cord.ensures.text ∙ ap (λ (e : Growth). e.text) c.self.view_is

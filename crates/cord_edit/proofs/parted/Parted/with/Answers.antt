@@ -65,3 +65,11 @@ returns-clause-stays c =
     (ap (λ (e : Growth). e.parts) c.self.view_is)
     (parted (parts_of c.self.inside.prefix ++ parts_of c.self.inside.back) (parts_of c.in_ok-prefix.prefix) (parts_of c.in_ok-prefix.back)
     c.in_ok-prefix.ensures.few c.in_ok-prefix.ensures.prefix_from c.in_ok-prefix.ensures.back_from)
+
+pub returns-clause-text : goal.returns-clause-text
+returns-clause-text c =
+    let m : List Cell = text c.args.middle.now in
+    let old : List Cell = text c.self.inside.prefix ++ text c.self.inside.back in
+    c.in_ok-all.ensures.text ∙ ap (λ (xs : List Cell). xs ++ m ++ text c.in_ok-prefix.back) c.in_ok-prefix.ensures.prefix
+    ∙ ap (λ (xs : List Cell). take c.args.from old ++ m ++ xs) c.in_ok-prefix.ensures.back
+    ∙ ap (λ (e : Growth). take c.args.from e.text ++ m ++ drop c.args.until e.text) c.self.view_is
