@@ -1,4 +1,4 @@
-use Rattle.std.proofs.Common.{◌≡◌, ◌∙◌, ◌+◌, ◌-◌, ◌≤◌, ◌++◌, ℕ, List, [], length, length-append, map, take, drop, ap, refl, sym, subst, arith}
+use Rattle.std.proofs.Common.{◌≡◌, ◌∙◌, ◌+◌, ◌-◌, ◌≤◌, ◌++◌, ℕ, List, [], length, length-append, map, take, drop, ap, refl, sym, subst, arith, rules}
 use Rattle.std.proofs.lemmas.Grind.{common_steps}
 use Rattle.std.specs.Prelude.{Option}
 use Rattle.cord_io.specs.declared.TheConstants.{MAX_LEN}
@@ -39,3 +39,9 @@ pub returns-clause-back_from : goal.returns-clause-back_from
 returns-clause-back_from c = AreFrom-trans (parts_of c.in_ok-back-2.back) (parts_of c.in_ok-all.all)
     (parts_of c.args.prefix.now ++ parts_of c.args.back.now) c.in_ok-back-2.ensures.parts_from.from_there
     c.in_ok-all.ensures.parts_from.from_there
+
+pub returns-clause-back : goal.returns-clause-back
+returns-clause-back c = grind (arith, common_steps)
+
+pub returns-clause-back_len : goal.returns-clause-back_len
+returns-clause-back_len c = search rules

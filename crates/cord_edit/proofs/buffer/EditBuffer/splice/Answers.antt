@@ -1,4 +1,4 @@
-use Rattle.std.proofs.Common.{◌≡◌, ◌∙◌, ◌+◌, ◌-◌, ◌≤◌, ◌++◌, ◌^◌, ℕ, List, [], length, length-append, map, take, drop, ap, refl, sym, subst, arith}
+use Rattle.std.proofs.Common.{◌≡◌, ◌∙◌, ◌+◌, ◌-◌, ◌≤◌, ◌++◌, ◌^◌, ℕ, List, [], length, length-append, map, take, drop, ap, refl, sym, subst, arith, rules}
 use Rattle.std.proofs.lemmas.List.{length-take, length-map}
 use Rattle.std.specs.Prelude.{Option}
 use Rattle.cord_raw.specs.declared.buffer.TheConstants.RawBuf.{CAP}
@@ -75,3 +75,6 @@ returns-clause-gathered c =
     (ap (λ (e : Growth). e.parts) c.self.view_is)
     (no_gap 2 _ c.splice.new.self.parts g c.in_ok-end.ensures.emptied
     (spliced_after _ c.flush.new.cords.parts m c.splice.new.self.parts c.in_ok-end.ensures.gathered c.in_ok-splice.ensures.gathered))
+
+pub invariant_of-self-2 : goal.invariant_of-self-2
+invariant_of-self-2 c = search rules

@@ -1,4 +1,4 @@
-use Rattle.std.proofs.Common.{◌≡◌, ◌∙◌, ◌+◌, ◌-◌, ◌≤◌, ◌++◌, ◌^◌, ℕ, List, [], length, length-append, map, take, drop, ap, refl, sym, subst, arith}
+use Rattle.std.proofs.Common.{◌≡◌, ◌∙◌, ◌+◌, ◌-◌, ◌≤◌, ◌++◌, ◌^◌, ℕ, List, [], length, length-append, map, take, drop, ap, refl, sym, subst, arith, rules}
 use Rattle.std.proofs.lemmas.List.{length-take, length-map}
 use Rattle.std.specs.Prelude.{Option}
 use Rattle.cord_raw.specs.declared.buffer.TheConstants.RawBuf.{CAP}
@@ -49,3 +49,6 @@ returns-clause-stays c = subst (λ (old : List Part). Gathered 1 old (c.with.new
 
 pub with-requires-clause-within_limit : goal.with-requires-clause-within_limit
 with-requires-clause-within_limit c = omega (arith, c.in_ok-leaf.ensures.len, ap length c.bytes.ensures, c.self.invariant.0, c.self.invariant.1)
+
+pub invariant_of-self-2 : goal.invariant_of-self-2
+invariant_of-self-2 c = search rules
