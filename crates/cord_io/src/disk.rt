@@ -1,6 +1,6 @@
 // The machine's files.
-ghost use Rattle.std.specs.Prelude.{◌≡◌, ◌<◌, ◌≤◌, ◌∷◌, ℕ, [], None, length, take, drop, is_err, IfOk, OnErr, IsErrOf};
-ghost use Rattle.std.specs.Prelude.{IsSomeAnd};
+ghost use Rattle.std.specs.Prelude.{◌≡◌, ◌<◌, ◌≤◌, ◌∷◌, ◌++◌, ℕ, [], None, length, take, drop, is_err, IfOk, OnErr};
+ghost use Rattle.std.specs.Prelude.{IsErrOf, IsSomeAnd, IfSome, IfNone};
 ghost use Rattle.std.specs.String.{string_bytes};
 ghost use Rattle.cord_io.specs.Device.{FileSystem, file_at, bytes_at, count_after, open_failed, HandsOut};
 ghost use Rattle.cord_io.specs.Given.{IsGiven, IsGiven-prop};
@@ -37,6 +37,26 @@ struct Answers<R, F> {
     opened: Vec<OpenedFile<F>>,
     trace: Trace,
     ghost given: { IsGiven machine.trace.reported opened.items trace.reported } by { IsGiven-prop machine.trace.reported opened.items trace.reported },
+}
+
+impl<R, F: Drop> Answers<R, F> {
+    // Opens one more file under the next number, and reports its length. There is none where memory was refused.
+    fn keep(&mut self, path: &str, file: OpenedFile<F>) -> Option<FileNo>
+        requires { file.reader.trace.reported ≡ has_len path.now file.len ∷ [] }
+        ensures machine { self.new.machine.trace.reported ≡ self.old.machine.trace.reported }
+        ensures number { IfSome result (λ no. no.0 ≡ length self.old.opened.items) }
+        ensures opened { IfSome result (λ _. self.new.opened.items ≡ self.old.opened.items ++ file ∷ []) }
+        ensures reported { IfSome result (λ _. self.new.trace.reported ≡ has_len path.now file.len
+            ∷ self.old.trace.reported) }
+        ensures none_opened { IfNone result (self.new.opened.items ≡ self.old.opened.items) }
+        ensures none_reported { IfNone result (self.new.trace.reported ≡ self.old.trace.reported) }
+    {
+        let no = u32::try_from(self.opened.len()).ok()?;
+        let len = file.len;
+        self.opened.push(file).ok()?;
+        self.trace = self.trace.then(&Answer::Len(path, len));
+        Some(FileNo(no))
+    }
 }
 
 impl<R: rt::Files> DiskFiles<R>
@@ -146,11 +166,8 @@ where
             Err(OpenFault::Failed) => {}
             Ok(file) => {
                 let len = file.len;
-                if let Ok(no) = u32::try_from(self.answers.opened.len()) {
-                    if self.answers.opened.push(file).is_ok() {
-                        self.answers.trace = self.answers.trace.then(&Answer::Len(path, len));
-                        return Ok((FileNo(no), len));
-                    }
+                if let Some(no) = self.answers.keep(path, file) {
+                    return Ok((no, len));
                 }
             }
         }

@@ -1,9 +1,8 @@
 use Rattle.std.proofs.Common.{◌≡◌, [], ◌∷◌, ◌++◌, length, subst, rules}
-use Rattle.std.specs.Prelude.{is_ok}
 use Rattle.cord_io.specs.Given.{AgreesWithReaders}
 use Rattle.cord_io.specs.Reported.{has_len, is_missing, Agrees}
 use Rattle.cord_io.specs.inner.Missing.{after_finding}
-use Rattle.cord_io.proofs.OpenedFiles.{handed_out, readers_beside, given_beside, given_pushed, given_len, missing_before}
+use Rattle.cord_io.proofs.OpenedFiles.{handed_out, readers_beside, missing_before}
 use Rattle.cord_io.proofs.disk.DiskFilesFiles.open.Goals as goal
 
 pub returns-in-Err-NotFound-clause-reported : goal.returns-in-Err-NotFound-clause-reported
@@ -14,30 +13,6 @@ returns-in-Err-NotFound-clause-not_found g c = λ file_system agrees _.
     let all : Agrees file_system (is_missing c.args.path.now ∷ c.args.self.now.answers.trace.reported) =
     subst (Agrees file_system) (returns-in-Err-NotFound-clause-reported g c) agrees in
     all.0
-
-pub returns-then-is_ok-clause-reported : goal.returns-then-is_ok-clause-reported
-returns-then-is_ok-clause-reported g c = search rules
-
-pub returns-then-is_ok-clause-found : goal.returns-then-is_ok-clause-found
-returns-then-is_ok-clause-found g c = λ file_system agrees.
-    let all : Agrees file_system (has_len c.args.path.now c.in-Ok.file.len ∷ c.args.self.now.answers.trace.reported) =
-    subst (Agrees file_system) (returns-then-is_ok-clause-reported g c) agrees in
-    all.0
-
-pub returns-then-is_ok-clause-opened : goal.returns-then-is_ok-clause-opened
-returns-then-is_ok-clause-opened g c =
-    let files = c.args.self.now.answers.opened.items in
-    let pushed : c.push.new.self.items ≡ files ++ c.in-Ok.file ∷ [] = search rules in
-    let last : c.in-Ok-try_from.no ≡ length files = search rules in
-    handed_out files c.push.new.self.items c.in-Ok.file c.in-Ok-try_from.no c.args.path.now pushed last c.in-Ok.ensures.path
-
-pub returns-then-is_ok-clause-machine_earlier : goal.returns-then-is_ok-clause-machine_earlier
-returns-then-is_ok-clause-machine_earlier g c = λ file_system agrees.
-    let files = c.args.self.now.answers.opened.items in
-    let pushed : c.push.new.self.items ≡ files ++ c.in-Ok.file ∷ [] = search rules in (
-      subst (Agrees file_system) c.in-Ok.ensures.missing agrees.0,
-      readers_beside file_system files c.push.new.self.items c.in-Ok.file pushed agrees.1,
-    )
 
 -- what was opened before stays where the file isn't kept
 pub returns-clause-machine_earlier : goal.returns-clause-machine_earlier
@@ -52,33 +27,35 @@ returns-clause-machine_earlier g c = λ file_system agrees.
       subst (AgreesWithReaders file_system) opened agrees.1,
     )
 
--- what is reported of it is what the machine gave
-pub invariant_of-self-in-Ok-try_from : goal.invariant_of-self-in-Ok-try_from
-invariant_of-self-in-Ok-try_from g c =
-    let answers = c.opened_file.new.self.answers in
-    record {
-      given = given_pushed answers.machine.trace.reported answers.opened.items c.push.new.self.items c.in-Ok.file answers.trace.reported
-          (is_ok c.push.result) c.push.ensures.items answers.given;
-    }
-
-pub invariant_of-self-then-is_ok : goal.invariant_of-self-then-is_ok
-invariant_of-self-then-is_ok g c =
-    let answers = c.opened_file.new.self.answers in
-    let file = c.in-Ok.file in
-    let pushed : c.push.new.self.items ≡ answers.opened.items ++ file ∷ [] = search rules in
-    let beside = given_beside answers.machine.trace.reported answers.opened.items c.push.new.self.items file answers.trace.reported pushed
-    answers.given in
-    record {
-      given = given_len answers.machine.trace.reported answers.opened.items c.push.new.self.items file c.args.path.now
-          answers.trace.reported
-          c.then-self-then-is_ok.result.reported pushed c.in-Ok.ensures.len c.then-self-then-is_ok.ensures beside;
-    }
-
-pub returns-then-is_ok-clause-machine_found : goal.returns-then-is_ok-clause-machine_found
-returns-then-is_ok-clause-machine_found g c = search rules
-
 pub returns-in-Err-NotFound-clause-machine_not_found : goal.returns-in-Err-NotFound-clause-machine_not_found
 returns-in-Err-NotFound-clause-machine_not_found g c = search rules
 
 pub invariant_of-self : goal.invariant_of-self
 invariant_of-self g c = search rules
+
+pub returns-in-Some-clause-reported : goal.returns-in-Some-clause-reported
+returns-in-Some-clause-reported g c = search rules
+
+pub returns-in-Some-clause-found : goal.returns-in-Some-clause-found
+returns-in-Some-clause-found g c = λ file_system agrees.
+    let all : Agrees file_system (has_len c.args.path.now c.in-Ok.file.len ∷ c.args.self.now.answers.trace.reported) =
+    subst (Agrees file_system) (returns-in-Some-clause-reported g c) agrees in
+    all.0
+
+pub returns-in-Some-clause-opened : goal.returns-in-Some-clause-opened
+returns-in-Some-clause-opened g c =
+    let files = c.args.self.now.answers.opened.items in
+    let more = c.keep.new.self.opened.items in
+    let pushed : more ≡ files ++ c.in-Ok.file ∷ [] = search rules in
+    let last : c.in-Some.no.0 ≡ length files = search rules in
+    handed_out files more c.in-Ok.file c.in-Some.no.0 c.args.path.now pushed last c.in-Ok.ensures.path
+
+pub returns-in-Some-clause-machine_earlier : goal.returns-in-Some-clause-machine_earlier
+returns-in-Some-clause-machine_earlier g c = λ file_system agrees.
+    let old = c.args.self.now.answers in
+    let new = c.keep.new.self in
+    let pushed : new.opened.items ≡ old.opened.items ++ c.in-Ok.file ∷ [] = search rules in
+    let machine : new.machine.trace.reported ≡ old.machine.trace.reported = search rules in (
+      subst (Agrees file_system) machine agrees.0,
+      readers_beside file_system old.opened.items new.opened.items c.in-Ok.file pushed agrees.1,
+    )
