@@ -23,7 +23,7 @@ use Rattle.cord_plan.proofs.Evaluation.{In, value_same, extent_is}
 use Rattle.cord_run.specs.declared.store.Content.{Content}
 use Rattle.cord_run.specs.declared.store.Content.TheVariants.{Whole, Long}
 use Rattle.cord_run.specs.declared.store.Entry.{Entry}
-use Rattle.cord_run.specs.inner.Extents.{extent_in, extent_together}
+use Rattle.cord_run.specs.inner.Extents.{extent_in}
 use Rattle.cord_run.specs.inner.Entries.{content_in, length_in, operand_in, content_length, cord_in, ContentFits, IsOver}
 use Rattle.cord_run.specs.inner.Holdings.{held_over, holding_of, plain_of}
 
@@ -155,13 +155,3 @@ pub extent_short : (lengths : Lengths) (entries : List Entry) → IsOver lengths
     extent_in entries e ≡ Ok len → len ≤ MAX_LEN
 extent_short lengths entries over e len is =
     measured_short (λ x. length_in entries x) (λ n. operand_in entries n) (λ x. known_short lengths entries over x) e len is
-
--- two lengths together are that of both members
-pub pair_together : (first last : Result ℕ FaultKind) → extent_together first last
-    ≡ and_then (and_then first (λ n. and_then (and_then last (λ m. and_then (Ok 0) (λ z. Ok (m + z)))) (λ others. Ok (n + others))))
-    (λ len. as_length MAX_LEN len)
-pair_together (Err kind) last = refl
-pair_together (Ok n) (Err kind) = refl
-pair_together (Ok n) (Ok m) =
-    let same : n + m ≡ n + (m + 0) = omega arith in
-    ap (λ (k : ℕ). as_length MAX_LEN k) same

@@ -6,7 +6,6 @@ use Rattle.cord_meaning.specs.declared.ends.FaultKind.{FaultKind}
 use Rattle.cord_plan.specs.Exprs as plain
 use Rattle.cord_plan.specs.Values.{measured, measured_members}
 use Rattle.cord_plan.specs.Views.{Shared, members_of, shared_view}
-use Rattle.cord_meaning.specs.State.{and_then, as_length}
 use Rattle.cord_run.specs.declared.expressions.lengths.Named.{Named}
 use Rattle.cord_run.specs.declared.store.Entry.{Entry}
 use Rattle.cord_run.specs.inner.Entries.{length_in, operand_in}
@@ -43,7 +42,3 @@ length_beside entries (Some other) x = length_with entries other.name.now other.
 
 abbrev pub extent_beside : List Entry → Option Named → plain.Expr → Result ℕ FaultKind
 extent_beside entries other e = measured MAX_LEN (λ x. length_beside entries other x) (λ n. operand_in entries n) e
-
--- two lengths together, or the first fault
-abbrev pub extent_together : Result ℕ FaultKind → Result ℕ FaultKind → Result ℕ FaultKind
-extent_together first last = and_then first (λ n. and_then last (λ m. as_length MAX_LEN (n + m)))

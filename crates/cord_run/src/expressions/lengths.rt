@@ -1,11 +1,11 @@
 // The lengths of expressions, by the lengths of their names.
-ghost use Rattle.std.specs.Prelude.{◌≡◌, ◌≤◌, Err, IfErr, IfOk, IfSome, Ok};
+ghost use Rattle.std.specs.Prelude.{◌≡◌, ◌≤◌, ◌+◌, Err, IfErr, IfOk, IfSome, Ok};
 ghost use Rattle.cord_meaning.specs.State as meant;
 ghost use Rattle.cord_plan.specs.Exprs as plain;
 ghost use Rattle.cord_plan.specs.Values.{measured_copies, measured_part};
 ghost use Rattle.cord_plan.specs.Views.{expr_view, members_view};
 ghost use Rattle.cord_run.specs.inner.Entries.{length_in};
-ghost use Rattle.cord_run.specs.inner.Extents.{counted, extent_beside, extent_in, extent_together, length_beside, members_extent};
+ghost use Rattle.cord_run.specs.inner.Extents.{counted, extent_beside, extent_in, length_beside, members_extent};
 ghost use Rattle.cord_run.specs.inner.Extents.{members_seen};
 
 use crate::checks::{as_byte, as_index, as_length};
@@ -68,7 +68,7 @@ fn length_together(
     first: Result<u64, FaultKind>,
     last: Result<u64, FaultKind>,
 ) -> Result<u64, FaultKind>
-    ensures { result ≡ extent_together first last }
+    ensures { result ≡ meant.and_then first (λ n. meant.and_then last (λ m. meant.as_length MAX_LEN (n + m))) }
 {
     let first = first?;
     let last = last?;

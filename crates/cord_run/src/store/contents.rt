@@ -19,7 +19,6 @@ pub(crate) fn set_content(entries: &mut [Entry], place: usize, content: Content)
     requires { place < length entries.old }
     ensures set { (name : List ℕ) → IsEntryAt entries.old name place →
         HasContent name content entries.old entries.new }
-    ensures names { names_in entries.new ≡ names_in entries.old }
     ensures distinct { are_distinct (names_in entries.old) ≡ true → are_distinct (names_in entries.new) ≡ true }
 {
     let entry = &mut entries[place];
@@ -32,7 +31,6 @@ pub(crate) fn set_length(entries: &mut [Entry], place: usize, len: u64)
     requires { place < length entries.old }
     ensures set { (name : List ℕ) → IsEntryAt entries.old name place →
         HasContent name (Content.Long len) entries.old entries.new }
-    ensures names { names_in entries.new ≡ names_in entries.old }
     ensures distinct { are_distinct (names_in entries.old) ≡ true → are_distinct (names_in entries.new) ≡ true }
 {
     let entry = &mut entries[place];
@@ -67,7 +65,6 @@ pub(crate) fn splice_content(
         MAX_LEN < spliced_len start count middle.now (text_len (cord_in (content_in entries.old name))) }
     ensures unchanged { IsErr result → entries.new ≡ entries.old }
     ensures refused { IfErr result IsRefusal }
-    ensures names { names_in entries.new ≡ names_in entries.old }
     ensures distinct { are_distinct (names_in entries.old) ≡ true → are_distinct (names_in entries.new) ≡ true }
 {
     let entry = &mut entries[place];
@@ -99,7 +96,6 @@ fn splice_within(
 pub(crate) fn set_number(entries: &mut [Entry], place: usize, number: i64)
     requires { place < length entries.old }
     ensures set { (name : List ℕ) → IsEntryAt entries.old name place → HasNumber name number entries.old entries.new }
-    ensures names { names_in entries.new ≡ names_in entries.old }
     ensures distinct { are_distinct (names_in entries.old) ≡ true → are_distinct (names_in entries.new) ≡ true }
 {
     let entry = &mut entries[place];

@@ -1,5 +1,4 @@
 use Rattle.std.proofs.Common.{refl, get_or}
-use Rattle.std.proofs.Math.Seq.{map-set_same}
 use Rattle.cord_run.specs.declared.store.Entry.{Entry}
 use Rattle.cord_run.proofs.Entries.{content_set, distinct_set, name_at_place}
 use Rattle.cord_run.proofs.store.contents.set_content.Goals as goal
@@ -12,6 +11,5 @@ returns c =
     let to : Entry = record { name = from.name; content = c.args.content; number = from.number; extensible = from.extensible } in
     record {
       set = λ name here. content_set name there _ entries c.args.place here (name_at_place entries name c.args.place there here) refl refl;
-      names = map-set_same (λ (entry : Entry). entry.name) entries c.args.place to there refl;
       distinct = λ distinct. distinct_set entries c.args.place there to refl distinct;
     }

@@ -1,5 +1,4 @@
 use Rattle.std.proofs.Common.{refl, subst, get_or, slice_set}
-use Rattle.std.proofs.Math.Seq.{map-set_same}
 use Rattle.cord_run.specs.declared.store.Content.{Content}
 use Rattle.cord_run.specs.declared.store.Entry.{Entry}
 use Rattle.cord_run.specs.inner.Entries.{HasContent}
@@ -17,6 +16,5 @@ returns c =
       set = λ name here. subst (λ (content : Content). HasContent name content entries (slice_set entries c.args.place to))
           c.become_length.ensures
           (content_set name there to entries c.args.place here (name_at_place entries name c.args.place there here) refl refl);
-      names = map-set_same (λ (entry : Entry). entry.name) entries c.args.place to there refl;
       distinct = λ distinct. distinct_set entries c.args.place there to refl distinct;
     }

@@ -1,5 +1,4 @@
 use Rattle.std.proofs.Common.{ℤ, refl, subst, slice_set, get_or, to_z, of_z, w64}
-use Rattle.std.proofs.Math.Seq.{map-set_same}
 use Rattle.std.proofs.lemmas.Int.{to_z-of_z}
 use Rattle.cord_run.specs.declared.store.Entry.{Entry}
 use Rattle.cord_run.specs.inner.Entries.{HasNumber}
@@ -17,6 +16,5 @@ returns c =
       set = λ name here. subst (λ (z : ℤ). HasNumber name z entries (slice_set entries c.args.place to))
           (to_z-of_z w64 c.args.number c.ranges.number)
           (number_set name there to entries c.args.place here (name_at_place entries name c.args.place there here) refl refl);
-      names = map-set_same (λ (entry : Entry). entry.name) entries c.args.place to there refl;
       distinct = λ distinct. distinct_set entries c.args.place there to refl distinct;
     }

@@ -1,6 +1,5 @@
 use Rattle.std.proofs.Common.{◌<◌, None, refl, ap, subst, ◌∙◌, slice_set, get_or}
 use Rattle.std.proofs.lemmas.List.{set-get_or}
-use Rattle.std.proofs.Math.Seq.{map-set_same}
 use Rattle.cord_io.specs.declared.TheConstants.{MAX_LEN}
 use Rattle.cord_core.specs.Cord.{text_len}
 use Rattle.cord_run.specs.declared.store.Content.{Content}
@@ -38,6 +37,5 @@ returns c =
       })) (done.unchanged is)
           ∙ set-get_or entries place there;
       refused = done.refused;
-      names = map-set_same (λ (entry : Entry). entry.name) entries place to there refl;
       distinct = λ distinct. distinct_set entries place there to refl distinct;
     }
