@@ -36,6 +36,7 @@ use Rattle.cord_run.proofs.Prefixes.{joined}
 use Rattle.cord_run.proofs.Lengths.{Both, cord_fits, content_text, length_passed, operand_value, texts_split}
 use Rattle.cord_run.proofs.Definitions.{cord_limit}
 use Rattle.cord_run.proofs.Origins.{turns_joined}
+use Rattle.cord_run.proofs.Refusals.{stop_by}
 
 -- ---- one part
 module _ (entries : List Entry) where
@@ -252,19 +253,13 @@ module _ (entries : List Entry) (d e : Expr) where
 
   -- the first has a fault, or no memory
   pub first_unbuilt : (stop : Stop) → IsUnbuilt entries d stop → IsUnbuilt entries both stop
-  first_unbuilt (stops.Fault kind) faulty = λ t over there.
+  first_unbuilt = stop_by _ _ (λ kind faulty t over there.
       ap (λ (r : Result (List ℕ) FaultKind). and_then (joined r (joined (text_in MAX_LEN (plain_of t entries) e) (Ok [])))
-      (λ text. within MAX_LEN text)) (faulty t over (here t there).first)
-  first_unbuilt stops.NoMemory h = tt
-  first_unbuilt stops.ReadFailed h = h
-  first_unbuilt stops.WriteFailed h = h
+      (λ text. within MAX_LEN text)) (faulty t over (here t there).first))
 
   -- the first one was built, and the other has a fault, or no memory
   pub second_unbuilt : (prefix : Option Node) → IsBuilt entries d prefix → (stop : Stop) → IsUnbuilt entries e stop →
       IsUnbuilt entries both stop
-  second_unbuilt prefix one (stops.Fault kind) faulty = λ t over there.
+  second_unbuilt prefix one = stop_by _ _ (λ kind faulty t over there.
       let h = here t there in
-      (λ j. and_then (joined (one.bytes t over h.first j) (joined (faulty t over h.second j) (Ok []))) (λ text. within MAX_LEN text))
-  second_unbuilt prefix one stops.NoMemory h = tt
-  second_unbuilt prefix one stops.ReadFailed h = h
-  second_unbuilt prefix one stops.WriteFailed h = h
+      (λ j. and_then (joined (one.bytes t over h.first j) (joined (faulty t over h.second j) (Ok []))) (λ text. within MAX_LEN text)))
