@@ -14,7 +14,7 @@
 #include <time.h>
 #include <zomtsje.h>
 
-enum { LOOKUPS = 1000000, EDITS = 100000, LONGEST = 40, BLOCK = 6656 };
+enum { LOOKUPS = 1000000, EDITS = 100000, LONGEST = 40, BLOCK = 8192 };
 
 static uint64_t state = 88172645463325252u;
 

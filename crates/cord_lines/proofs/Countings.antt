@@ -1,8 +1,9 @@
 -- Counts of texts, one after the other.
-use Rattle.std.proofs.Common.{◌≡◌, ℕ, ◌+◌, ◌-◌, ◌<◌, ◌≤◌, ◌^◌, cond, List, [], ◌∷◌, ◌++◌, length, take, sym, ap, ◌∙◌, arith, length-append, Bool, true, false}
+use Rattle.std.proofs.Common.{◌≡◌, ℕ, ◌+◌, ◌-◌, ◌<◌, ◌≤◌, ◌^◌, cond, List, [], ◌∷◌, ◌++◌, length, take, drop, sym, ap, ◌∙◌, arith, length-append, Bool, true, false}
 use Rattle.std.specs.Prelude.{◌==◌, if◌then◌else◌}
 use Rattle.std.proofs.lemmas.List.Sums.{sum_by-append, count_by-le-length}
-use Rattle.cord_node.proofs.Ranges.{take-append_right}
+use Rattle.std.proofs.lemmas.List.{drop-drop}
+use Rattle.std.proofs.Math.Seq.{take-add, take-append_seam}
 use Rattle.cord_lines.specs.declared.counting.Counts.{Counts}
 use Rattle.cord_lines.specs.Counts.{begins_char, chars_in, counts_of, ends_in, is_end, plus, AreFew}
 use Rattle.cord_lines.specs.Lines.{after_ends}
@@ -24,25 +25,21 @@ counts-append x y = same_counts (counts_of (x ++ y)) (plus (counts_of x) (counts
 pub plus_assoc : (a b c : Counts) → plus (plus a b) c ≡ plus a (plus b c)
 plus_assoc a b c = same_counts (plus (plus a b) c) (plus a (plus b c)) (omega arith) (omega arith) (omega arith)
 
-pub part_left : (a b : Counts) → without (plus a b) b ≡ a
-part_left a b = same_counts (without (plus a b) b) a (omega arith) (omega arith) (omega arith)
+-- what others are without the last two of three
+pub two_left : (a b c : Counts) → without (without (plus (plus a b) c) b) c ≡ a
+two_left a b c = same_counts (without (without (plus (plus a b) c) b) c) a (omega arith) (omega arith) (omega arith)
 
 -- a chunk more is counted
-pub counted_more : (all have next : Counts) (left less : ℕ) (old chunk new : List ℕ) → plus have (counts_of (take left old)) ≡ all → old ≡ chunk ++ new →
-    length chunk ≤ left → next ≡ plus have (counts_of chunk) → less ≡ left - length chunk → plus next (counts_of (take less new)) ≡ all
-counted_more all have next left less old chunk new whole prefix le is fewer =
-    let cut : take left old ≡ chunk ++ take less new =
-    ap (take left) prefix ∙ take-append_right chunk new left le ∙ ap (λ (k : ℕ). chunk ++ take k new) (sym fewer) in
-    ap (λ (a : Counts). plus a (counts_of (take less new))) is ∙ plus_assoc have (counts_of chunk) (counts_of (take less new))
-    ∙ ap (plus have) (sym (counts-append chunk (take less new)) ∙ ap counts_of (sym cut)) ∙ whole
-
--- what is counted is few, where all is
-pub few_so_far : (all next rest : Counts) → plus next rest ≡ all → AreFew all → AreFew next
-few_so_far all next rest whole few = record {
-  bytes = (let e = ap (λ (a : Counts). a.bytes) whole in omega (arith, e, few.bytes));
-  ends = (let e = ap (λ (a : Counts). a.ends) whole in omega (arith, e, few.ends));
-  chars = (let e = ap (λ (a : Counts). a.chars) whole in omega (arith, e, few.chars));
-}
+pub counted_on : (x chunk : List ℕ) (from : ℕ) (have : Counts) → have ≡ counts_of (take have.bytes (drop from x)) →
+    drop (from + have.bytes) x ≡ chunk ++ drop (length chunk) (drop (from + have.bytes) x) →
+    plus have (counts_of chunk) ≡ counts_of (take (have.bytes + length chunk) (drop from x))
+counted_on x chunk from have is next =
+    let rest = drop from x in
+    let n = length chunk in
+    let piece : take n (drop have.bytes rest) ≡ chunk =
+    ap (take n) (drop-drop have.bytes from x ∙ next) ∙ take-append_seam chunk (drop n (drop (from + have.bytes) x)) in
+    ap (λ (a : Counts). plus a (counts_of chunk)) is ∙ sym (counts-append (take have.bytes rest) chunk)
+    ∙ ap counts_of (sym (take-add have.bytes n rest ∙ ap (λ (y : List ℕ). take have.bytes rest ++ y) piece))
 
 pub ends-le : (x : List ℕ) → ends_in x ≤ length x
 ends-le x = count_by-le-length is_end x

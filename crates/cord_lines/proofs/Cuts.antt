@@ -14,7 +14,7 @@ use Rattle.cord_lines.specs.declared.blocks.Block.{Block}
 use Rattle.cord_lines.specs.Counts.{counts_of, ends_in, plus, AreFew, AreNarrow}
 use Rattle.cord_lines.specs.inner.Blocks.{block_counts, total, without}
 use Rattle.cord_lines.specs.inner.Cuts.{AreBlocksOf, AreModest, AreOfSomeText, IsModest, shown}
-use Rattle.cord_lines.proofs.Countings.{counts-append, ends-le, chars-le, part_left}
+use Rattle.cord_lines.proofs.Countings.{counts-append, ends-le, chars-le, two_left}
 use Rattle.cord_lines.proofs.Sums.{min_prefix, total-cons}
 
 pub total_is : (bs : List Block) (x : List ℕ) → AreBlocksOf bs x → total bs ≡ counts_of x
@@ -152,23 +152,15 @@ narrow x lt = record { bytes = lt; ends = omega (arith, lt, ends-le x); chars = 
 pub all_of : (x : List ℕ) (n : ℕ) → n ≡ length x → take (n - 0) (drop 0 x) ≡ x
 all_of x n e = take_all (n - 0) x (omega (arith, e))
 
--- what is before a block, and then some bytes more, fits
-pub few_more : (bs : List Block) (i p n : ℕ) (x : List ℕ) → AreModest bs → n ≤ MAX_LEN → p ≤ n →
-    AreFew (plus (total (take i bs)) (counts_of (take (n - p) (drop p x))))
-few_more bs i p n x m le le2 =
-    let here = short (n - p) (drop p x) in
-    record {
-      bytes = omega (arith, m.bytes, le, here, sum_by-take-le (λ (b : Block). b.bytes) bs i);
-      ends = omega (arith, m.ends, le, here, ends-le (take (n - p) (drop p x)), sum_by-take-le (λ (b : Block). b.ends) bs i);
-      chars = omega (arith, m.chars, le, here, chars-le (take (n - p) (drop p x)), sum_by-take-le (λ (b : Block). b.chars) bs i);
-    }
-
-pub few_before : (bs : List Block) (i : ℕ) → AreModest bs → AreFew (total (take i bs))
-few_before bs i m = record {
+pub modest_before : (bs : List Block) (i : ℕ) → AreModest bs → IsModest (total (take i bs))
+modest_before bs i m = record {
   bytes = omega (arith, m.bytes, sum_by-take-le (λ (b : Block). b.bytes) bs i);
   ends = omega (arith, m.ends, sum_by-take-le (λ (b : Block). b.ends) bs i);
   chars = omega (arith, m.chars, sum_by-take-le (λ (b : Block). b.chars) bs i);
 }
+
+pub few_of : (c : Counts) → IsModest c → AreFew c
+few_of c m = record { bytes = omega (arith, m.bytes); ends = omega (arith, m.ends); chars = omega (arith, m.chars) }
 
 module _ (bs : List Block) (x : List ℕ) (c : AreBlocksOf bs x) (i : ℕ) where
   abbrev s : Split i bs x
@@ -180,33 +172,24 @@ module _ (bs : List Block) (x : List ℕ) (c : AreBlocksOf bs x) (i : ℕ) where
   starts : (total (take i bs)).bytes ≡ length s.prefix
   starts = ap (λ (a : Counts). a.bytes) before
 
-  rest : (p : ℕ) → p ≡ length s.prefix → drop p x ≡ s.back
-  rest p e = ap (λ (n : ℕ). drop n x) e ∙ ap (drop (length s.prefix)) s.text ∙ drop-append_seam s.prefix s.back
-
-  pub counts_to : (p end place : ℕ) → p ≡ (total (take i bs)).bytes → p ≤ end → end ≡ min (length x) place →
-      plus (total (take i bs)) (counts_of (take (end - p) (drop p x))) ≡ counts_of (take place x)
-  counts_to p end place e le min-is =
-      let p-is : p ≡ length s.prefix = e ∙ starts in
-      let reach : length s.prefix ≤ end = omega (arith, p-is, le) in
-      ap (λ (a : Counts). plus a (counts_of (take (end - p) (drop p x)))) before
-      ∙ ap (λ (y : List ℕ). plus (counts_of s.prefix) (counts_of (take (end - p) y))) (rest p p-is)
-      ∙ ap (λ (n : ℕ). plus (counts_of s.prefix) (counts_of (take (end - n) s.back))) p-is
-      ∙ sym (counts-append s.prefix (take (end - length s.prefix) s.back))
-      ∙ ap counts_of (sym (take-append_right s.prefix s.back end reach) ∙ ap (take end) (sym s.text) ∙ min_prefix x place end min-is)
-
   pub counts_at : (p : ℕ) → p ≡ (total (take i bs)).bytes → total (take i bs) ≡ counts_of (take p x)
   counts_at p e = before ∙ ap counts_of (sym (ap (λ (n : ℕ). take n x) (e ∙ starts) ∙ ap (take (length s.prefix)) s.text
       ∙ take-append_seam s.prefix s.back))
 
-  -- the same, counted back from a block
-  pub counts_back : (place end : ℕ) → end ≡ (total (take i bs)).bytes → place ≤ end →
-      without (total (take i bs)) (counts_of (take (end - place) (drop place x))) ≡ counts_of (take place x)
-  counts_back place end e le =
-      let whole : end ≡ place + (end - place) = omega (arith, le) in
-      let piece = take (end - place) (drop place x) in
-      ap (λ (a : Counts). without a (counts_of piece)) (counts_at end e
-      ∙ ap counts_of (ap (λ (n : ℕ). take n x) whole ∙ take-add place (end - place) x) ∙ counts-append (take place x) piece)
-      ∙ part_left (counts_of (take place x)) (counts_of piece)
+-- what is before a place, counted back from a place behind it
+pub counts_back : (x : List ℕ) (end : Counts) (place count : ℕ) → end ≡ counts_of (take end.bytes x) → place + count ≤ end.bytes →
+    without (without end (counts_of (take count (drop place x)))) (counts_of (take (end.bytes - (place + count)) (drop (place + count) x)))
+    ≡ counts_of (take place x)
+counts_back x end place count is le =
+    let whole : end.bytes ≡ place + count + (end.bytes - (place + count)) = omega (arith, le) in
+    let next = counts_of (take count (drop place x)) in
+    let piece = take (end.bytes - (place + count)) (drop (place + count) x) in
+    let first : counts_of (take (place + count) x) ≡ plus (counts_of (take place x)) next =
+    ap counts_of (take-add place count x) ∙ counts-append (take place x) (take count (drop place x)) in
+    let all : end ≡ plus (plus (counts_of (take place x)) next) (counts_of piece) =
+    is ∙ ap counts_of (ap (λ (n : ℕ). take n x) whole ∙ take-add (place + count) (end.bytes - (place + count)) x)
+    ∙ counts-append (take (place + count) x) piece ∙ ap (λ (a : Counts). plus a (counts_of piece)) first in
+    ap (λ (a : Counts). without (without a next) (counts_of piece)) all ∙ two_left (counts_of (take place x)) next (counts_of piece)
 
 -- a search that goes on where some ends are passed
 pub past_counts : (x : List ℕ) (c : Counts) (from n : ℕ) → c ≡ counts_of (take c.bytes x) → from ≡ min c.bytes (length x) → c.ends < n →

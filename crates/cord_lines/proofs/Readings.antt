@@ -1,28 +1,35 @@
 -- What a text has from a place on, chunk by chunk.
-use Rattle.std.proofs.Common.{◌≡◌, ℕ, ◌+◌, ◌-◌, ◌<◌, ◌≤◌, List, ◌++◌, length, take, drop, min, sym, ap, ◌∙◌, arith, length-take, length-append, append_assoc}
-use Rattle.std.proofs.lemmas.List.{take-append-drop, take-append-le, drop-drop}
+use Rattle.std.proofs.Common.{◌≡◌, ℕ, ◌+◌, ◌-◌, ◌<◌, ◌≤◌, List, ◌++◌, length, drop, sym, ap, ◌∙◌, arith, length-append, append_assoc}
+use Rattle.std.proofs.lemmas.List.{drop-drop}
+use Rattle.std.proofs.Math.Seq.{drop-append_seam}
 use Rattle.cord.specs.declared.chunks.Chunk.{Chunk}
 use Rattle.cord.specs.Chunks.{chunk_bytes}
 use Rattle.cord_lines.specs.Counts.{ends_in}
 use Rattle.cord_lines.specs.Lines.{after_ends}
-use Rattle.cord_lines.specs.inner.Reading.{IsPrefix, IsSearch}
+use Rattle.cord_lines.specs.inner.Reading.{IsAhead, IsCut, IsSearch}
+use Rattle.cord_lines.specs.declared.reading.Cut.{Cut}
 use Rattle.cord_lines.specs.declared.reading.Search.TheVariants.{Found, Missing}
 use Rattle.cord_lines.proofs.Countings.{after-le}
 use Rattle.cord_lines.proofs.Ends.{in_first, past_all}
-use Rattle.cord_lines.proofs.Sums.{min_prefix}
 
--- a part of a chunk with which some bytes begin
-pub prefix_is : (all b : List ℕ) (most : ℕ) (chunk : Chunk) → all ≡ b ++ drop (length b) all → 0 < length b → 0 < most →
-    chunk_bytes chunk ≡ take most b → IsPrefix all most chunk
-prefix_is all b most chunk text some more is =
-    let n = length (chunk_bytes chunk) in
-    let len : n ≡ min (length b) most = ap (λ (y : List ℕ). length y) is ∙ length-take most b ∙ omega arith in
-    let le : n ≤ length b = omega (arith, len) in
+-- some bytes that go on
+ahead_of : (all back rest : List ℕ) → all ≡ back ++ rest → all ≡ back ++ drop (length back) all
+ahead_of all back rest e = e ∙ ap (λ (y : List ℕ). back ++ y) (sym (ap (drop (length back)) e ∙ drop-append_seam back rest))
+
+-- a chunk in two, with which some bytes begin
+pub cut_is : (all : List ℕ) (most : ℕ) (chunk : Chunk) (cut : Cut) → IsAhead all chunk →
+    chunk_bytes chunk ≡ chunk_bytes cut.prefix ++ chunk_bytes cut.back → 0 < length (chunk_bytes cut.prefix) →
+    length (chunk_bytes cut.prefix) ≤ most → IsCut all most cut
+cut_is all most chunk cut ahead parts some few =
+    let a = chunk_bytes cut.prefix in
+    let b = chunk_bytes cut.back in
+    let rest = drop (length (chunk_bytes chunk)) all in
+    let whole : all ≡ a ++ (b ++ rest) = ahead ∙ ap (λ (y : List ℕ). y ++ rest) parts ∙ append_assoc a b rest in
     record {
-      some = omega (arith, len, some, more);
-      few = omega (arith, len);
-      text = sym (take-append-drop n all) ∙ ap (λ (y : List ℕ). y ++ drop n all) (ap (take n) text
-          ∙ take-append-le n b (drop (length b) all) le ∙ min_prefix b most n len ∙ sym is);
+      some = some;
+      few = few;
+      prefix = ahead_of all a (b ++ rest) whole;
+      back = ahead_of (drop (length a) all) b rest (ap (drop (length a)) whole ∙ drop-append_seam a (b ++ rest));
     }
 
 -- the next bytes are behind them

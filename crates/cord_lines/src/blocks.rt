@@ -1,7 +1,7 @@
 // The blocks of a text, and what each holds.
 ghost use Rattle.std.specs.Prelude.{◌≡◌, ◌+◌, ◌-◌, ◌*◌, ◌<◌, ◌≤◌, ◌^◌, ◌++◌, IfOk, OnOk, IsErr, [], length, take, drop, slice_set};
 ghost use Rattle.cord_lines.specs.Counts.{plus, AreFew, AreNarrow};
-ghost use Rattle.cord_lines.specs.inner.Blocks.{amount, block_counts, own, total, total_by, AreSumsOf};
+ghost use Rattle.cord_lines.specs.inner.Blocks.{amount, block_counts, own, total, total_by, AreSumsOf, IsFound};
 ghost use Rattle.cord_lines.specs.inner.Cuts.{AreModest};
 
 use crate::counting::Counts;
@@ -164,10 +164,8 @@ impl Blocks {
     /// The last block with no more than `target` before it: of no blocks none.
     pub(crate) fn find(&self, measure: Measure, target: u64) -> Found
         requires { AreFew (total self.now) }
-        ensures inside { result.index ≤ length self.now }
-        ensures before { result.before ≡ total (take result.index self.now) }
+        ensures found { IsFound self.now result }
         ensures most { amount measure result.before ≤ target }
-        ensures short { length self.now < 2 ^ 64 }
     {
         let top = last_with(&self.tops, measure, target, Counts::NONE);
         let sum = last_in_group(&self.sums, top, measure, target);

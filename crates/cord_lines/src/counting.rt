@@ -18,6 +18,9 @@ pub(crate) struct Counts {
 /// The most bytes that are counted in numbers of one byte.
 const FEW: usize = 224;
 
+/// A place is near others where at most so many bytes lie between them.
+const NEAR: u64 = 512;
+
 impl Counts {
     /// The counts of no bytes.
     pub(crate) const NONE: Counts = Counts {
@@ -56,21 +59,20 @@ impl Counts {
         self.bytes <= all.bytes && self.ends <= all.ends && self.chars <= all.chars
     }
 
-    /// Whether they are of no more bytes than a text can have.
-    pub(crate) fn are_modest(self) -> bool
-        ensures { IsTrue result ↔ IsModest self }
+    /// Whether a place lies few bytes behind bytes with these counts.
+    pub(crate) fn are_near(self, place: u64) -> bool
+        ensures { IsTrue result → self.bytes ≤ place }
     {
-        self.bytes <= MAX_LEN && self.ends <= MAX_LEN && self.chars <= MAX_LEN
+        self.bytes <= place && place - self.bytes <= NEAR
     }
 
-    /// These counts, where they are of no more than `most` bytes: else those of no bytes.
+    /// These counts, where they are of no more than `most` bytes and a text can have them: else those of no bytes.
     pub(crate) fn up_to(self, most: u64) -> Counts
-        requires { IsModest self }
         ensures modest { IsModest result }
         ensures from { result.bytes ≤ most }
         ensures marked { (x : List ℕ) → self ≡ counts_of (take self.bytes x) → result ≡ counts_of (take result.bytes x) }
     {
-        if self.bytes <= most {
+        if self.bytes <= most.min(MAX_LEN) && self.ends <= MAX_LEN && self.chars <= MAX_LEN {
             self
         } else {
             Counts::NONE

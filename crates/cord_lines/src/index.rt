@@ -1,5 +1,5 @@
 //! The lines of a text by number.
-ghost use Rattle.std.specs.Prelude.{◌≡◌, ◌+◌, ◌-◌, ◌<◌, ◌≤◌, List, ℕ, IfOk, OnOk, IsErr};
+ghost use Rattle.std.specs.Prelude.{◌≡◌, ◌+◌, ◌-◌, ◌<◌, ◌≤◌, List, ℕ, IfOk, IfSome, OnOk, IsErr};
 ghost use Rattle.std.specs.Prelude.{Some, length, take, drop, min, slice_get};
 ghost use Rattle.cord.specs.Lines.{lines, bare_lines, lines_as};
 ghost use Rattle.cord_lines.specs.Counts.{chars_in, counts_of, ends_in};
@@ -9,10 +9,11 @@ ghost use Rattle.cord_lines.specs.inner.Blocks.{total};
 ghost use Rattle.cord_lines.specs.inner.Cuts.{AreBlocksOf, AreModest, IsModest};
 ghost use Rattle.cord_lines.specs.inner.Edits.{AreRemoved};
 
-use crate::blocks::{Blocks, Found, Measure};
+use crate::around::{around_after, around_within, known_of};
+use crate::blocks::{Blocks, Measure};
 use crate::counting::Counts;
 use crate::cutting::{BLOCK, cut};
-use crate::reading::{after_last_end, count_range, end_from};
+use crate::reading::{after_last_end, end_from};
 use crate::renewing::{Edit, renew};
 use cord::Text;
 use std::alloc::{AllocError, Global};
@@ -21,22 +22,22 @@ use std::marker::Model;
 /// How far before the place where the end of a line is guessed the search begins.
 const MARGIN: u64 = 256;
 
-/// A place is near the last edit where at most so many bytes lie between them.
-const NEAR: u64 = 512;
-
 /// How many lines end, and how many characters begin, in each block of a text, so that a line is found by its number
 /// and by a place in it without a walk through the text. It belongs to one text and doesn't keep it: each call is given
 /// that text once more, and of another text its answers mean nothing.
 ///
-/// A line ends with the byte 10, which the last one may lack. Blocks have 6,656 bytes at first, so the index takes less
-/// than a thousandth of the text's memory. A look-up passes the sums of 4,096 blocks each, 64 sums of 64 blocks each and
-/// 64 blocks, and reads a part of one block: near the place of the last `edited_from` only what lies between.
+/// A line ends with the byte 10, which the last one may lack. Blocks have some 6,550 to 8,192 bytes at first, and end
+/// where a part of the text does, if one ends there, so the index takes less than a thousandth of the text's memory. A
+/// look-up passes the sums of 4,096 blocks each, 64 sums of 64 blocks each and 64 blocks, and reads a part of one block:
+/// near the place of the last `edited_from` only what lies between.
 #[derive(Drop)]
 pub struct LineIndex {
     blocks: Blocks,
     lacks_end: bool,
     // The counts of the bytes before the place of the last edit of which the text before was given, or of no bytes.
     mark: Counts,
+    // Whether a line ends before that place in its block, so that the way back to the end is short.
+    is_end_near: bool,
 }
 
 impl Model for LineIndex {
@@ -59,6 +60,7 @@ impl LineIndex {
             blocks: Blocks::none(alloc),
             lacks_end: false,
             mark: Counts::NONE,
+            is_end_near: false,
         }
     }
 
@@ -72,6 +74,7 @@ impl LineIndex {
             blocks,
             lacks_end: lacks_end_of(text),
             mark: Counts::NONE,
+            is_end_near: false,
         })
     }
 
@@ -90,7 +93,7 @@ impl LineIndex {
         if n == 0 {
             return 0;
         }
-        if n == self.mark.ends && self.mark.bytes <= text.len() && self.has_end_near() {
+        if n == self.mark.ends && self.mark.bytes <= text.len() && self.is_end_near {
             return after_last_end(text, self.mark.bytes);
         }
         let before = before_line(&self.blocks, text, n);
@@ -187,12 +190,11 @@ impl LineIndex {
             removed,
             inserted,
         };
-        let mark = self.mark.up_to(start);
-        self.follow(alloc, after, edit, edit.known_removed(), mark)
+        self.follow(alloc, None, after, edit)
     }
 
     /// As `edited`, but of an edit of the text `before` within one block only what is removed and what is new is counted,
-    /// and what is before its place, from which the look-ups of its line begin.
+    /// and what is between its place, from which the look-ups of its line begin, and the nearer end of the block.
     pub fn edited_from(
         &mut self,
         alloc: Global,
@@ -211,25 +213,19 @@ impl LineIndex {
             removed,
             inserted,
         };
-        let mark = mark_at(&self.blocks, self.mark, before, start);
-        self.follow(alloc, after, edit, edit.removed_from(before), mark)
+        self.follow(alloc, Some(before), after, edit)
     }
 
-    // Makes it the index of the text after an edit, of which the counts of what was removed may be known, and of some of
-    // what is before its place are.
+    // Makes it the index of the text after an edit, of which the text before may be given.
     fn follow(
         &mut self,
         alloc: Global,
+        before: Option<&Text>,
         after: &Text,
         edit: Edit,
-        removed: Option<Counts>,
-        mark: Counts,
     ) -> Result<(), AllocError>
-        requires modest { IsModest mark }
-        requires from { mark.bytes ≤ edit.start }
-        ensures index { OnOk result ((before : List ℕ) → IsIndexOf self.old before → AreRemoved removed edit before →
-            mark ≡ counts_of (take mark.bytes before) →
-            IsEditOf before after.now edit.start edit.removed edit.inserted → IsIndexOf self.new after.now) }
+        ensures index { OnOk result ((x : List ℕ) → IsIndexOf self.old x → IfSome before.entry (λ text. text.now ≡ x) →
+            IsEditOf x after.now edit.start edit.removed edit.inserted → IsIndexOf self.new after.now) }
         ensures unchanged { IsErr result → self.new ≡ self.old }
     {
         let len = self.blocks.counts().bytes;
@@ -237,77 +233,26 @@ impl LineIndex {
             *self = LineIndex::of(alloc, after)?;
             return Ok(());
         }
-        renew(&mut self.blocks, alloc, after, edit, removed)?;
+        let found = self.blocks.find(Measure::Bytes, edit.start);
+        let known = known_of(&self.blocks, self.mark, before, edit, found);
+        renew(&mut self.blocks, alloc, after, edit, found, known.removed)?;
         self.lacks_end = lacks_end_after(edit, len, self.lacks_end, after);
-        self.mark = mark;
+        self.mark = known.mark;
+        self.is_end_near = found.before.ends < known.mark.ends;
         Ok(())
-    }
-
-    // Whether a line ends before the place of the last edit in the block of that place, so that the way back is short.
-    fn has_end_near(&self) -> bool {
-        let found = self.blocks.find(Measure::Bytes, self.mark.bytes);
-        found.before.ends < self.mark.ends
     }
 
     // The counts of the bytes before a place.
     fn counts_before(&self, text: &Text, place: u64) -> Counts
         ensures { IsIndexOf self.now text.now → result ≡ counts_of (take place text.now) }
     {
-        counts_from(&self.blocks, self.mark, text, place)
-    }
-}
-
-// The counts of the bytes before a place, counted from the last mark or in a block: of no bytes where a text can't have
-// so many.
-fn mark_at(blocks: &Blocks, last: Counts, text: &Text, place: u64) -> Counts
-    requires modest { AreModest blocks.now }
-    requires last { IsModest last }
-    ensures modest { IsModest result }
-    ensures from { result.bytes ≤ place }
-    ensures marked { AreBlocksOf blocks.now text.now → last ≡ counts_of (take last.bytes text.now) →
-        result ≡ counts_of (take result.bytes text.now) }
-{
-    let counts = counts_from(blocks, last, text, place);
-    if counts.are_modest() {
-        counts.up_to(place)
-    } else {
-        Counts::NONE
-    }
-}
-
-// The counts of the bytes before a place, counted from a mark, where that is near, and else in a block.
-fn counts_from(blocks: &Blocks, mark: Counts, text: &Text, place: u64) -> Counts
-    requires modest { AreModest blocks.now }
-    requires mark { IsModest mark }
-    ensures { AreBlocksOf blocks.now text.now → mark ≡ counts_of (take mark.bytes text.now) →
-        result ≡ counts_of (take place text.now) }
-{
-    let end = place.min(text.len());
-    if mark.bytes <= end && end - mark.bytes <= NEAR {
-        return mark.plus(count_range(text, mark.bytes, end));
-    }
-    let found = blocks.find(Measure::Bytes, end);
-    counts_within(blocks, text, found, end)
-}
-
-// The counts of the bytes before a place of a block, counted from the nearer end of the block.
-fn counts_within(blocks: &Blocks, text: &Text, found: Found, place: u64) -> Counts
-    requires modest { AreModest blocks.now }
-    requires before { found.before ≡ total (take found.index blocks.now) }
-    requires from { found.before.bytes ≤ place }
-    requires inside { place ≤ length text.now }
-    ensures { AreBlocksOf blocks.now text.now → result ≡ counts_of (take place text.now) }
-{
-    let before = found.before;
-    let len = text.len();
-    if found.index < blocks.len() {
-        let after = before.plus(blocks.get(found.index));
-        let end = after.bytes;
-        if place <= end && end <= len && end - place < place - before.bytes {
-            return after.without(count_range(text, place, end));
+        let end = place.min(text.len());
+        if self.mark.are_near(end) {
+            return around_after(self.mark, text, end, 0).before;
         }
+        let found = self.blocks.find(Measure::Bytes, end);
+        around_within(&self.blocks, text, found, end, 0).before
     }
-    before.plus(count_range(text, before.bytes, place))
 }
 
 // The counts of the bytes before a place that fewer than `n` ends of lines precede: near the `n`th one, where that stands
@@ -325,7 +270,7 @@ fn before_line(blocks: &Blocks, text: &Text, n: u64) -> Counts
             n - 1 - found.before.ends,
         ));
         if place <= text.len() {
-            let counts = counts_within(blocks, text, found, place);
+            let counts = around_within(blocks, text, found, place, 0).before;
             if counts.ends < n {
                 return counts;
             }

@@ -1,6 +1,7 @@
 //! Lines of a text by number.
 #![tactic(auto)]
 
+mod around;
 mod blocks;
 mod counting;
 mod cutting;

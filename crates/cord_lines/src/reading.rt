@@ -1,9 +1,9 @@
 // A text from a place on.
-ghost use Rattle.std.specs.Prelude.{◌≡◌, ◌+◌, ◌-◌, ◌<◌, ◌≤◌, ◌^◌, length, take, drop};
+ghost use Rattle.std.specs.Prelude.{◌≡◌, ◌+◌, ◌-◌, ◌<◌, ◌≤◌, ◌^◌, ◌++◌, length, take, drop};
 ghost use Rattle.cord.specs.Chunks.{chunk_bytes};
 ghost use Rattle.cord_lines.specs.Counts.{counts_of, ends_in};
 ghost use Rattle.cord_lines.specs.Lines.{after_ends};
-ghost use Rattle.cord_lines.specs.inner.Reading.{GivesPrefix, IsSearch};
+ghost use Rattle.cord_lines.specs.inner.Reading.{GivesCut, IsAhead, IsSearch};
 
 use crate::counting::{Counts, count_chunk, count_few};
 use cord::{Chunk, Text};
@@ -20,42 +20,109 @@ enum Search {
     Missing(u64),
 }
 
+/// A chunk in two.
+#[derive(Clone, Copy)]
+struct Cut<'a> {
+    prefix: Chunk<'a>,
+    back: Chunk<'a>,
+}
+
+/// A chunk of no bytes.
+pub(crate) const NOTHING: Chunk<'static> = Chunk::Run { byte: 0, count: 0 };
+
 /// The counts of the bytes from one place of a text up to another.
 pub(crate) fn count_range(text: &Text, from: u64, to: u64) -> Counts
     requires ordered { from ≤ to }
     requires inside { to ≤ length text.now }
     ensures { result ≡ counts_of (take (to - from) (drop from text.now)) }
 {
-    let _len = text.len();
-    let mut counts = Counts::NONE;
-    while counts.bytes < to - from {
-        let Some(chunk) = prefix_at(text, from + counts.bytes, to - from - counts.bytes) else {
-            unreachable!()
-        };
-        counts = counts.plus(count_chunk(chunk));
-    }
-    counts
+    count_next(text, from, to - from, NOTHING).0
 }
 
-// At most so many bytes that a text has at a place in one part.
-fn prefix_at(text: &Text, place: u64, most: u64) -> Option<Chunk<'_>>
-    requires { 0 < most }
-    ensures { GivesPrefix (drop place text.now) most result }
+/// The counts of the next bytes from a place of a text on, some of which may be at hand, and what then is at hand: so
+/// ranges beside each other in one part of the text are counted with one way down to it.
+pub(crate) fn count_next<'a>(
+    text: &'a Text,
+    from: u64,
+    count: u64,
+    held: Chunk<'a>,
+) -> (Counts, Chunk<'a>)
+    requires inside { from + count ≤ length text.now }
+    requires held { IsAhead (drop from text.now) held }
+    ensures counts { result.0 ≡ counts_of (take count (drop from text.now)) }
+    ensures held { IsAhead (drop (from + count) text.now) result.1 }
 {
+    count_parts(text, from, count, count, held)
+}
+
+/// As `count_next`, but of at least `least` bytes: up to the end of a part, or of `most` bytes.
+pub(crate) fn count_parts<'a>(
+    text: &'a Text,
+    from: u64,
+    least: u64,
+    most: u64,
+    held: Chunk<'a>,
+) -> (Counts, Chunk<'a>)
+    requires ordered { least ≤ most }
+    requires inside { from + most ≤ length text.now }
+    requires held { IsAhead (drop from text.now) held }
+    ensures counts { result.0 ≡ counts_of (take result.0.bytes (drop from text.now)) }
+    ensures least { least ≤ result.0.bytes }
+    ensures most { result.0.bytes ≤ most }
+    ensures held { IsAhead (drop (from + result.0.bytes) text.now) result.1 }
+{
+    let _len = text.len();
+    let mut counts = Counts::NONE;
+    let mut ahead = held;
+    while counts.bytes < least {
+        let Some(cut) = cut_at(text, from + counts.bytes, most - counts.bytes, ahead) else {
+            unreachable!()
+        };
+        counts = counts.plus(count_chunk(cut.prefix));
+        ahead = cut.back;
+    }
+    (counts, ahead)
+}
+
+// At most so many bytes that a text has at a place in one part, and what is at hand behind them.
+fn cut_at<'a>(text: &'a Text, place: u64, most: u64, held: Chunk<'a>) -> Option<Cut<'a>>
+    requires some { 0 < most }
+    requires held { IsAhead (drop place text.now) held }
+    ensures { GivesCut (drop place text.now) most result }
+{
+    if held.len() > 0 {
+        return Some(cut_chunk(held, most));
+    }
     match text.chunk_at(place) {
-        Some(chunk) => Some(prefix_of(chunk, most)),
+        Some(chunk) => Some(cut_chunk(chunk, most)),
         None => None,
     }
 }
 
-// At most so many bytes of a chunk.
-fn prefix_of(chunk: Chunk<'_>, most: u64) -> Chunk<'_>
-    ensures { chunk_bytes result ≡ take most (chunk_bytes chunk.entry) }
+// At most so many bytes of a chunk, and the others.
+fn cut_chunk(chunk: Chunk<'_>, most: u64) -> Cut<'_>
+    requires more { 0 < most }
+    requires some { 0 < length (chunk_bytes chunk) }
+    ensures parts { chunk_bytes chunk.entry ≡ chunk_bytes result.prefix ++ chunk_bytes result.back }
+    ensures some { 0 < length (chunk_bytes result.prefix) }
+    ensures few { length (chunk_bytes result.prefix) ≤ most }
 {
     let len = chunk.len().min(most);
     match chunk {
-        Chunk::Bytes(bytes) => Chunk::Bytes(&bytes[..len as usize]),
-        Chunk::Run { byte, .. } => Chunk::Run { byte, count: len },
+        Chunk::Bytes(bytes) => {
+            let (prefix, back) = bytes.split_at(len as usize);
+            Cut {
+                prefix: Chunk::Bytes(prefix),
+                back: Chunk::Bytes(back),
+            }
+        }
+        Chunk::Run { byte, count } => Cut {
+            prefix: Chunk::Run { byte, count: len },
+            back: Chunk::Run {
+                byte,
+                count: count - len,
+            },
+        },
     }
 }
 

@@ -1,11 +1,11 @@
 // Blocks of a text that was edited.
 ghost use Rattle.std.specs.Prelude.{◌≡◌, ◌↔◌, ◌+◌, ◌<◌, ◌≤◌, ◌^◌, List, ℕ, IsTrue, IfSome, OnOk, IsErr, length};
 ghost use Rattle.cord_lines.specs.Counts.{plus, AreFew};
-ghost use Rattle.cord_lines.specs.inner.Blocks.{block_counts, exchanged, total};
+ghost use Rattle.cord_lines.specs.inner.Blocks.{block_counts, exchanged, total, IsFound};
 ghost use Rattle.cord_lines.specs.inner.Cuts.{AreModest, AreOfSomeText};
 ghost use Rattle.cord_lines.specs.inner.Edits.{AreOfBytes, AreRemoved, Covers, EditFits, FollowEdit, IsSpan};
 
-use crate::blocks::{Block, Blocks, Measure};
+use crate::blocks::{Block, Blocks, Found};
 use crate::counting::Counts;
 use crate::cutting::{BLOCK, LARGEST, cut};
 use crate::reading::count_range;
@@ -45,16 +45,11 @@ impl Edit {
         }
     }
 
-    /// The counts of what it removes from a text, if that is little.
-    pub(crate) fn removed_from(self, before: &Text) -> Option<Counts>
-        ensures { AreRemoved result self before.now }
+    /// Whether it removes little, which a text of so many bytes has.
+    pub(crate) fn removes_little(self, len: u64) -> bool
+        ensures { IsTrue result → self.start + self.removed ≤ len }
     {
-        let len = before.len();
-        if self.removed <= LARGEST && self.start <= len && self.removed <= len - self.start {
-            Some(count_range(before, self.start, self.start + self.removed))
-        } else {
-            None
-        }
+        self.removed <= LARGEST && self.start <= len && self.removed <= len - self.start
     }
 }
 
@@ -74,9 +69,12 @@ pub(crate) fn renew(
     alloc: Global,
     after: &Text,
     edit: Edit,
+    found: Found,
     removed: Option<Counts>,
 ) -> Result<(), AllocError>
     requires blocks { AreOfSomeText blocks.old }
+    requires found { IsFound blocks.old found }
+    requires from { found.before.bytes ≤ edit.start }
     requires edit { EditFits edit (total blocks.old).bytes (length after.now) }
     ensures blocks { AreOfSomeText blocks.new }
     ensures cut { OnOk result (FollowEdit blocks.old blocks.new after.now edit removed) }
@@ -84,7 +82,7 @@ pub(crate) fn renew(
 {
     let len_after = after.len();
     prove!(edit.inserted <= len_after);
-    let span = span_of(blocks, edit);
+    let span = span_of(blocks, edit, found);
     let len = span.bytes - edit.removed + edit.inserted;
     if span.count == 1 && len <= LARGEST {
         if let Some(removed) = removed {
@@ -135,12 +133,14 @@ fn size_of(len: u64, count: usize) -> u64
 }
 
 // The blocks that an edit meets, with one more beside them where they would be small afterwards.
-fn span_of(blocks: &Blocks, edit: Edit) -> Span
+fn span_of(blocks: &Blocks, edit: Edit, found: Found) -> Span
     requires modest { AreModest blocks.now }
+    requires found { IsFound blocks.now found }
+    requires from { found.before.bytes ≤ edit.start }
     requires inside { edit.start + edit.removed ≤ (total blocks.now).bytes }
     ensures { Covers blocks.now result edit }
 {
-    let span = span_over(blocks, edit.start, edit.start + edit.removed);
+    let span = span_over(blocks, found, edit.start + edit.removed);
     if span.count > 0 && SMALLEST <= span.bytes - edit.removed + edit.inserted.min(SMALLEST) {
         span
     } else if span.first + span.count < blocks.len() {
@@ -152,17 +152,15 @@ fn span_of(blocks: &Blocks, edit: Edit) -> Span
     }
 }
 
-// The blocks that hold the bytes from one place up to another.
-fn span_over(blocks: &Blocks, start: u64, end: u64) -> Span
+// The blocks that hold the bytes from where a block begins up to a place.
+fn span_over(blocks: &Blocks, found: Found, end: u64) -> Span
     requires modest { AreModest blocks.now }
-    requires ordered { start ≤ end }
+    requires found { IsFound blocks.now found }
     requires inside { end ≤ (total blocks.now).bytes }
     ensures span { IsSpan blocks.now result }
-    ensures from { result.start ≤ start }
+    ensures from { result.start ≡ found.before.bytes }
     ensures to { end ≤ result.start + result.bytes }
-    ensures short { length blocks.now < 2 ^ 64 }
 {
-    let found = blocks.find(Measure::Bytes, start);
     let mut span = Span {
         first: found.index,
         count: 0,

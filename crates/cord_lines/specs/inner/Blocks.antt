@@ -1,8 +1,9 @@
 -- Blocks of a text: what they hold together, and the sums of groups of them.
-use Rattle.std.specs.Prelude.{◌≡◌, ℕ, ◌+◌, ◌-◌, ◌<◌, ◌≤◌, List, [], ◌∷◌, length, take, drop}
+use Rattle.std.specs.Prelude.{◌≡◌, ℕ, ◌+◌, ◌-◌, ◌<◌, ◌≤◌, ◌^◌, List, [], ◌∷◌, length, take, drop}
 use Rattle.std.specs.List.{sum_by}
 use Rattle.cord_lines.specs.declared.counting.Counts.{Counts}
 use Rattle.cord_lines.specs.declared.blocks.Block.{Block}
+use Rattle.cord_lines.specs.declared.blocks.Found.{Found}
 use Rattle.cord_lines.specs.declared.blocks.Measure.{Measure}
 use Rattle.cord_lines.specs.declared.blocks.Measure.TheVariants.{Bytes, Ends}
 
@@ -17,6 +18,12 @@ total bs = record { bytes = sum_by (λ b. b.bytes) bs; ends = sum_by (λ b. b.en
 abbrev pub amount : Measure → Counts → ℕ
 amount Bytes c = c.bytes
 amount Ends c = c.ends
+
+-- a block, or the end of all, with the counts of what is before it
+pub record IsFound (bs : List Block) (found : Found) : Type 0 where
+  pub inside : found.index ≤ length bs
+  pub before : found.before ≡ total (take found.index bs)
+  pub short : length bs < 2 ^ 64
 
 -- those of things of which each has some
 abbrev pub total_by : {A : Type 0} → (A → Counts) → List A → Counts

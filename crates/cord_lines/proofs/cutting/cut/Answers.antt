@@ -1,18 +1,14 @@
-use Rattle.std.proofs.Common.{◌≡◌, ◌∙◌, ℕ, ◌-◌, ◌<◌, ◌≤◌, take, drop, ap, arith, subst, sym}
-use Rattle.cord_lines.specs.Counts.{AreNarrow}
+use Rattle.std.proofs.Common.{◌≡◌, ◌∙◌, ℕ, ◌+◌, ◌-◌, take, drop, ap, sym, arith, subst}
+use Rattle.cord_lines.specs.Counts.{counts_of, AreNarrow}
 use Rattle.cord_lines.specs.inner.Cuts.{AreBlocksOf}
 use Rattle.cord_lines.proofs.Cuts.{one_piece_more, range_more, short, narrow}
 use Rattle.cord_lines.proofs.cutting.cut.Goals as goal
-use Rattle.cord_lines.proofs.cutting.cut.Goals.{then-to-place, else-to-place}
 
 pub of-requires : goal.of-requires
 of-requires c =
-    let few : c.if-to-place.end - c.loop-place.place < 65536 = elim c.if-to-place.branch [
-      | then-to-place w ↦ omega (arith, w.end-is, w.if-to-place.true, c.requires.few)
-      | else-to-place w ↦ omega (arith, w.end-is, c.requires.few)
-    ] in
-    let len = short (c.if-to-place.end - c.loop-place.place) (drop c.loop-place.place c.args.text.now) in
-    subst AreNarrow (sym c.count_range.ensures) (narrow (take (c.if-to-place.end - c.loop-place.place) (drop c.loop-place.place c.args.text.now)) (omega (arith, few, len)))
+    let n = c.next_block-counts.result.bytes in
+    let rest = drop c.loop-place.place c.args.text.now in
+    subst AreNarrow (sym c.next_block-counts.ensures.counts) (narrow (take n rest) (omega (arith, short n rest, c.next_block-counts.ensures.few)))
 
 pub loop-place-init : goal.loop-place-init
 loop-place-init c =
@@ -25,21 +21,18 @@ loop-place-init c =
 
 pub loop-place-preserved : goal.loop-place-preserved
 loop-place-preserved c =
-    let further : c.loop-place.place ≤ c.if-to-place.end = elim c.if-to-place.branch [
-      | then-to-place w ↦ omega (arith, w.end-is, c.loop-place-test.true)
-      | else-to-place w ↦ omega (arith, w.end-is)
-    ] in
-    let within : c.if-to-place.end ≤ c.args.to = elim c.if-to-place.branch [
-      | then-to-place w ↦ omega (arith, w.end-is)
-      | else-to-place w ↦ omega (arith, w.end-is, w.if-to-place.false, c.loop-place-test.true, c.requires.some)
-    ] in
+    let x = c.args.text.now in
+    let from = c.args.from in
+    let place = c.loop-place.place in
+    let n = c.next_block-counts.result.bytes in
+    let piece : n ≡ (place + n) - place = omega arith in
     record {
-      cut = rw c.in_ok-push.ensures.items (one_piece_more c.loop-place.blocks.items c.of.result (take (c.loop-place.place - c.args.from) (drop c.args.from c.args.text.now))
-          (take (c.if-to-place.end - c.loop-place.place) (drop c.loop-place.place c.args.text.now)) (take (c.if-to-place.end - c.args.from) (drop c.args.from c.args.text.now))
-          c.loop-place.invariant.cut (c.of.ensures ∙ c.count_range.ensures)
-          (range_more c.args.text.now c.args.from c.loop-place.place c.if-to-place.end c.loop-place.invariant.from further));
-      from = omega (arith, further, c.loop-place.invariant.from);
-      to = within;
+      cut = rw c.in_ok-push.ensures.items (one_piece_more c.loop-place.blocks.items c.of.result (take (place - from) (drop from x))
+          (take ((place + n) - place) (drop place x)) (take ((place + n) - from) (drop from x)) c.loop-place.invariant.cut
+          (c.of.ensures ∙ c.next_block-counts.ensures.counts ∙ ap (λ (k : ℕ). counts_of (take k (drop place x))) piece)
+          (range_more x from place (place + n) c.loop-place.invariant.from (omega arith)));
+      from = omega (arith, c.loop-place.invariant.from);
+      to = c.next_block-counts.ensures.inside;
     }
 
 pub returns : goal.returns

@@ -8,5 +8,5 @@ find-found-requires c = few c.args.blocks.now c.requires.modest
 
 pub returns-clause-counts : goal.returns-clause-counts
 returns-clause-counts c = λ cut.
-    c.find-found.ensures.before ∙ counts_at c.args.blocks.now c.args.text.now cut c.find-found.result.index c.find-found.result.before.bytes
-    (ap (λ (a : Counts). a.bytes) c.find-found.ensures.before)
+    c.find-found.ensures.found.before ∙ counts_at c.args.blocks.now c.args.text.now cut c.find-found.result.index c.find-found.result.before.bytes
+    (ap (λ (a : Counts). a.bytes) c.find-found.ensures.found.before)

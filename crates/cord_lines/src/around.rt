@@ -1,0 +1,139 @@
+// What a text has before a place, and behind it.
+ghost use Rattle.std.specs.Prelude.{◌≡◌, ◌+◌, ◌≤◌, List, ℕ, IfSome, length, take, drop};
+ghost use Rattle.cord_lines.specs.Counts.{counts_of};
+ghost use Rattle.cord_lines.specs.inner.Blocks.{IsFound};
+ghost use Rattle.cord_lines.specs.inner.Cuts.{AreBlocksOf, AreModest, IsModest};
+ghost use Rattle.cord_lines.specs.inner.Edits.{AreRemoved};
+
+use crate::blocks::{Blocks, Found};
+use crate::counting::Counts;
+use crate::reading::{NOTHING, count_next};
+use crate::renewing::Edit;
+use cord::Text;
+
+/// The counts of the bytes before a place of a text, and of some next ones.
+#[derive(Clone, Copy)]
+pub(crate) struct Around {
+    pub(crate) before: Counts,
+    pub(crate) next: Counts,
+}
+
+/// What is known of the text before an edit: the counts of bytes before its place, and of those that it removes.
+#[derive(Clone, Copy)]
+pub(crate) struct Known {
+    pub(crate) mark: Counts,
+    pub(crate) removed: Option<Counts>,
+}
+
+/// What is known of it, if it is given: the block where the edit begins was found.
+pub(crate) fn known_of(
+    blocks: &Blocks,
+    last: Counts,
+    before: Option<&Text>,
+    edit: Edit,
+    found: Found,
+) -> Known
+    requires modest { AreModest blocks.now }
+    requires last { IsModest last }
+    requires found { IsFound blocks.now found }
+    requires from { found.before.bytes ≤ edit.start }
+    ensures modest { IsModest result.mark }
+    ensures from { result.mark.bytes ≤ edit.start }
+    ensures marked { (x : List ℕ) → IfSome before.entry (λ text. text.now ≡ x) → AreBlocksOf blocks.now x →
+        last ≡ counts_of (take last.bytes x) → result.mark ≡ counts_of (take result.mark.bytes x) }
+    ensures removed { (x : List ℕ) → IfSome before.entry (λ text. text.now ≡ x) → AreRemoved result.removed edit x }
+{
+    if let Some(text) = before {
+        if edit.removes_little(text.len()) {
+            let around = around_near(blocks, last, text, edit, found);
+            return Known {
+                mark: around.before.up_to(edit.start),
+                removed: Some(around.next),
+            };
+        }
+    }
+    Known {
+        mark: last.up_to(edit.start),
+        removed: edit.known_removed(),
+    }
+}
+
+// What is around the place of an edit: before it, and removed there.
+fn around_near(blocks: &Blocks, last: Counts, text: &Text, edit: Edit, found: Found) -> Around
+    requires modest { AreModest blocks.now }
+    requires last { IsModest last }
+    requires found { IsFound blocks.now found }
+    requires from { found.before.bytes ≤ edit.start }
+    requires inside { edit.start + edit.removed ≤ length text.now }
+    ensures before { AreBlocksOf blocks.now text.now → last ≡ counts_of (take last.bytes text.now) →
+        result.before ≡ counts_of (take edit.start text.now) }
+    ensures next { result.next ≡ counts_of (take edit.removed (drop edit.start text.now)) }
+{
+    if last.are_near(edit.start) {
+        around_after(last, text, edit.start, edit.removed)
+    } else {
+        around_within(blocks, text, found, edit.start, edit.removed)
+    }
+}
+
+/// What is around a place of a block, counted from the nearer end of the block.
+pub(crate) fn around_within(
+    blocks: &Blocks,
+    text: &Text,
+    found: Found,
+    place: u64,
+    count: u64,
+) -> Around
+    requires modest { AreModest blocks.now }
+    requires found { IsFound blocks.now found }
+    requires from { found.before.bytes ≤ place }
+    requires inside { place + count ≤ length text.now }
+    ensures before { AreBlocksOf blocks.now text.now → result.before ≡ counts_of (take place text.now) }
+    ensures next { result.next ≡ counts_of (take count (drop place text.now)) }
+{
+    let before = found.before;
+    let len = text.len();
+    if found.index < blocks.len() {
+        let end = before.plus(blocks.get(found.index));
+        if end.bytes <= len
+            && place + count <= end.bytes
+            && end.bytes - place < place - before.bytes
+        {
+            return around_up_to(end, text, place, count);
+        }
+    }
+    around_after(before, text, place, count)
+}
+
+/// What is around a place, counted from bytes before it on, of which the counts are known.
+pub(crate) fn around_after(from: Counts, text: &Text, place: u64, count: u64) -> Around
+    requires modest { IsModest from }
+    requires ordered { from.bytes ≤ place }
+    requires inside { place + count ≤ length text.now }
+    ensures before { from ≡ counts_of (take from.bytes text.now) → result.before ≡ counts_of (take place text.now) }
+    ensures next { result.next ≡ counts_of (take count (drop place text.now)) }
+{
+    let _len = text.len();
+    let counted = count_next(text, from.bytes, place - from.bytes, NOTHING);
+    let next = count_next(text, place, count, counted.1).0;
+    Around {
+        before: from.plus(counted.0),
+        next,
+    }
+}
+
+// What is around a place, counted up to a place behind it, of which the counts of all before it are known.
+fn around_up_to(end: Counts, text: &Text, place: u64, count: u64) -> Around
+    requires ordered { place + count ≤ end.bytes }
+    requires inside { end.bytes ≤ length text.now }
+    ensures before { end ≡ counts_of (take end.bytes text.now) → result.before ≡ counts_of (take place text.now) }
+    ensures next { result.next ≡ counts_of (take count (drop place text.now)) }
+{
+    let _len = text.len();
+    let next = count_next(text, place, count, NOTHING);
+    let rest = count_next(text, place + count, end.bytes - (place + count), next.1).0;
+    Around {
+        before: end.without(next.0).without(rest),
+        next: next.0,
+    }
+}
