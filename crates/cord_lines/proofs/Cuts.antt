@@ -5,7 +5,6 @@ use Rattle.std.proofs.lemmas.List.{append-nil, take_all, drop-drop, take-append-
 use Rattle.std.proofs.lemmas.List.Sums.{sum_by-take-le}
 use Rattle.std.proofs.Math.Seq.{take-add, take-append_seam, drop-append_seam}
 use Rattle.cord_io.specs.declared.TheConstants.{MAX_LEN}
-use Rattle.cord_node.proofs.Ranges.{take-append_right}
 use Rattle.cord_lines.specs.Lines.{after_ends, lacks_end, IsEditOf}
 use Rattle.cord_lines.specs.Index.{Indexed, AreCountsOf, IsIndexOf}
 use Rattle.cord_lines.proofs.Ends.{past_all}
