@@ -175,7 +175,7 @@ module _ (bs : List Block) (x : List ℕ) (c : AreBlocksOf bs x) (i : ℕ) where
   counts_at p e = before ∙ ap counts_of (sym (ap (λ (n : ℕ). take n x) (e ∙ starts) ∙ ap (take (length s.prefix)) s.text
       ∙ take-append_seam s.prefix s.back))
 
--- what is before a place, counted back from a place behind it
+-- what is before a place, counted back from a place after it
 pub counts_back : (x : List ℕ) (end : Counts) (place count : ℕ) → end ≡ counts_of (take end.bytes x) → place + count ≤ end.bytes →
     without (without end (counts_of (take count (drop place x)))) (counts_of (take (end.bytes - (place + count)) (drop (place + count) x)))
     ≡ counts_of (take place x)

@@ -1,4 +1,4 @@
-// What a text has before a place, and behind it.
+// What a text has before a place, and after it.
 ghost use Rattle.std.specs.Prelude.{◌≡◌, ◌+◌, ◌≤◌, List, ℕ, IfSome, length, take, drop};
 ghost use Rattle.cord_lines.specs.Counts.{counts_of};
 ghost use Rattle.cord_lines.specs.inner.Blocks.{IsFound};
@@ -122,7 +122,7 @@ pub(crate) fn around_after(from: Counts, text: &Text, place: u64, count: u64) ->
     }
 }
 
-// What is around a place, counted up to a place behind it, of which the counts of all before it are known.
+// What is around a place, counted up to a place after it, of which the counts of all before it are known.
 fn around_up_to(end: Counts, text: &Text, place: u64, count: u64) -> Around
     requires ordered { place + count ≤ end.bytes }
     requires inside { end.bytes ≤ length text.now }

@@ -59,7 +59,7 @@ impl Counts {
         self.bytes <= all.bytes && self.ends <= all.ends && self.chars <= all.chars
     }
 
-    /// Whether a place lies few bytes behind bytes with these counts.
+    /// Whether a place is few bytes after bytes with these counts.
     pub(crate) fn are_near(self, place: u64) -> bool
         ensures { IsTrue result → self.bytes ≤ place }
     {

@@ -84,7 +84,7 @@ pub(crate) fn count_parts<'a>(
     (counts, ahead)
 }
 
-// At most so many bytes that a text has at a place in one part, and what is at hand behind them.
+// At most so many bytes that a text has at a place in one part, and what is at hand after them.
 fn cut_at<'a>(text: &'a Text, place: u64, most: u64, held: Chunk<'a>) -> Option<Cut<'a>>
     requires some { 0 < most }
     requires held { IsAhead (drop place text.now) held }

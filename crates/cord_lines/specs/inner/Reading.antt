@@ -11,7 +11,7 @@ use Rattle.cord_lines.specs.declared.reading.Search.TheVariants.{Found, Missing}
 abbrev pub IsAhead : List ℕ → Chunk → Type 0
 IsAhead all chunk = all ≡ chunk_bytes chunk ++ drop (length (chunk_bytes chunk)) all
 
--- some first bytes, and what is ahead behind them
+-- some first bytes, and what is at hand after them
 pub record IsCut (all : List ℕ) (most : ℕ) (cut : Cut) : Type 0 where
   pub some : 0 < length (chunk_bytes cut.prefix)
   pub few : length (chunk_bytes cut.prefix) ≤ most
