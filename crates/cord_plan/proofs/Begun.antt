@@ -23,6 +23,7 @@ use Rattle.cord_plan.specs.declared.operations.Operation as program_operation
 use Rattle.cord_plan.specs.declared.planner.operand_choices.Choice as program
 use Rattle.cord_plan.proofs.Choices.{entry_of, chosen_simple, simple_reads}
 use Rattle.cord_plan.proofs.Chosen.{grown_keeps, last_or}
+use Rattle.cord_plan.proofs.Pushed.{get_last}
 
 -- what a call through a whole slice of a vector leaves in it
 pub written_back : {X : Type 0} (n : ℕ) (new old : List X) → length new ≡ n → take n (new ++ drop (length new) old) ≡ new
@@ -138,11 +139,7 @@ module _ (s : List Statement) (later : List ℕ → ℕ → Bool) where
     there : slice_get (exprs s later) b ≡ Some entry
     there = ap (λ (t : ChoiceTable). slice_get t b) (sym grows_on)
         ∙ grown_keeps s later (so_far.table ++ entry ∷ []) (b + 1) (drop (b + 1) s) b entry
-        (ap (λ (n : ℕ). slice_get (so_far.table ++ entry ∷ []) n) (sym so_far.long) ∙ at_end so_far.table entry)
-      where
-        at_end : {X : Type 0} (xs : List X) (x : X) → slice_get (xs ++ x ∷ []) (length xs) ≡ Some x
-        at_end [] x = refl
-        at_end (y ∷ xs) x = at_end xs x
+        (ap (λ (n : ℕ). slice_get (so_far.table ++ entry ∷ []) n) (sym so_far.long) ∙ get_last so_far.table entry)
 
     -- it is reported whether it extends the one before it
     pub longer_then : (all : List Bool) (reported : Bool) → length all ≡ b → AreLonger s later all →

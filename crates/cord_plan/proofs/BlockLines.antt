@@ -59,12 +59,9 @@ module _ (shapes : List Shape) where
 
   loops_opened : (p : ℕ) (blocks : List (Option ℕ)) (o : Option Shape) → slice_get shapes p ≡ o → Loops blocks → Loops (opened p blocks o)
   loops_opened p blocks (Some Loop) e h = (e, h)
-  loops_opened p blocks (Some Branch) e h = h
   loops_opened p [] (Some Close) e h = tt
   loops_opened p (b ∷ blocks) (Some Close) e h = loops_rest b blocks h
-  loops_opened p blocks (Some Straight) e h = h
-  loops_opened p blocks (Some Otherwise) e h = h
-  loops_opened p blocks None e h = h
+  loops_opened p blocks o e h = h
 
   open_loops : (p : ℕ) → Loops (open_at shapes p)
   open_loops zero = tt

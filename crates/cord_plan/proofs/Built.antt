@@ -3,8 +3,7 @@ use Rattle.std.proofs.Common.{◌≡◌, ℕ, zero, suc, ◌+◌, Bool, true, fa
 use Rattle.std.proofs.Common.{arith}
 use Rattle.std.specs.Prelude.{slice_get, ◌||◌}
 use Rattle.cord_syntax.specs.declared.statements.Statement.{Statement}
-use Rattle.cord_syntax.specs.declared.statements.Statement.TheVariants.{Let, File, Eager, Lazy, Chars, Nul, FromFn, Cat, Catn, Catc, Substr}
-use Rattle.cord_syntax.specs.declared.statements.Statement.TheVariants.{Balance, EcToCord, Sprintf}
+use Rattle.cord_syntax.specs.declared.statements.Statement.TheVariants.{Put}
 use Rattle.cord_plan.specs.Exprs.{Expr}
 use Rattle.cord_plan.specs.Operands.{target_of}
 use Rattle.cord_plan.specs.Inlined.{ChoiceTable}
@@ -23,38 +22,12 @@ record Builds (target : Option (List ℕ)) (dead : Bool) (x : List ℕ) : Type 0
   assigned : target ≡ Some x
   living : dead ≡ false
 
-not_both : (dead paired : Bool) → (dead || paired) ≡ false → dead ≡ false
-not_both true paired e = cc
-not_both false paired e = refl
-
-made_builds : (dead : Bool) (line : ℕ) (target : List ℕ) (made : Made) (x : List ℕ) → built (gives dead line target made) ≡ Some x →
-    Builds (Some target) dead x
-made_builds true line target made x e = let bad : ⊥ = cc in absurd bad
-made_builds false line target made x e = record { assigned = e; living = refl }
-
-simple_builds : (dead paired : Bool) (line : ℕ) (target : List ℕ) (made : Made) (x : List ℕ) →
-    built (gives (dead || paired) line target made) ≡ Some x → Builds (Some target) dead x
-simple_builds dead paired line target made x e =
-    let b : Builds (Some target) (dead || paired) x = made_builds (dead || paired) line target made x e in
-    record { assigned = b.assigned; living = not_both dead paired b.living }
-
 builds : (l : Statement) (e : Expr) (dead paired : Bool) (x : List ℕ) → built (operation l e dead paired) ≡ Some x →
     Builds (target_of l) dead x
-builds (Cat line target left right) e dead paired x h = simple_builds dead paired line target _ x h
-builds (Catn line target many) e dead paired x h = simple_builds dead paired line target _ x h
-builds (Catc line target operand byte) e dead paired x h = simple_builds dead paired line target _ x h
-builds (Chars line target byte n) e dead paired x h = simple_builds dead paired line target _ x h
-builds (Nul line target n) e dead paired x h = simple_builds dead paired line target _ x h
-builds (Substr line target operand start n) e dead paired x h = simple_builds dead paired line target _ x h
-builds (Let line target text) e dead paired x h = made_builds dead line target _ x h
-builds (File line target path) e dead paired x h = made_builds dead line target _ x h
-builds (Eager line target path) e dead paired x h = made_builds dead line target _ x h
-builds (Lazy line target path) e dead paired x h = made_builds dead line target _ x h
-builds (FromFn line target function n) e dead paired x h = made_builds dead line target _ x h
-builds (Balance line target operand) e dead paired x h = made_builds dead line target _ x h
-builds (EcToCord line target extensible) e dead paired x h = made_builds dead line target _ x h
-builds (Sprintf line target text format arguments) e dead paired x h = made_builds dead line target _ x h
-builds l e dead paired x h = let bad : ⊥ = cc in absurd bad
+builds (Put line operand) e dead paired x h = let bad : ⊥ = cc in absurd bad
+builds l e true paired x h = let bad : ⊥ = cc in absurd bad
+builds l e false true x h = record { assigned = cc; living = refl }
+builds l e false false x h = record { assigned = cc; living = refl }
 
 lives : (later : List ℕ → ℕ → Bool) (p : ℕ) (target : Option (List ℕ)) (x : List ℕ) → target ≡ Some x → is_dead later p target ≡ false →
     later x p ≡ true

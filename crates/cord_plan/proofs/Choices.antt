@@ -12,13 +12,7 @@ use Rattle.cord_plan.specs.inner.Choices.{simple_operands}
 -- a simple line reads its operands
 pub simple_reads : (l : Statement) (xs : List (List ℕ)) → simple_operands l ≡ Some xs → read_by l ≡ xs
 simple_reads (Cat line target left right) xs e = cc
-simple_reads (Catn line target many) xs e = cc
-simple_reads (Catc line target operand byte) xs e = cc
-simple_reads (Chars line target byte n) xs e = cc
-simple_reads (Nul line target n) xs e = cc
-simple_reads (Substr line target operand start n) xs e = cc
-simple_reads (Put line operand) xs e = cc
-simple_reads l xs e = let bad : ⊥ = cc in absurd bad
+simple_reads l xs e = cc
 
 -- operands that stand for themselves
 pub all_themselves : (xs : List (List ℕ)) → map (λ c. expr_of c) (map (λ x. named x) xs) ≡ map (λ x. name x) xs
@@ -57,10 +51,4 @@ module _ (s : List Statement) (later : List ℕ → ℕ → Bool) (t : ChoiceTab
 pub chosen_simple : (s : List Statement) (later : List ℕ → ℕ → Bool) (t : ChoiceTable) (b : ℕ) (l : Statement) →
     operands_chosen s later t b l (defining l) ≡ entry_of s later t b l (simple_operands l)
 chosen_simple s later t b (Cat line target left right) = refl
-chosen_simple s later t b (Catn line target many) = refl
-chosen_simple s later t b (Catc line target operand byte) = refl
-chosen_simple s later t b (Chars line target byte n) = refl
-chosen_simple s later t b (Nul line target n) = refl
-chosen_simple s later t b (Substr line target operand start n) = refl
-chosen_simple s later t b (Put line operand) = refl
 chosen_simple s later t b l = refl

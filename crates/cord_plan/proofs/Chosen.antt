@@ -1,14 +1,16 @@
 -- What stands for the operands of a line, and what holds of each entry of a script's table.
-use Rattle.std.proofs.Common.{◌≡◌, ◌⊎◌, ℕ, zero, suc, ◌+◌, ◌<◌, Bool, true, false, ◌&&◌, List, [], ◌∷◌, ◌++◌, map, length, Option, Some}
-use Rattle.std.proofs.Common.{None, refl, sym, ap, ◌∙◌, subst, inl, inr, arith, append_assoc, append-nil, length-append}
+use Rattle.std.proofs.Common.{◌≡◌, ◌⊎◌, ℕ, zero, suc, ◌+◌, ◌<◌, ◌≤◌, Bool, true, false, ◌&&◌, List, [], ◌∷◌, ◌++◌, map, length, Option, Some}
+use Rattle.std.proofs.Common.{None, refl, sym, ap, ◌∙◌, subst, inl, inr, ⊎_elim, arith, append_assoc, append-nil, length-append}
 use Rattle.std.specs.Prelude.{slice_get, if◌then◌else◌}
+use Rattle.std.proofs.Math.Nat.{eq-or-lt_of_le}
 use Rattle.std.proofs.lemmas.List.{map-append}
 use Rattle.cord_syntax.specs.declared.statements.Statement.{Statement}
 use Rattle.cord_plan.specs.Exprs.{Expr, name}
-use Rattle.cord_plan.specs.Operands.{assigns_at}
+use Rattle.cord_plan.specs.Operands.{assigns, assigns_at}
 use Rattle.cord_plan.specs.Inlined.{ChoiceTable, Choice, named, replaced, expr_of, expr_with, first_of, defining, setter, fits, is_small}
 use Rattle.cord_plan.specs.Inlined.{chosen_from}
 use Rattle.cord_plan.specs.Inlined.{chosen_of, choices, operands_chosen, grown, exprs}
+use Rattle.cord_plan.proofs.Pushed.{get_before}
 
 pub both_true : (a b : Bool) → (a && b) ≡ true → (a ≡ true) × (b ≡ true)
 both_true true b e = (refl, e)
@@ -29,16 +31,11 @@ last_or (x ∷ xs) y (suc k) z e = shifted (last_or xs y k z e)
         let more : suc k ≡ length (x ∷ xs) = omega arith in
         inr (more, h.1)
 
--- an element before others
-keep_after : {X : Type 0} (xs ys : List X) (k : ℕ) (z : X) → slice_get xs k ≡ Some z → slice_get (xs ++ ys) k ≡ Some z
-keep_after [] ys k z e = let bad : ⊥ = cc in absurd bad
-keep_after (x ∷ xs) ys zero z e = e
-keep_after (x ∷ xs) ys (suc k) z e = keep_after xs ys k z e
-
--- the last line before p that assigns x assigns it
+-- the last line before p that assigns x assigns it, and no line after it does
 pub record IsSetter (s : List Statement) (x : List ℕ) (p a : ℕ) : Type 0 where
   pub before : a < p
   pub assigns : assigns_at (slice_get s a) x ≡ true
+  pub alone : (m : ℕ) → a < m → m < p → assigns_at (slice_get s m) x ≡ false
 
 pub setter_is : (s : List Statement) (x : List ℕ) (p a : ℕ) → setter s x p ≡ Some a → IsSetter s x p a
 setter_is s x zero a e = let bad : ⊥ = cc in absurd bad
@@ -48,15 +45,32 @@ setter_is s x (suc p) a e = pick (assigns_at (slice_get s p) x) refl e (λ h. se
         (setter s x p ≡ Some a → IsSetter s x p a) → IsSetter s x (suc p) a
     pick true f h before =
         let same : p ≡ a = cc in
-        record { before = omega arith; assigns = ap (λ (k : ℕ). assigns_at (slice_get s k) x) (sym same) ∙ f }
+        record {
+          before = omega arith;
+          assigns = ap (λ (k : ℕ). assigns_at (slice_get s k) x) (sym same) ∙ f;
+          alone = λ m low high. absurd (omega arith);
+        }
     pick false f h before =
         let r : IsSetter s x p a = before h in
         let below : a < p = r.before in
-        record { before = omega arith; assigns = r.assigns }
+        record {
+          before = omega arith;
+          assigns = r.assigns;
+          alone = λ m low high.
+              let le : m ≤ p = omega arith in
+              ⊎_elim (λ (q : m ≡ p). ap (λ (k : ℕ). assigns_at (slice_get s k) x) q ∙ f) (λ (lt : m < p). r.alone m low lt)
+              (eq-or-lt_of_le le);
+        }
+
+-- a line that assigns is there
+pub line_there : (o : Option Statement) (x : List ℕ) → assigns_at o x ≡ true → (l : Statement) × (o ≡ Some l) × (assigns l x ≡ true)
+line_there None x e = let bad : ⊥ = cc in absurd bad
+line_there (Some l) x e = (l, refl, e)
 
 module _ (s : List Statement) (later : List ℕ → ℕ → Bool) where
   -- the expression r of the line at a stands for x in the line l at b
   pub record Taken (table : ChoiceTable) (b : ℕ) (l : Statement) (x : List ℕ) (a : ℕ) (r : Expr) : Type 0 where
+    pub found : setter s x b ≡ Some a
     pub set : IsSetter s x b a
     pub from : first_of (slice_get table a) ≡ Some r
     pub fit : fits s later r a b l x ≡ true
@@ -77,7 +91,7 @@ module _ (s : List Statement) (later : List ℕ → ℕ → Bool) where
           Stands table b l before after x (if v then replaced a r else named x)
       pick true e =
           let p = both_true (fits s later r a b l x) (is_small (expr_with l (before ++ r ∷ after))) e in
-          (record { set = setter_is s x b a set; from = from; fit = p.0 }, p.1)
+          (record { found = set; set = setter_is s x b a set; from = from; fit = p.0 }, p.1)
       pick false e = refl
 
   chosen_stands : (table : ChoiceTable) (b : ℕ) (l : Statement) (x : List ℕ) (before after : List Expr) (o : Option ℕ) → setter s x b ≡ o →
@@ -171,7 +185,7 @@ module _ (s : List Statement) (later : List ℕ → ℕ → Bool) where
   grown_keeps table b [] k en e = e
   grown_keeps table b (l ∷ rest) k en e =
       let more : Option Expr × List Choice = operands_chosen s later table b l (defining l) in
-      grown_keeps (table ++ more ∷ []) (b + 1) rest k en (keep_after table (more ∷ []) k en e)
+      grown_keeps (table ++ more ∷ []) (b + 1) rest k en (get_before table (more ∷ []) k en e)
 
   module _ (P : ℕ → Option Expr × List Choice → Type 0) (step : (table : ChoiceTable) (b : ℕ) (l : Statement) → slice_get s b ≡ Some l →
       IsPrefix table → EachEntry P table → P b (operands_chosen s later table b l (defining l))) where

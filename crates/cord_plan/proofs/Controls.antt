@@ -18,31 +18,8 @@ pub record IsAlike (l : Statement) (o : Operation) : Type 0 where
   pub count : (h : Holding) (s : State) → h.numbers ≡ s.numbers → repeat_count l s ≡ operation_count o (Some h)
   pub holds : (h : Holding) (s : State) → h.numbers ≡ s.numbers → holds_of l s ≡ operation_holds o (Some h)
 
--- so it is where the statement gives a name a text
-gives_alike : (l : Statement) (line : ℕ) (z : List ℕ) (made : Made) (v : Bool) → Straight ≡ shape_of l → line ≡ line_of l →
-    ((s : State) → repeat_count l s ≡ pos 0) → ((s : State) → holds_of l s ≡ false) → IsAlike l (gives v line z made)
-gives_alike l line z made true shape line_is count holds =
-    record { shape = shape; line = line_is; count = λ h s same. count s; holds = λ h s same. holds s }
-gives_alike l line z made false shape line_is count holds =
-    record { shape = shape; line = line_is; count = λ h s same. count s; holds = λ h s same. holds s }
-
--- and so it is for each statement
+-- so it is for each statement
 pub all_alike : (l : Statement) (e : Expr) (dead paired : Bool) → IsAlike l (operation l e dead paired)
-all_alike (Cat line target left right) e dead paired = gives_alike _ line target _ (dead || paired) refl refl (λ s. refl) (λ s. refl)
-all_alike (Catn line target many) e dead paired = gives_alike _ line target _ (dead || paired) refl refl (λ s. refl) (λ s. refl)
-all_alike (Catc line target operand byte) e dead paired = gives_alike _ line target _ (dead || paired) refl refl (λ s. refl) (λ s. refl)
-all_alike (Chars line target byte n) e dead paired = gives_alike _ line target _ (dead || paired) refl refl (λ s. refl) (λ s. refl)
-all_alike (Nul line target n) e dead paired = gives_alike _ line target _ (dead || paired) refl refl (λ s. refl) (λ s. refl)
-all_alike (Substr line target operand start n) e dead paired =
-    gives_alike _ line target _ (dead || paired) refl refl (λ s. refl) (λ s. refl)
-all_alike (Let line target text) e dead paired = gives_alike _ line target _ dead refl refl (λ s. refl) (λ s. refl)
-all_alike (File line target path) e dead paired = gives_alike _ line target _ dead refl refl (λ s. refl) (λ s. refl)
-all_alike (Eager line target path) e dead paired = gives_alike _ line target _ dead refl refl (λ s. refl) (λ s. refl)
-all_alike (Lazy line target path) e dead paired = gives_alike _ line target _ dead refl refl (λ s. refl) (λ s. refl)
-all_alike (FromFn line target function n) e dead paired = gives_alike _ line target _ dead refl refl (λ s. refl) (λ s. refl)
-all_alike (Balance line target operand) e dead paired = gives_alike _ line target _ dead refl refl (λ s. refl) (λ s. refl)
-all_alike (EcToCord line target extensible) e dead paired = gives_alike _ line target _ dead refl refl (λ s. refl) (λ s. refl)
-all_alike (Sprintf line target text format arguments) e dead paired = gives_alike _ line target _ dead refl refl (λ s. refl) (λ s. refl)
 all_alike (Repeat line count) e dead paired =
     record { shape = refl; line = refl; count = λ h s same. sym (plain_number h s same count); holds = λ h s same. refl }
 all_alike (If line left relation right) e dead paired = record {
@@ -51,4 +28,6 @@ all_alike (If line left relation right) e dead paired = record {
   count = λ h s same. refl;
   holds = λ h s same. λ i. compares relation (sym (plain_number h s same left) i) (sym (plain_number h s same right) i);
 }
-all_alike l e dead paired = record { shape = refl; line = refl; count = λ h s same. refl; holds = λ h s same. refl }
+all_alike l e true paired = record { shape = refl; line = refl; count = λ h s same. refl; holds = λ h s same. refl }
+all_alike l e false true = record { shape = refl; line = refl; count = λ h s same. refl; holds = λ h s same. refl }
+all_alike l e false false = record { shape = refl; line = refl; count = λ h s same. refl; holds = λ h s same. refl }

@@ -1,6 +1,6 @@
 -- Each operation of a plan that meets the conditions does what its statement does.
 use Rattle.std.proofs.Common.{◌≡◌, ℕ, ◌+◌, ◌⊎◌, ◌++◌, ℤ, pos, Bool, true, false, ◌||◌, List, [], ◌∷◌, length, map, Option, Some, None}
-use Rattle.std.proofs.Common.{Result, Ok, Err, refl, sym, ap, ◌∙◌, subst, inl, inr, ⊎_elim}
+use Rattle.std.proofs.Common.{Result, Ok, Err, refl, sym, ap, ◌∙◌, subst, inl, inr, ⊎_elim, append_assoc}
 use Rattle.std.specs.Prelude.{slice_get, if◌then◌else◌, ◌&&◌, ◌+ℤ◌, ◌-ℤ◌}
 use Rattle.std.specs.Str.{bytes_eq}
 use Rattle.cord_io.specs.Device.{FileSystem}
@@ -38,20 +38,9 @@ use Rattle.cord_plan.proofs.Values.{within_length}
 use Rattle.cord_plan.proofs.DefiningExpressions.{sets_within}
 use Rattle.cord_plan.proofs.Evaluation.{In, in_left, in_right, in_either, plain_number, value_same, extent_is, line_gives, gives_after}
 use Rattle.cord_plan.proofs.Evaluation.{function_gives}
+use Rattle.cord_plan.proofs.Named.{own_bytes}
 use Rattle.cord_plan.proofs.OperationEffects.{built_agrees, measured_agrees, put_agrees, len_agrees, kept_agrees, with_others}
-use Rattle.cord_plan.proofs.Invariant.{not_both, same_self, unset_same, Ready, Inv, lengths, inv_set, inv_on, operand, operand_text}
-
-has_in : (xs : List (List ℕ)) (x : List ℕ) → In x xs → has xs x ≡ true
-has_in [] x i = absurd i
-has_in (y ∷ ys) x (inl e) = ap (λ (v : Bool). v || has ys x) (subst (λ (w : List ℕ). bytes_eq x w ≡ true) e (same_self x))
-has_in (y ∷ ys) x (inr i) = pick (has_in ys x i)
-  where
-    pick : has ys x ≡ true → (bytes_eq x y || has ys x) ≡ true
-    pick e = or_true (bytes_eq x y) (has ys x) e
-      where
-        or_true : (a b : Bool) → b ≡ true → (a || b) ≡ true
-        or_true true b e = refl
-        or_true false b e = e
+use Rattle.cord_plan.proofs.Invariant.{not_both, has_in, unset_same, Ready, Inv, lengths, inv_set, inv_on, operand, operand_text}
 
 -- ---- what holds of the names of what stands for operands holds of the names of the line's expression
 module _ (H : List ℕ → Type 0) where
@@ -62,20 +51,15 @@ module _ (H : List ℕ → Type 0) where
   EachOf [] = Unit {0}
   EachOf (e ∷ es) = Each e × EachOf es
 
-  append_cords : (es others : Exprs) (y : List ℕ) → In y (cords_of (append es others)) → In y (cords_of es) ⊎ In y (cords_of others)
-  append_cords nothing others y i = inr i
-  append_cords (member e es) others y i =
-      ⊎_elim (λ (m : In y (cords e)). inl (in_left y (cords e) (cords_of es) m))
-      (λ (m : In y (cords_of (append es others))).
-      ⊎_elim (λ (n : In y (cords_of es)). inl (in_right y (cords e) (cords_of es) n)) (λ (n : In y (cords_of others)). inr n)
-      (append_cords es others y m))
-      (in_either y (cords e) (cords_of (append es others)) i)
+  cords_append : (es others : Exprs) → cords_of (append es others) ≡ cords_of es ++ cords_of others
+  cords_append nothing others = refl
+  cords_append (member e es) others = ap (λ (ys : List (List ℕ)). cords e ++ ys) (cords_append es others)
+      ∙ sym (append_assoc (cords e) (cords_of es) (cords_of others))
 
   prefix_cords : (e : Expr) (others : Exprs) (y : List ℕ) → In y (cords_of (preceding e others)) → In y (cords e) ⊎ In y (cords_of others)
-  prefix_cords (name x) others y i = in_either y (cords (name x)) (cords_of others) i
-  prefix_cords (run c n) others y i = inr i
-  prefix_cords (cat es) others y i = append_cords es others y i
-  prefix_cords (sub e j n) others y i = in_either y (cords e) (cords_of others) i
+  prefix_cords (cat es) others y i = in_either y (cords_of es) (cords_of others)
+      (subst (λ (ys : List (List ℕ)). In y ys) (cords_append es others) i)
+  prefix_cords e others y i = in_either y (cords e) (cords_of others) i
 
   members_each : (es : List Expr) → EachOf es → (y : List ℕ) → In y (cords_of (members es)) → H y
   members_each [] a y i = absurd i
@@ -207,7 +191,7 @@ module _ (s : List Statement) (d : Decisions) (ok : MeetsConditions s d) (limit 
       -- ---- the name of a cord gets a text, or a length alone
       module _ (line : ℕ) (z : List ℕ) (target : target_of l ≡ Some z) where
         assigned_here : assigns_at (slice_get s p) z ≡ true
-        assigned_here = ap (λ (o : Option Statement). assigns_at o z) here ∙ ap (λ (o : Option (List ℕ)). is_this_name o z) target ∙ same_self z
+        assigned_here = ap (λ (o : Option Statement). assigns_at o z) here ∙ ap (λ (o : Option (List ℕ)). is_this_name o z) target ∙ own_bytes z
 
         abbrev Excused : Type 0
         Excused = NotLive s z p ⊎ ((b : ℕ) × (d.source b z ≡ Some p))
@@ -350,17 +334,4 @@ module _ (s : List Statement) (d : Decisions) (ok : MeetsConditions s d) (limit 
     agrees (If line left relation right) e q = let bad : ⊥ = cc in absurd bad
     agrees (Else line) e q = let bad : ⊥ = cc in absurd bad
     agrees (End line) e q = let bad : ⊥ = cc in absurd bad
-    agrees (Fetch line target x index) e q = keeps_agree (Fetch line target x index) e q tt refl refl
-    agrees (Cmp line target left right) e q = keeps_agree (Cmp line target left right) e q tt refl refl
-    agrees (Ncmp line target left left_start right right_start count) e q =
-        keeps_agree (Ncmp line target left left_start right right_start count) e q tt refl refl
-    agrees (Str line target x start pattern) e q = keeps_agree (Str line target x start pattern) e q tt refl refl
-    agrees (Chr line target x start byte) e q = keeps_agree (Chr line target x start byte) e q tt refl refl
-    agrees (Rchr line target x start byte) e q = keeps_agree (Rchr line target x start byte) e q tt refl refl
-    agrees (Assign line target n) e q = keeps_agree (Assign line target n) e q tt refl refl
-    agrees (Add line target left right) e q = keeps_agree (Add line target left right) e q tt refl refl
-    agrees (Sub line target left right) e q = keeps_agree (Sub line target left right) e q tt refl refl
-    agrees (EcInit line target) e q = keeps_agree (EcInit line target) e q tt refl refl
-    agrees (EcPut line extensible byte) e q = keeps_agree (EcPut line extensible byte) e q tt refl refl
-    agrees (EcCat line extensible x) e q = keeps_agree (EcCat line extensible x) e q tt refl refl
-    agrees (EcStr line extensible bytes) e q = keeps_agree (EcStr line extensible bytes) e q tt refl refl
+    agrees l e q = keeps_agree l e q tt refl refl

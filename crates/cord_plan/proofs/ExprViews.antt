@@ -1,6 +1,7 @@
 -- The equations of `expr_view`, one for each variant, and of `members_view`.
 use Rattle.std.proofs.Common.{◌≡◌, ℕ, List, [], ◌∷◌, map, Option, Some, None, Global, refl, sym, ap, ◌∙◌}
 use Rattle.std.specs.declared.rc.Rc.{Rc}
+use Rattle.std.proofs.lemmas.Simd.{map-map}
 use Rattle.cord_operands.specs.declared.operands.Number.{Number}
 use Rattle.cord_plan.specs.Exprs as plain
 use Rattle.cord_plan.specs.Exprs.{append}
@@ -35,10 +36,6 @@ pub view-Sub : (e : Rc Expr Global) (i n : Number) → expr_view (Sub e i n) ≡
 view-Sub e i n = ap expr_view (sym (rolls-Sub e i n))
     ∙ fold-roll-Expr _ _ _ _ _ expr_step rest_step members_step pair_step single_step (Expr-F.Sub e i n)
 
-map_twice : {A B C : Type 0} (f : A → B) (g : B → C) (xs : List A) → map g (map f xs) ≡ map (λ x. g (f x)) xs
-map_twice f g [] = refl
-map_twice f g (x ∷ xs) = ap (λ ys. g (f x) ∷ ys) (map_twice f g xs)
-
 -- at most two members, as they are made
 pub view-Nothing : rest_view Nothing ≡ []
 view-Nothing = ap rest_view (sym rolls-Nothing)
@@ -47,12 +44,12 @@ view-Nothing = ap rest_view (sym rolls-Nothing)
 pub view-One : (s : Single) → rest_view (One s) ≡ map shared_view s.members
 view-One s = ap rest_view (sym (rolls-One s))
     ∙ (fold-roll-Rest _ _ _ _ _ expr_step rest_step members_step pair_step single_step (Rest-F.One s)
-    ∙ (fold_out-Single _ _ _ _ _ expr_step rest_step members_step pair_step single_step s ∙ map_twice _ _ s.members))
+    ∙ (fold_out-Single _ _ _ _ _ expr_step rest_step members_step pair_step single_step s ∙ map-map _ _ s.members))
 
 pub view-Two : (p : Pair) → rest_view (Two p) ≡ map shared_view p.members
 view-Two p = ap rest_view (sym (rolls-Two p))
     ∙ (fold-roll-Rest _ _ _ _ _ expr_step rest_step members_step pair_step single_step (Rest-F.Two p)
-    ∙ (fold_out-Pair _ _ _ _ _ expr_step rest_step members_step pair_step single_step p ∙ map_twice _ _ p.members))
+    ∙ (fold_out-Pair _ _ _ _ _ expr_step rest_step members_step pair_step single_step p ∙ map-map _ _ p.members))
 
 -- the members in front, where there are any
 abbrev pub prefix_seen : Option (Rc Members Global) → plain.Exprs

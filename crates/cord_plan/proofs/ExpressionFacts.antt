@@ -19,9 +19,8 @@ use Rattle.cord_plan.specs.Exprs.{lacks}
 use Rattle.cord_plan.specs.declared.flow.numbering.Numbering.{Numbering}
 use Rattle.cord_plan.specs.declared.planner.expression_facts.Facts.{Facts}
 use Rattle.cord_plan.specs.declared.planner.expression_facts.ExpressionFacts.{ExpressionFacts}
-use Rattle.cord_plan.proofs.Appending.{names_append}
-use Rattle.cord_plan.proofs.MarkedNames.{has_both, marks_or, marks_same}
-use Rattle.cord_plan.proofs.Named.{no_true, own_bytes, same_bytes}
+use Rattle.cord_plan.proofs.MarkedNames.{marks_or, marks_same}
+use Rattle.cord_plan.proofs.Named.{has_both, no_true, own_bytes, prefix_names, same_bytes}
 use Rattle.cord_plan.proofs.Nearest.{first_in}
 use Rattle.cord_plan.proofs.PartSums.{parts_members}
 
@@ -46,10 +45,7 @@ lacks_rest (y ∷ ys) x =
     pick false more = more
 
 has_prefix : (e : Expr) (es : Exprs) (x : List ℕ) → has (names_of (preceding e es)) x ≡ (has (names e) x || has (names_of es) x)
-has_prefix (name y) es x = has_both (names (name y)) (names_of es) x
-has_prefix (run c n) es x = has_both (names (run c n)) (names_of es) x
-has_prefix (cat ds) es x = ap (λ (ys : List (List ℕ)). has ys x) (names_append ds es) ∙ has_both (names_of ds) (names_of es) x
-has_prefix (sub e i n) es x = has_both (names (sub e i n)) (names_of es) x
+has_prefix e es x = ap (λ (ys : List (List ℕ)). has ys x) (prefix_names e es) ∙ has_both (names e) (names_of es) x
 
 has_two : (d e : Expr) (x : List ℕ) → has (names (cat (members (d ∷ e ∷ [])))) x ≡ (has (names d) x || has (names e) x)
 has_two d e x =
@@ -109,11 +105,6 @@ pub two_joined : (l : Statement) (x y : List ℕ) (d e : Expr) → simple_operan
     plain.expr_with l (d ∷ e ∷ []) ≡ Some (cat (members (d ∷ e ∷ [])))
 two_joined (Cat line target left right) x y d e simple = refl
 two_joined (Catn line target many) x y d e simple = refl
-two_joined (Catc line target operand byte) x y d e simple = let bad : ⊥ = cc in absurd bad
-two_joined (Chars line target byte n) x y d e simple = let bad : ⊥ = cc in absurd bad
-two_joined (Nul line target n) x y d e simple = let bad : ⊥ = cc in absurd bad
-two_joined (Substr line target operand start n) x y d e simple = let bad : ⊥ = cc in absurd bad
-two_joined (Put line operand) x y d e simple = let bad : ⊥ = cc in absurd bad
 two_joined l x y d e simple = let bad : ⊥ = cc in absurd bad
 
 -- ---- choices

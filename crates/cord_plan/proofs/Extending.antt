@@ -19,10 +19,11 @@ use Rattle.cord_plan.specs.Operands.{assigns, assigns_at, read_by, target_of}
 use Rattle.cord_plan.specs.Planned.{Joined, Operation, gives, is_dead, is_first, operation, operations, or_nothing, planned}
 use Rattle.cord_plan.proofs.Choices.{chosen_simple}
 use Rattle.cord_plan.proofs.Choices as simple
-use Rattle.cord_plan.proofs.Chosen.{AreChosen, EachEntry, IsPrefix, Taken, are_chosen, both_true, each_entry}
+use Rattle.cord_plan.proofs.Chosen.{AreChosen, EachEntry, IsPrefix, Taken, are_chosen, both_true, each_entry, line_there}
 use Rattle.cord_plan.proofs.Lacking.{preserves_lacking}
 use Rattle.cord_plan.proofs.Named.{each_at}
-use Rattle.cord_plan.proofs.Pairs.{EntryOf, entry_of, taken_at, taken_fits}
+use Rattle.cord_plan.proofs.Pairs.{EntryOf, entry_of, taken_at, taken_facts}
+use Rattle.cord_plan.proofs.PlannedPairs.{operation_at}
 
 pub reported_there : (reported : List Bool) (place : ℕ) → get_or reported place false ≡ true → slice_get reported place ≡ Some true
 reported_there [] place h = let bad : ⊥ = cc in absurd bad
@@ -56,7 +57,6 @@ line_joins (Chars line target byte n) es dead paired x a simple =
 line_joins (Nul line target n) es dead paired x a simple = given_joins (Nul line target n) (dead || paired) line target es refl
 line_joins (Substr line target operand start n) es dead paired x a simple =
     given_joins (Substr line target operand start n) (dead || paired) line target es refl
-line_joins (Put line operand) es dead paired x a simple = let bad : ⊥ = cc in absurd bad
 line_joins l es dead paired x a simple = let bad : ⊥ = cc in absurd bad
 
 -- ---- the choices of a line
@@ -75,9 +75,7 @@ last_reported b (named x) h = let bad : ⊥ = cc in absurd bad
 last_reported b (replaced a (cat es)) h =
     let one : b - a ≡ 1 = eqb-true (b - a) 1 (both_true (b - a == 1) true h).0 in
     record { place = a; first = es; before = (let next : a + 1 ≡ b = omega (arith, one) in next); is = refl }
-last_reported b (replaced a (name x)) h = absurd (no_cat (b - a == 1) h)
-last_reported b (replaced a (run c n)) h = absurd (no_cat (b - a == 1) h)
-last_reported b (replaced a (sub e i n)) h = absurd (no_cat (b - a == 1) h)
+last_reported b (replaced a e) h = absurd (no_cat (b - a == 1) h)
 
 named_reported : (c : Choice) → is_named c ≡ true → (x : List ℕ) × (c ≡ named x)
 named_reported (named x) h = (x, refl)
@@ -132,22 +130,17 @@ joins_two b line target x l c d first made h =
 
 cat_longer : (b line : ℕ) (target left right : List ℕ) (cs : List Choice) → is_longer b (Cat line target left right) cs ≡ true →
     Longer b (Cat line target left right) cs
-cat_longer b line target left right [] h = let bad : ⊥ = cc in absurd bad
-cat_longer b line target left right (c ∷ []) h = let bad : ⊥ = cc in absurd bad
 cat_longer b line target left right (c ∷ d ∷ []) h =
     joins_two b line target left (Cat line target left right) c d refl (λ dead paired. refl) h
-cat_longer b line target left right (c ∷ d ∷ e ∷ cs) h = let bad : ⊥ = cc in absurd bad
+cat_longer b line target left right cs h = let bad : ⊥ = cc in absurd bad
 
 catn_longer : (b line : ℕ) (target : List ℕ) (many : List (List ℕ)) (x : List ℕ) (cs : List Choice) → slice_get many 0 ≡ Some x →
     is_longer b (Catn line target many) cs ≡ true → Longer b (Catn line target many) cs
-catn_longer b line target many x [] first h = let bad : ⊥ = cc in absurd bad
-catn_longer b line target many x (c ∷ []) first h = let bad : ⊥ = cc in absurd bad
 catn_longer b line target many x (c ∷ d ∷ []) first h = joins_two b line target x (Catn line target many) c d first (λ dead paired. refl) h
-catn_longer b line target many x (c ∷ d ∷ e ∷ cs) first h = let bad : ⊥ = cc in absurd bad
+catn_longer b line target many x cs first h = let bad : ⊥ = cc in absurd bad
 
 catc_longer : (b line : ℕ) (target operand : List ℕ) (byte : Number) (cs : List Choice) →
     is_longer b (Catc line target operand byte) cs ≡ true → Longer b (Catc line target operand byte) cs
-catc_longer b line target operand byte [] h = let bad : ⊥ = cc in absurd bad
 catc_longer b line target operand byte (c ∷ []) h =
     let last : Last b c = last_reported b c h in
     record {
@@ -160,28 +153,9 @@ catc_longer b line target operand byte (c ∷ []) h =
       more = run byte (Numeral (pos 1));
       joined = λ dead paired. either_gives (dead || paired) line target _ _ (one_members b c last byte);
     }
-catc_longer b line target operand byte (c ∷ d ∷ cs) h = let bad : ⊥ = cc in absurd bad
+catc_longer b line target operand byte cs h = let bad : ⊥ = cc in absurd bad
 
 -- ---- the operations of a script
-line_there : (o : Option Statement) (x : List ℕ) → assigns_at o x ≡ true → (m : Statement) × (o ≡ Some m) × (assigns m x ≡ true)
-line_there None x e = let bad : ⊥ = cc in absurd bad
-line_there (Some m) x e = (m, refl, e)
-
-operation_at : (later : List ℕ → ℕ → Bool) (T : ChoiceTable) (p : ℕ) (ls : List Statement) (es : ChoiceTable) (k : ℕ) (l : Statement)
-    (en : Option Expr × List Choice) → slice_get ls k ≡ Some l → slice_get es k ≡ Some en →
-    (dead : Bool) × (paired : Bool) × (slice_get (operations later T p ls es) k ≡ Some (operation l (or_nothing en.0) dead paired))
-operation_at later T p [] es k l en at is = let bad : ⊥ = cc in absurd bad
-operation_at later T p (m ∷ ls) [] k l en at is = let bad : ⊥ = cc in absurd bad
-operation_at later T p (m ∷ ls) (f ∷ es) zero l en at is =
-    let same : m ≡ l = cc in
-    let one : f ≡ en = cc in (
-      is_dead later p (target_of m),
-      is_first p T,
-      ap (λ (q : Statement). Some (operation q (or_nothing f.0) (is_dead later p (target_of m)) (is_first p T))) same
-          ∙ ap (λ (g : Option Expr × List Choice). Some (operation l (or_nothing g.0) (is_dead later p (target_of m)) (is_first p T))) one,
-    )
-operation_at later T p (m ∷ ls) (f ∷ es) (suc k) l en at is = operation_at later T (p + 1) ls es k l en at is
-
 module _ (s : List Statement) (later : List ℕ → ℕ → Bool) where
   -- the operation at a place joins these members, which don't name its target
   record Source (a : ℕ) (es : Exprs) : Type 0 where
@@ -199,15 +173,13 @@ module _ (s : List Statement) (later : List ℕ → ℕ → Bool) where
   -- no name of an expression that stands for an operand is assigned by its line
   taken_stays : (t : ChoiceTable) (b : ℕ) (l : Statement) (x : List ℕ) (a : ℕ) (r : Expr) → Taken s later t b l x a r →
       preserves (slice_get s a) (names r) ≡ true
-  taken_stays t b l x a r h =
-      let before : a < b = h.set.before in
-      each_at (λ m. preserves (slice_get s m) (names r)) (b - a) a a (taken_fits s later t b l x a r h).preserved (omega arith)
-      (omega arith)
+  taken_stays t b l x a r h = (taken_facts s later t b l x a r h).fixed a (omega arith) h.set.before
 
   operation_there : (k : ℕ) (l : Statement) (en : Option Expr × List Choice) → slice_get s k ≡ Some l →
       slice_get (exprs s later) k ≡ Some en →
       (dead : Bool) × (paired : Bool) × (slice_get (planned s later) k ≡ Some (operation l (or_nothing en.0) dead paired))
-  operation_there k l en at entered = operation_at later (exprs s later) 0 s (exprs s later) k l en at entered
+  operation_there k l en at entered =
+      (is_dead later (0 + k) (target_of l), is_first (0 + k) (exprs s later), operation_at later (exprs s later) 0 s (exprs s later) k l en at entered)
 
   module _ (t : ChoiceTable) (b : ℕ) (prefix : IsPrefix s later t) (each : EachEntry s later IsEntry t) where
     source_of_taken : (l : Statement) (x : List ℕ) (a : ℕ) (es : Exprs) → Taken s later t b l x a (cat es) → Source a es

@@ -134,23 +134,8 @@ operation_flat (Chars line target byte n) e dead paired a = gives_flat (dead || 
 operation_flat (Nul line target n) e dead paired a = gives_flat (dead || paired) line target e a
 operation_flat (Substr line target operand start n) e dead paired a = gives_flat (dead || paired) line target e a
 operation_flat (Put line operand) e dead paired a = a
-operation_flat (Let line target text) e true paired a = tt
-operation_flat (Let line target text) e false paired a = tt
-operation_flat (File line target path) e true paired a = tt
-operation_flat (File line target path) e false paired a = tt
-operation_flat (Eager line target path) e true paired a = tt
-operation_flat (Eager line target path) e false paired a = tt
-operation_flat (Lazy line target path) e true paired a = tt
-operation_flat (Lazy line target path) e false paired a = tt
-operation_flat (FromFn line target function n) e true paired a = tt
-operation_flat (FromFn line target function n) e false paired a = tt
-operation_flat (Balance line target operand) e true paired a = tt
-operation_flat (Balance line target operand) e false paired a = tt
-operation_flat (EcToCord line target extensible) e true paired a = tt
-operation_flat (EcToCord line target extensible) e false paired a = tt
-operation_flat (Sprintf line target text format arguments) e true paired a = tt
-operation_flat (Sprintf line target text format arguments) e false paired a = tt
-operation_flat l e dead paired a = tt
+operation_flat l e true paired a = tt
+operation_flat l e false paired a = tt
 
 module _ (later : List ℕ → ℕ → Bool) (table : ChoiceTable) where
   pub operations_flat : (p : ℕ) (s : List Statement) (entries : ChoiceTable) → EachEntry entries → (k : ℕ) (o : Operation) →

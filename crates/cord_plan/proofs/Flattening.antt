@@ -36,11 +36,9 @@ module _ (limit : ℕ) (s : State) where
 
   prefix_joined : (e : Expr) (others : Exprs) (text : List ℕ) → text_in limit s e ≡ Ok text →
       joined_in limit s (preceding e others) ≡ suffix (Ok text) (joined_in limit s others)
-  prefix_joined (name x) others text h = ap (λ (r : Result (List ℕ) FaultKind). suffix r (joined_in limit s others)) h
-  prefix_joined (run c n) others text h = ap (λ (r : Result (List ℕ) FaultKind). suffix r (joined_in limit s others)) h
   prefix_joined (cat es) others text h = append_joined es others
       ∙ ap (λ (r : Result (List ℕ) FaultKind). suffix r (joined_in limit s others)) (cat_joined limit s es text h).joined
-  prefix_joined (sub e i n) others text h = ap (λ (r : Result (List ℕ) FaultKind). suffix r (joined_in limit s others)) h
+  prefix_joined e others text h = ap (λ (r : Result (List ℕ) FaultKind). suffix r (joined_in limit s others)) h
 
   nested_joined : (es : List Expr) (text : List ℕ) → joined_in limit s (nested es) ≡ Ok text → joined_in limit s (members es) ≡ Ok text
   nested_joined [] text h = h

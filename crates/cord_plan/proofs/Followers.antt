@@ -93,13 +93,10 @@ rest_below p None blocks h = h
 rest_below p (Some r) blocks h = h.1
 
 opened_below : (p : ℕ) (blocks : List (Option ℕ)) (x : Option control.Shape) → Below p blocks → Below (suc p) (opened p blocks x)
-opened_below p blocks None h = below_more p blocks h
-opened_below p blocks (Some Straight) h = below_more p blocks h
 opened_below p blocks (Some Loop) h = (omega arith, below_more p blocks h)
-opened_below p blocks (Some Branch) h = below_more p blocks h
-opened_below p blocks (Some Otherwise) h = below_more p blocks h
 opened_below p [] (Some Close) h = tt
 opened_below p (block ∷ blocks) (Some Close) h = below_more p blocks (rest_below p block blocks h)
+opened_below p blocks x h = below_more p blocks h
 
 open_below : (shapes : List control.Shape) (p : ℕ) → Below p (open_at shapes p)
 open_below shapes zero = tt

@@ -5,6 +5,7 @@ use Rattle.std.proofs.Math.Nat.{eq-or-lt_of_le}
 use Rattle.std.specs.Prelude.{slice_get, if◌then◌else◌, not}
 use Rattle.std.specs.Option.{option_map}
 use Rattle.std.specs.Str.{bytes_eq}
+use Rattle.std.proofs.lemmas.Bool.{or_left, or_right}
 use Rattle.std.proofs.lemmas.Option.{slice_get-map, slice_get_within}
 use Rattle.std.proofs.lemmas.Slice.Eq.{bytes_eq-Decides}
 use Rattle.cord_syntax.specs.declared.statements.Statement.{Statement}
@@ -16,7 +17,7 @@ use Rattle.cord_meaning.specs.Statements.{shape_of}
 use Rattle.cord_meaning.specs.inner.Simulation.{IsControl}
 use Rattle.cord_core.proofs.Places.{at_here, some_here}
 use Rattle.cord_plan.specs.Exprs.{Expr, name, names}
-use Rattle.cord_plan.specs.Operands.{target_of, is_this_name, assigns, assigns_at, reads_at}
+use Rattle.cord_plan.specs.Operands.{has, target_of, is_this_name, assigns, assigns_at, reads_at}
 use Rattle.cord_plan.specs.Liveness.{ReadBy, NotLive}
 use Rattle.cord_plan.specs.Inlined.{is_block, is_block_at, preserves}
 use Rattle.cord_plan.specs.Values.{text_in}
@@ -25,6 +26,7 @@ use Rattle.cord_plan.specs.Conditions.{Decisions, is_simple, is_simple_at, makes
 use Rattle.cord_plan.specs.Conditions.{MeetsConditions}
 use Rattle.cord_plan.proofs.Evaluation.{In, value_same, cords_named}
 use Rattle.cord_plan.proofs.BlockLines.{is_block_or_none, IsByBlock, next_by_block}
+use Rattle.cord_plan.proofs.Named.{own_bytes, preserves_at}
 
 -- the plan has the text, or its length where there is a reason why the text isn't needed
 abbrev pub HeldAs : Type 0 → Held → List ℕ → Type 0
@@ -45,9 +47,6 @@ not_both b t f = cc
 none_or_some : (a : ℕ) (o : Option ℕ) → o ≡ None → o ≡ Some a → ⊥
 none_or_some a o n e = cc
 
-pub same_self : (x : List ℕ) → bytes_eq x x ≡ true
-same_self x = (bytes_eq-Decides x x).1 refl
-
 pub unset_same : {V : Type 0} (g : List ℕ → V) (z : List ℕ) (v : V) (y : List ℕ) → bytes_eq y z ≡ false → with_value g z v y ≡ g y
 unset_same g z v y e = ap (λ (w : Bool). if w then v else g y) e
 
@@ -55,25 +54,17 @@ set_there : {V : Type 0} (g : List ℕ → V) (z : List ℕ) (v : V) (y : List �
 set_there g z v y e = ap (λ (w : Bool). if w then v else g y) e
 
 -- a line that preserves these names assigns none of them
+pub has_in : (xs : List (List ℕ)) (x : List ℕ) → In x xs → has xs x ≡ true
+has_in [] x i = absurd i
+has_in (y ∷ ys) x (inl e) = or_left (bytes_eq x y) (has ys x) (ap (λ (z : List ℕ). bytes_eq x z) (sym e) ∙ own_bytes x)
+has_in (y ∷ ys) x (inr i) = or_right (bytes_eq x y) (has ys x) (has_in ys x i)
+
 kept_name : (o : Option Statement) (xs : List (List ℕ)) → preserves o xs ≡ true → (y : List ℕ) → In y xs → assigns_at o y ≡ false
-kept_name o [] e y i = absurd i
-kept_name o (x ∷ xs) e y i = pick (λ g j. kept_name o xs g y j) (assigns_at o x) refl e i
-  where
-    pick : (preserves o xs ≡ true → In y xs → assigns_at o y ≡ false) → (v : Bool) → assigns_at o x ≡ v → (not v && preserves o xs) ≡ true →
-        In y (x ∷ xs) → assigns_at o y ≡ false
-    pick rest true f g i = let bad : ⊥ = cc in absurd bad
-    pick rest false f g (inl same) = ap (λ (w : List ℕ). assigns_at o w) same ∙ f
-    pick rest false f g (inr i) = rest g i
+kept_name o xs e y i = preserves_at o xs y e (has_in xs y i)
 
 simple_shape : (l : Statement) → is_simple l ≡ true → shape_of l ≡ Straight
-simple_shape (Chars line target byte count) e = refl
-simple_shape (Nul line target count) e = refl
-simple_shape (Cat line target left right) e = refl
-simple_shape (Catn line target parts) e = refl
-simple_shape (Catc line target operand byte) e = refl
-simple_shape (Substr line target operand start count) e = refl
 simple_shape (Put line operand) e = refl
-simple_shape l e = let bad : ⊥ = cc in absurd bad
+simple_shape l e = cc
 
 block_unset : (l : Statement) (sh : Shape) → shape_of l ≡ sh → IsControl sh → (x : List ℕ) → assigns l x ≡ false
 block_unset (Repeat line count) sh e k x = refl
@@ -168,10 +159,7 @@ module _ (s : List Statement) (d : Decisions) (ok : MeetsConditions s d) (limit 
 
   plain_next : (sh : Shape) (p q : ℕ) → is_block sh ≡ false → NextOf shapes p (Some sh) q → q ≡ p + 1
   plain_next Straight p q e n = n
-  plain_next Loop p q e n = let bad : ⊥ = cc in absurd bad
-  plain_next Branch p q e n = let bad : ⊥ = cc in absurd bad
-  plain_next Otherwise p q e n = let bad : ⊥ = cc in absurd bad
-  plain_next Close p q e n = let bad : ⊥ = cc in absurd bad
+  plain_next sh p q e n = let bad : ⊥ = cc in absurd bad
 
   next_plain : (p q : ℕ) → is_block_at (slice_get s p) ≡ false → Next shapes p q → q ≡ p + 1
   next_plain p q e n = pick (slice_get s p) refl

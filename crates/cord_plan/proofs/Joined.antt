@@ -10,10 +10,8 @@ use Rattle.cord_plan.specs.inner.Choices.{choice_view}
 use Rattle.cord_plan.proofs.Appending.{append_nothing, append_thrice}
 
 prefix_append : (e : Expr) (a b : Exprs) → preceding e (append a b) ≡ append (preceding e a) b
-prefix_append (name x) a b = refl
-prefix_append (run c n) a b = refl
 prefix_append (cat es) a b = sym (append_thrice es a b)
-prefix_append (sub e i n) a b = refl
+prefix_append e a b = refl
 
 -- one expression more
 pub members_more : (es : List Expr) (e : Expr) → members (es ++ e ∷ []) ≡ append (members es) (preceding e nothing)

@@ -16,26 +16,12 @@ use Rattle.cord_meaning.specs.State.{has_number, sets_number}
 use Rattle.cord_meaning.specs.Statements.{act, byte_of_text, place_number}
 use Rattle.cord_core.specs.Texts.{first, last, order}
 use Rattle.cord_plan.specs.Operands.{read_by}
+use Rattle.cord_plan.specs.Verbatim.{IsVerbatim}
 
 -- the statements that a plan keeps as they are, but for `len`, which serves a length alone
 abbrev pub IsVerbatimButLen : Statement → Type 0
-IsVerbatimButLen (Let line target text) = ⊥
-IsVerbatimButLen (File line target path) = ⊥
-IsVerbatimButLen (Eager line target path) = ⊥
-IsVerbatimButLen (Lazy line target path) = ⊥
-IsVerbatimButLen (Chars line target byte count) = ⊥
-IsVerbatimButLen (Nul line target count) = ⊥
-IsVerbatimButLen (FromFn line target function count) = ⊥
-IsVerbatimButLen (Cat line target left right) = ⊥
-IsVerbatimButLen (Catn line target parts) = ⊥
-IsVerbatimButLen (Catc line target operand byte) = ⊥
-IsVerbatimButLen (Substr line target operand start count) = ⊥
-IsVerbatimButLen (Balance line target operand) = ⊥
-IsVerbatimButLen (EcToCord line target extensible) = ⊥
-IsVerbatimButLen (Sprintf line target text format arguments) = ⊥
-IsVerbatimButLen (Put line operand) = ⊥
 IsVerbatimButLen (Len line target operand) = ⊥
-IsVerbatimButLen _ = Unit {0}
+IsVerbatimButLen l = IsVerbatim l
 
 -- these names have these texts
 abbrev pub Agrees : (List ℕ → List ℕ) → (List ℕ → List ℕ) → List (List ℕ) → Type 0

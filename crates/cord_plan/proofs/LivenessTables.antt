@@ -13,11 +13,13 @@ use Rattle.cord_plan.specs.declared.flow.successors.Successors.{Successors}
 use Rattle.cord_plan.specs.declared.flow.numbering.Numbering.{Numbering}
 use Rattle.cord_plan.specs.Operands.{has, reads_at}
 use Rattle.cord_plan.specs.Liveness.{ReadBy, ReadLater, NotLive, IsLater, successors, some_of}
-use Rattle.cord_plan.specs.inner.Numbering.{CoversNames, names_of, number_of}
+use Rattle.cord_plan.specs.inner.Numbering.{names_of, number_of}
 use Rattle.cord_plan.specs.inner.NameSets.{IsBit, column}
-use Rattle.cord_plan.specs.inner.Liveness.{ArePaths, AreLive, AllLive, LiveTo, IsLive, at, column_of, places_at, reports_of}
+use Rattle.cord_plan.specs.inner.Liveness.{ArePaths, AreLive, AllLive, IsLive, at, column_of, places_at, reports_of}
+use borrow.Author.Count.{below_more}
+use Rattle.cord_plan.proofs.Pushed.{get_before, get_last}
 use Rattle.cord_plan.proofs.Flows.{Found, shape_found, shape_held}
-use Rattle.cord_plan.proofs.Numbers.{Numbered, numbered, unnumbered}
+use Rattle.cord_plan.proofs.Numbers.{CoversNames, Numbered, numbered, unnumbered}
 use Rattle.cord_plan.proofs.Sweeps.{path_in_table}
 
 -- the group and the bit of a number
@@ -35,32 +37,16 @@ live_of t groups x = column_of groups (number_of t x)
 none_live : (t : Numbering) (groups : List Group) (x : List ℕ) → has (names_of t) x ≡ false → live_of t groups x ≡ []
 none_live t groups x e = rw (unnumbered t x e) refl
 
--- a list of groups with one more
-get_before : (groups : List Group) (last group : Group) (n : ℕ) → slice_get groups n ≡ Some group →
-    slice_get (groups ++ last ∷ []) n ≡ Some group
-get_before [] last group n e = let bad : ⊥ = cc in absurd bad
-get_before (g ∷ groups) last group zero e = e
-get_before (g ∷ groups) last group (suc n) e = get_before groups last group n e
-
-get_last : (groups : List Group) (last : Group) → slice_get (groups ++ last ∷ []) (length groups) ≡ Some last
-get_last [] last = refl
-get_last (g ∷ groups) last = get_last groups last
-
-pub groups_more : (groups : List Group) (last : Group) (k : ℕ) → length groups ≡ k → length (groups ++ last ∷ []) ≡ k + 1
-groups_more groups last k is = length-append groups (last ∷ []) ∙ ap (λ (n : ℕ). n + 1) is
+-- each of the first k groups is live
+abbrev pub LiveTo : List Statement → Numbering → ℕ → List Group → Type 0
+LiveTo s t k groups = (g : ℕ) → g < k → (group : Group) × (slice_get groups g ≡ Some group) × AreLive s t g group.words.items
 
 pub live_more : (s : List Statement) (t : Numbering) (k : ℕ) (groups : List Group) (last : Group) → length groups ≡ k →
     LiveTo s t k groups → AreLive s t k last.words.items → LiveTo s t (k + 1) (groups ++ last ∷ [])
-live_more s t k groups last size before live g lt = by_place (eq-or-lt_of_le (omega arith))
-  where
-    at_last : slice_get (groups ++ last ∷ []) k ≡ Some last
-    at_last = subst (λ (n : ℕ). slice_get (groups ++ last ∷ []) n ≡ Some last) size (get_last groups last)
-
-    by_place : (g ≡ k) ⊎ (g < k) → (group : Group) × (slice_get (groups ++ last ∷ []) g ≡ Some group) × AreLive s t g group.words.items
-    by_place (inl same) = rw same (last, at_last, live)
-    by_place (inr less) =
-        let found : (group : Group) × (slice_get groups g ≡ Some group) × AreLive s t g group.words.items = before g less in
-        (found.0, get_before groups last found.0 g found.1, found.2)
+live_more s t k groups last size before live =
+    below_more (λ g. (group : Group) × (slice_get (groups ++ last ∷ []) g ≡ Some group) × AreLive s t g group.words.items) k
+    (λ g lt. (let found = before g lt in (found.0, get_before groups (last ∷ []) g found.0 found.1, found.2)))
+    (last, ap (λ (n : ℕ). slice_get (groups ++ last ∷ []) n) (sym size) ∙ get_last groups last, live)
 
 module _ (s : List Statement) (t : Numbering) (table : List Successors) (groups : List Group) (paths : ArePaths (map shape_of s) table)
     (covers : CoversNames s t) (all : AllLive s t groups) where

@@ -12,7 +12,7 @@ use Rattle.cord_plan.specs.declared.flow.numbering.Numbering.{Numbering}
 use Rattle.cord_plan.specs.Operands.{has, is_this_name}
 use Rattle.cord_plan.specs.inner.Numbering.{names_of, number_in, number_of}
 use Rattle.cord_plan.specs.inner.NameSets.{bit, IsBit, Marks}
-use Rattle.cord_plan.proofs.Named.{same_bytes, own_bytes}
+use Rattle.cord_plan.proofs.Named.{has_both, same_bytes, own_bytes}
 use Rattle.cord_plan.proofs.Numbers.{number_there}
 use Rattle.cord_plan.proofs.Words.{bit_or_is, bit_zero_is, bit_one_same, bit_one_other}
 
@@ -58,14 +58,6 @@ module _ (t : Numbering) (g : ℕ) where
 
   pub marks_same : (f h : List ℕ → Bool) (w : ℕ) → ((x : List ℕ) → h x ≡ f x) → Marks t g f w → Marks t g h w
   marks_same f h w same marks x i b = marks x i b ∙ sym (same x)
-
-pub has_both : (xs ys : List (List ℕ)) (x : List ℕ) → has (xs ++ ys) x ≡ (has xs x || has ys x)
-has_both [] ys x = refl
-has_both (y ∷ xs) ys x = by_name (bytes_eq x y) (has_both xs ys x)
-  where
-    by_name : (b : Bool) → has (xs ++ ys) x ≡ (has xs x || has ys x) → (b || has (xs ++ ys) x) ≡ ((b || has xs x) || has ys x)
-    by_name true ih = refl
-    by_name false ih = ih
 
 pub has_one : (y x : List ℕ) → has (y ∷ []) x ≡ bytes_eq x y
 has_one y x = or-false (bytes_eq x y)

@@ -1,7 +1,7 @@
 -- What expressions name, and names in lists.
 use Rattle.std.proofs.Common.{◌≡◌, ◌⊎◌, ℕ, zero, suc, ◌+◌, ◌<◌, ◌≤◌, pos, Bool, true, false, List, [], ◌∷◌, ◌++◌, length, Option, Some}
 use Rattle.std.proofs.Common.{None, refl, sym, ap, ◌∙◌, subst, inl, inr, arith, append_assoc, append-nil}
-use Rattle.std.specs.Prelude.{slice_get, not, nat_le, if◌then◌else◌}
+use Rattle.std.specs.Prelude.{slice_get, not, nat_le, ◌||◌, if◌then◌else◌}
 use Rattle.std.specs.Str.{bytes_eq}
 use Rattle.std.proofs.lemmas.Bool.{or_left, or_right, leb-true, leb-false}
 use Rattle.std.proofs.lemmas.Slice.Eq.{bytes_eq-Decides}
@@ -31,18 +31,16 @@ pub own_bytes : (x : List ℕ) → bytes_eq x x ≡ true
 own_bytes x = (bytes_eq-Decides x x).1 refl
 
 -- a name stands among the names of lists that are joined
-pub has_append : (xs ys : List (List ℕ)) (y : List ℕ) → has (xs ++ ys) y ≡ true → (has xs y ≡ true) ⊎ (has ys y ≡ true)
-has_append [] ys y e = inr e
-has_append (x ∷ xs) ys y e = first (or_true (bytes_eq y x) (has (xs ++ ys) y) e) (λ h. has_append xs ys y h)
+pub has_both : (xs ys : List (List ℕ)) (x : List ℕ) → has (xs ++ ys) x ≡ (has xs x || has ys x)
+has_both [] ys x = refl
+has_both (y ∷ xs) ys x = by_name (bytes_eq x y) (has_both xs ys x)
   where
-    rest : (has xs y ≡ true) ⊎ (has ys y ≡ true) → (has (x ∷ xs) y ≡ true) ⊎ (has ys y ≡ true)
-    rest (inl h) = inl (or_right (bytes_eq y x) (has xs y) h)
-    rest (inr h) = inr h
+    by_name : (b : Bool) → has (xs ++ ys) x ≡ (has xs x || has ys x) → (b || has (xs ++ ys) x) ≡ ((b || has xs x) || has ys x)
+    by_name true ih = refl
+    by_name false ih = ih
 
-    first : (bytes_eq y x ≡ true) ⊎ (has (xs ++ ys) y ≡ true) → (has (xs ++ ys) y ≡ true → (has xs y ≡ true) ⊎ (has ys y ≡ true)) →
-        (has (x ∷ xs) y ≡ true) ⊎ (has ys y ≡ true)
-    first (inl h) others = inl (or_left (bytes_eq y x) (has xs y) h)
-    first (inr h) others = rest (others h)
+pub has_append : (xs ys : List (List ℕ)) (y : List ℕ) → has (xs ++ ys) y ≡ true → (has xs y ≡ true) ⊎ (has ys y ≡ true)
+has_append xs ys y e = or_true (has xs y) (has ys y) (sym (has_both xs ys y) ∙ e)
 
 pub has_at : (xs : List (List ℕ)) (k : ℕ) (x : List ℕ) → slice_get xs k ≡ Some x → has xs x ≡ true
 has_at [] k x e = let bad : ⊥ = cc in absurd bad
@@ -117,11 +115,9 @@ append_names nothing others = refl
 append_names (member e es) others = ap (λ (x : List (List ℕ)). names e ++ x) (append_names es others)
     ∙ sym (append_assoc (names e) (names_of es) (names_of others))
 
-prefix_names : (e : Expr) (others : Exprs) → names_of (preceding e others) ≡ names e ++ names_of others
-prefix_names (name x) others = refl
-prefix_names (run c n) others = refl
+pub prefix_names : (e : Expr) (others : Exprs) → names_of (preceding e others) ≡ names e ++ names_of others
 prefix_names (cat es) others = append_names es others
-prefix_names (sub e i n) others = refl
+prefix_names e others = refl
 
 -- one of these expressions names it
 pub record SomeNames (es : List Expr) (y : List ℕ) : Type 0 where

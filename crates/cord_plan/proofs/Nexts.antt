@@ -13,10 +13,7 @@ is_block_shape (Some s) = is_block s
 next_of : (shape : Option Shape) (p : ℕ) (rest : List Shape) → is_block_shape shape ≡ false → jump_at shape p rest ≡ p + 1
 next_of None p rest e = refl
 next_of (Some Straight) p rest e = refl
-next_of (Some Loop) p rest e = let bad : ⊥ = cc in absurd bad
-next_of (Some Branch) p rest e = let bad : ⊥ = cc in absurd bad
-next_of (Some Otherwise) p rest e = let bad : ⊥ = cc in absurd bad
-next_of (Some Close) p rest e = refl
+next_of (Some s) p rest e = cc
 
 -- where no shape belongs to a block, each leads to the next place
 pub all_next : (shapes : List Shape) → ((p : ℕ) → is_block_shape (slice_get shapes p) ≡ false) → (p : ℕ) → jump shapes p ≡ p + 1

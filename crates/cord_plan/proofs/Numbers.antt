@@ -20,10 +20,11 @@ use Rattle.cord_plan.specs.declared.flow.numbering.NumberedLine.{NumberedLine}
 use Rattle.cord_plan.specs.declared.flow.numbering.Numbering.{Numbering}
 use Rattle.cord_plan.specs.Operands.{has, cord_arguments, read_by, reads_at, target_of}
 use Rattle.cord_plan.specs.inner.Choices.{simple_operands}
-use Rattle.cord_plan.specs.inner.Numbering.{CoversNames, IsLineAt, IsNumbered, IsNumbering, names_of, number_in, number_of}
-use Rattle.cord_plan.specs.inner.Places.{AddsPlaces, AddsLine, AreNumbers, GainsNames, IsNumberedLine, IsNumber, TakesNumber, place_of}
+use Rattle.cord_plan.specs.inner.Numbering.{IsNumbered, IsNumbering, names_of, number_in, number_of}
+use Rattle.cord_plan.specs.inner.Places.{AddsPlaces, AddsLine, IsLineIn, AreNumbers, GainsNames, IsNumberedLine, IsNumber, TakesNumber, place_of}
 use Rattle.cord_plan.proofs.Choices.{simple_reads}
-use Rattle.cord_plan.proofs.Named.{same_bytes, own_bytes}
+use Rattle.cord_plan.proofs.Named.{has_at, same_bytes, own_bytes}
+use Rattle.cord_plan.proofs.Pushed.{get_before, get_last}
 
 -- the name at the place that was found
 pub place_found : (names : List (List ℕ)) (x : List ℕ) (n : ℕ) → place_of names x ≡ Some n → slice_get names n ≡ Some x
@@ -50,14 +51,6 @@ place_within (y ∷ ys) x h = by_name (bytes_eq x y) h (λ k. place_within ys x 
     by_name true k ih = (0, refl)
     by_name false k ih = let rest : (n : ℕ) × (place_of ys x ≡ Some n) = ih k in (suc rest.0, rw rest.1 refl)
 
--- a name at a place stands in the list
-pub has_there : (names : List (List ℕ)) (x : List ℕ) (n : ℕ) → slice_get names n ≡ Some x → has names x ≡ true
-has_there [] x n e = let bad : ⊥ = cc in absurd bad
-has_there (y ∷ ys) x zero e =
-    let same : y ≡ x = cc in
-    rw same (or_left (bytes_eq x x) (has ys x) (own_bytes x))
-has_there (y ∷ ys) x (suc n) e = or_right (bytes_eq x y) (has ys x) (has_there ys x n e)
-
 module _ (t : Numbering) (x : List ℕ) where
   -- the name of a number
   pub number_there : (n : ℕ) → number_of t x ≡ Some n → slice_get (names_of t) n ≡ Some x
@@ -80,7 +73,7 @@ module _ (t : Numbering) (x : List ℕ) where
       by_number : (o : Option ℕ) → number_of t x ≡ o → o ≡ None
       by_number None e = refl
       by_number (Some n) e =
-          let known : has (names_of t) x ≡ true = has_there (names_of t) x n (number_there n e) in
+          let known : has (names_of t) x ≡ true = has_at (names_of t) n x (number_there n e) in
           let bad : ⊥ = cc in
           absurd bad
 
@@ -119,7 +112,7 @@ module _ (names : List (List ℕ)) (distinct : IsDistinct bytes_eq names) (x : L
 
   pub place_at : (n : ℕ) → slice_get names n ≡ Some x → place_of names x ≡ Some n
   place_at n e =
-      let found = place_within names x (has_there names x n e) in
+      let found = place_within names x (has_at names n x e) in
       found.1 ∙ ap Some (one_place found.0 n (place_found names x found.0 found.1) e)
 
   -- a place that is reported, where there is one, is the first
@@ -129,15 +122,6 @@ module _ (names : List (List ℕ)) (distinct : IsDistinct bytes_eq names) (x : L
   place_reported (Some n) there none = sym (place_at n there)
 
 -- ---- lists that grow
-get_before : {A : Type 0} (xs ys : List A) (k : ℕ) (x : A) → slice_get xs k ≡ Some x → slice_get (xs ++ ys) k ≡ Some x
-get_before [] ys k x e = let bad : ⊥ = cc in absurd bad
-get_before (z ∷ xs) ys zero x e = e
-get_before (z ∷ xs) ys (suc k) x e = get_before xs ys k x e
-
-get_last : {A : Type 0} (xs : List A) (x : A) → slice_get (xs ++ x ∷ []) (length xs) ≡ Some x
-get_last [] x = refl
-get_last (z ∷ xs) x = get_last xs x
-
 pub same_names : (names : List (List ℕ)) → GainsNames names names
 same_names names = record { remains = λ n x e. e; distinct = λ d. d }
 
@@ -221,28 +205,6 @@ both_added xs ys a b c p q r one two = record {
     both : {i j k m : List (Option (List ℕ))} → i ≡ j → k ≡ m → (i ++ k) ≡ (j ++ m)
     both e f = λ i. e i ++ f i
 
-pub more_added : (names : List (List ℕ)) (i : ℕ) (y : List ℕ) (a b c : List (List ℕ)) (p q r : List ℕ) → i < length names →
-    y ≡ get_or names i y → AddsPlaces (take i names) a b p q → AddsPlaces (y ∷ []) b c q r → AddsPlaces (take (i + 1) names) a c p r
-more_added names i y a b c p q r lt is one two =
-    let prefix : take (i + 1) names ≡ take i names ++ y ∷ [] =
-    take_more names i y lt ∙ ap (λ (z : List ℕ). take i names ++ z ∷ []) (sym is) in
-    rw prefix (both_added (take i names) (y ∷ []) a b c p q r one two)
-
-cords_append : (xs ys : List Argument) → cord_arguments (xs ++ ys) ≡ cord_arguments xs ++ cord_arguments ys
-cords_append [] ys = refl
-cords_append (Number n ∷ xs) ys = cords_append xs ys
-cords_append (Cord y ∷ xs) ys = ap (λ (zs : List (List ℕ)). y ∷ zs) (cords_append xs ys)
-
-pub more_arguments : (arguments : List Argument) (i : ℕ) (e : Argument) (a b c : List (List ℕ)) (p q r : List ℕ) →
-    i < length arguments → e ≡ get_or arguments i e → AddsPlaces (cord_arguments (take i arguments)) a b p q →
-    AddsPlaces (cord_arguments (e ∷ [])) b c q r → AddsPlaces (cord_arguments (take (i + 1) arguments)) a c p r
-more_arguments arguments i e a b c p q r lt is one two =
-    let prefix : take (i + 1) arguments ≡ take i arguments ++ e ∷ [] =
-    take_more arguments i e lt ∙ ap (λ (z : Argument). take i arguments ++ z ∷ []) (sym is) in
-    let more : cord_arguments (take (i + 1) arguments) ≡ cord_arguments (take i arguments) ++ cord_arguments (e ∷ []) =
-    rw prefix (cords_append (take i arguments) (e ∷ [])) in
-    rw more (both_added (cord_arguments (take i arguments)) (cord_arguments (e ∷ [])) a b c p q r one two)
-
 -- what was noted last
 last_noted : (p ns q : List ℕ) → q ≡ p ++ ns → take (length q - length p) (drop (length p) q) ≡ ns
 last_noted p ns q is =
@@ -298,6 +260,14 @@ lines_more s i l old new before after lines line size lt is adds reported p m wi
         )
 
 -- ---- what numbers tell
+-- the numbers of the line at a place are kept
+abbrev pub IsLineAt : Numbering → Statement → ℕ → Type 0
+IsLineAt t l p = IsLineIn (names_of t) t.read.items t.lines.items l p
+
+-- the names that the lines read have numbers
+abbrev pub CoversNames : List Statement → Numbering → Type 0
+CoversNames s t = (p : ℕ) → p < length s → (x : List ℕ) → reads_at (slice_get s p) x ≡ true → has (names_of t) x ≡ true
+
 module _ (t : Numbering) where
   -- the number of a name, where there is one
   pub number_reported : (o : Option (List ℕ)) (n : Option ℕ) → IsNumber (names_of t) o n → n ≡ number_in t o
@@ -375,7 +345,7 @@ module _ (t : Numbering) where
           has (names_of t) x ≡ true
       by_name true same k others =
           let here : slice_get (names_of t) n ≡ Some y = let all = e in cc in
-          has_there (names_of t) x n (here ∙ ap Some (sym (same_bytes x y same)))
+          has_at (names_of t) n x (here ∙ ap Some (sym (same_bytes x y same)))
       by_name false other k others = others k
 
   -- the numbers of a line, as they are kept

@@ -14,44 +14,12 @@ use Rattle.cord_plan.specs.Operands.{target_of}
 use Rattle.cord_plan.specs.Planned.{Made, Joined, Literal, OfFile, OfEager, OfLazy, OfFunction, Balanced, OfExtensible, Printed, gives}
 use Rattle.cord_plan.specs.Planned.{operation, operations, or_nothing, is_dead, is_first, planned, trivial}
 
-kept_gives : (measures : Bool) (line : ℕ) (target : List ℕ) (made : Made) → KeepsNoOther (gives measures line target made)
-kept_gives true line target made = tt
-kept_gives false line target made = tt
-
+-- a plan keeps only such statements
 kept_line : (l : Statement) (e : Expr) (dead paired : Bool) → KeepsNoOther (operation l e dead paired)
-kept_line (Cat line target left right) e dead paired = kept_gives (dead || paired) line target (Joined e)
-kept_line (Catn line target many) e dead paired = kept_gives (dead || paired) line target (Joined e)
-kept_line (Catc line target operand byte) e dead paired = kept_gives (dead || paired) line target (Joined e)
-kept_line (Chars line target byte n) e dead paired = kept_gives (dead || paired) line target (Joined e)
-kept_line (Nul line target n) e dead paired = kept_gives (dead || paired) line target (Joined e)
-kept_line (Substr line target operand start n) e dead paired = kept_gives (dead || paired) line target (Joined e)
 kept_line (Put line operand) e dead paired = tt
-kept_line (Let line target text) e dead paired = kept_gives dead line target (Literal text)
-kept_line (File line target path) e dead paired = kept_gives dead line target (OfFile path)
-kept_line (Eager line target path) e dead paired = kept_gives dead line target (OfEager path)
-kept_line (Lazy line target path) e dead paired = kept_gives dead line target (OfLazy path)
-kept_line (FromFn line target function n) e dead paired = kept_gives dead line target (OfFunction function n)
-kept_line (Balance line target operand) e dead paired = kept_gives dead line target (Balanced operand)
-kept_line (EcToCord line target extensible) e dead paired = kept_gives dead line target (OfExtensible extensible)
-kept_line (Sprintf line target text format arguments) e dead paired = kept_gives dead line target (Printed text format arguments)
-kept_line (Len line target operand) e dead paired = tt
-kept_line (Fetch line target operand index) e dead paired = tt
-kept_line (Cmp line target left right) e dead paired = tt
-kept_line (Ncmp line target left left_start right right_start count) e dead paired = tt
-kept_line (Str line target operand start pattern) e dead paired = tt
-kept_line (Chr line target operand start byte) e dead paired = tt
-kept_line (Rchr line target operand start byte) e dead paired = tt
-kept_line (Assign line target value) e dead paired = tt
-kept_line (Add line target left right) e dead paired = tt
-kept_line (Sub line target left right) e dead paired = tt
-kept_line (EcInit line target) e dead paired = tt
-kept_line (EcPut line extensible byte) e dead paired = tt
-kept_line (EcCat line extensible operand) e dead paired = tt
-kept_line (EcStr line extensible text) e dead paired = tt
-kept_line (Repeat line count) e dead paired = tt
-kept_line (If line left relation right) e dead paired = tt
-kept_line (Else line) e dead paired = tt
-kept_line (End line) e dead paired = tt
+kept_line l e true paired = tt
+kept_line l e false true = tt
+kept_line l e false false = tt
 
 pub kept_trivial : (s : List Statement) → All KeepsNoOther (trivial s)
 kept_trivial [] = All-nil KeepsNoOther

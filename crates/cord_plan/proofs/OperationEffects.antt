@@ -101,21 +101,6 @@ module _ (limit : ℕ) (files : FileSystem) (Related : State → Option Holding 
             (if_all (all_texts h (read_by l)) (and_then (act limit files l (plain h)) (λ r. Ok (Some (with_others r.0), r.1)))) →
             Agree Related (act limit files l s) (keeps limit files l h)
         by_kept (Len line target operand) k g = absurd k
-        by_kept (Let line target text) k g = g
-        by_kept (File line target path) k g = g
-        by_kept (Eager line target path) k g = g
-        by_kept (Lazy line target path) k g = g
-        by_kept (Chars line target byte count) k g = g
-        by_kept (Nul line target count) k g = g
-        by_kept (FromFn line target function count) k g = g
-        by_kept (Cat line target left right) k g = g
-        by_kept (Catn line target parts) k g = g
-        by_kept (Catc line target operand byte) k g = g
-        by_kept (Substr line target operand start count) k g = g
-        by_kept (Balance line target operand) k g = g
-        by_kept (EcToCord line target extensible) k g = g
-        by_kept (Sprintf line target text format arguments) k g = g
-        by_kept (Put line operand) k g = g
         by_kept l k g = g
 
   -- what `len` tells is the length

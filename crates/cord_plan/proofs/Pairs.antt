@@ -1,6 +1,6 @@
 -- What the expressions of inlined pairs name, and how great they are.
 use Rattle.std.proofs.Common.{◌≡◌, ◌⊎◌, ℕ, zero, suc, ◌+◌, ◌-◌, ◌<◌, ◌≤◌, Bool, true, false, ◌&&◌, ◌||◌, List, [], ◌∷◌, ◌++◌, map, Option}
-use Rattle.std.proofs.Common.{Some, None, refl, sym, ap, ◌∙◌, subst, inl, inr, arith, append-nil}
+use Rattle.std.proofs.Common.{Some, None, refl, sym, ap, ◌∙◌, subst, inl, inr, ⊎_elim, arith, append-nil}
 use Rattle.std.specs.Prelude.{slice_get, not, ◌==◌, nat_le}
 use Rattle.std.specs.Str.{bytes_eq}
 use Rattle.std.proofs.lemmas.Bool.{leb-true, leb-false, eqb-true}
@@ -17,44 +17,36 @@ use Rattle.cord_plan.specs.Pairs.{IsPair, numbers_named, numbers_named_at, IsNoN
 use Rattle.cord_plan.proofs.Chosen.{both_true, Taken, Chosen, AreChosen, are_chosen, stay_small, EachEntry, IsPrefix, each_entry}
 use Rattle.cord_plan.proofs.Flows.{or_true}
 use Rattle.cord_plan.proofs.Named.{not_true, no_true, same_bytes, has_at, one_place, each_at, preserves_at, SomeNames, Names, with_names}
-use Rattle.cord_plan.proofs.ReadNames.{no_number}
+use Rattle.cord_plan.proofs.ReadKinds.{no_number}
 
 module _ (s : List Statement) (later : List ℕ → ℕ → Bool) where
-  -- the tests that hold of the lines between, where the expression r of the line at a stands for x in the line l at b
-  pub record Fits (r : Expr) (a b : ℕ) (l : Statement) (x : List ℕ) : Type 0 where
-    pub quiet : each_from (λ m. not (is_block_at (slice_get s m)) && not (reads_at (slice_get s m) x)) (b - (a + 1)) (a + 1) ≡ true
-    pub once : (count x (read_by l) == 1) ≡ true
-    pub preserved : each_from (λ m. preserves (slice_get s m) (names r)) (b - a) a ≡ true
+  -- what is known where the expression r of the line at a stands for x in the line l at b
+  pub record Facts (r : Expr) (a b : ℕ) (l : Statement) (x : List ℕ) : Type 0 where
+    pub straight : (m : ℕ) → a < m → m < b → is_block_at (slice_get s m) ≡ false
+    pub not_live : (m : ℕ) → a < m → m < b → reads_at (slice_get s m) x ≡ false
+    pub once : count x (read_by l) ≡ 1
+    pub later_or : (assigns l x ≡ true) ⊎ (later x b ≡ false)
+    pub fixed : (m : ℕ) → a ≤ m → m < b → preserves (slice_get s m) (names r) ≡ true
 
-  pub taken_fits : (table : ChoiceTable) (b : ℕ) (l : Statement) (x : List ℕ) (a : ℕ) (r : Expr) → Taken s later table b l x a r → Fits r a b l x
-  taken_fits table b l x a r h =
-      let quiet = each_from (λ m. not (is_block_at (slice_get s m)) && not (reads_at (slice_get s m) x)) (b - (a + 1)) (a + 1) in
-      let once = count x (read_by l) == 1 in
-      let free = assigns l x || not (later x b) in
-      let preserved = each_from (λ m. preserves (slice_get s m) (names r)) (b - a) a in
-      let p = both_true quiet (once && (free && preserved)) h.fit in
-      let q = both_true once (free && preserved) p.1 in
-      record { quiet = p.0; once = q.0; preserved = (both_true free preserved q.1).1 }
-
-  -- what is known there
-  record Facts (r : Expr) (a b : ℕ) (l : Statement) (x : List ℕ) : Type 0 where
-    not_live : (m : ℕ) → a < m → m < b → reads_at (slice_get s m) x ≡ false
-    once : count x (read_by l) ≡ 1
-    stays : (m : ℕ) (y : List ℕ) → a ≤ m → m < b → has (names r) y ≡ true → assigns_at (slice_get s m) y ≡ false
-
-  taken_facts : (table : ChoiceTable) (b : ℕ) (l : Statement) (x : List ℕ) (a : ℕ) (r : Expr) → Taken s later table b l x a r → Facts r a b l x
+  pub taken_facts : (table : ChoiceTable) (b : ℕ) (l : Statement) (x : List ℕ) (a : ℕ) (r : Expr) → Taken s later table b l x a r → Facts r a b l x
   taken_facts table b l x a r h =
-      let before : a < b = h.set.before in
-      let f : Fits r a b l x = taken_fits table b l x a r h in
       let quiet : ℕ → Bool = λ m. not (is_block_at (slice_get s m)) && not (reads_at (slice_get s m) x) in
       let preserved : ℕ → Bool = λ m. preserves (slice_get s m) (names r) in
+      let p = both_true (each_from quiet (b - (a + 1)) (a + 1))
+      ((count x (read_by l) == 1) && ((assigns l x || not (later x b)) && each_from preserved (b - a) a)) h.fit in
+      let q = both_true (count x (read_by l) == 1) ((assigns l x || not (later x b)) && each_from preserved (b - a) a) p.1 in
+      let w = both_true (assigns l x || not (later x b)) (each_from preserved (b - a) a) q.1 in
+      let between : (m : ℕ) → a < m → m < b → quiet m ≡ true =
+      λ m low high. each_at quiet (b - (a + 1)) (a + 1) m p.0 (omega arith) (omega arith) in
       record {
+        straight = λ m low high. not_true (is_block_at (slice_get s m))
+            (both_true (not (is_block_at (slice_get s m))) (not (reads_at (slice_get s m) x)) (between m low high)).0;
         not_live = λ m low high. not_true (reads_at (slice_get s m) x)
-            (both_true (not (is_block_at (slice_get s m))) (not (reads_at (slice_get s m) x))
-            (each_at quiet (b - (a + 1)) (a + 1) m f.quiet (omega arith) (omega arith))).1;
-        once = eqb-true (count x (read_by l)) 1 f.once;
-        stays = λ m y low high is_named. preserves_at (slice_get s m) (names r) y
-            (each_at preserved (b - a) a m f.preserved low (omega arith)) is_named;
+            (both_true (not (is_block_at (slice_get s m))) (not (reads_at (slice_get s m) x)) (between m low high)).1;
+        once = eqb-true (count x (read_by l)) 1 q.0;
+        later_or = ⊎_elim (λ (e : assigns l x ≡ true). inl e) (λ (e : not (later x b) ≡ true). inr (not_true (later x b) e))
+            (or_true (assigns l x) (not (later x b)) w.0);
+        fixed = λ m low high. each_at preserved (b - a) a m w.1 low (omega arith);
       }
 
   -- a line reads the bytes of a name, or has it as the name of a number
@@ -136,7 +128,6 @@ module _ (s : List Statement) (later : List ℕ → ℕ → Bool) where
     named_there x a r y h is_named =
         let from : EntryOf table a r = entry_of table a r h.from in
         let n : NamedBy a y = each a from.en from.at r y from.is is_named in
-        let f : Facts r a b l x = taken_facts table b l x a r h in
         let low : n.place ≤ a = n.up_to in
         let before : a < b = h.set.before in
         let stays : (m : ℕ) → n.place ≤ m → m < b → assigns_at (slice_get s m) y ≡ false =
@@ -145,7 +136,8 @@ module _ (s : List Statement) (later : List ℕ → ℕ → Bool) where
       where
         two : (m : ℕ) → (each a (entry_of table a r h.from).en (entry_of table a r h.from).at r y
             (entry_of table a r h.from).is is_named).place ≤ m → m < b → (v : Bool) → nat_le a m ≡ v → assigns_at (slice_get s m) y ≡ false
-        two m least most true e = (taken_facts table b l x a r h).stays m y (leb-true a m e) most is_named
+        two m least most true e =
+            preserves_at (slice_get s m) (names r) y ((taken_facts table b l x a r h).fixed m (leb-true a m e) most) is_named
         two m least most false e = (each a (entry_of table a r h.from).en (entry_of table a r h.from).at r y
             (entry_of table a r h.from).is is_named).stays m least (leb-false a m e)
 
@@ -302,5 +294,4 @@ module _ (s : List Statement) (later : List ℕ → ℕ → Bool) where
   pub leaves_out_read : (g : Grammar) (text : List ℕ) → ReadsBy g text s → (a b : ℕ) (t : List ℕ) (e : Expr) → IsPair s later a b t e →
       has (names e) t ≡ false
   leaves_out_read g text read a b t e h =
-      let first = each_entry s later EntryDefining entry_defining b (Some e, h.choices) h.is_expression h.line e h.is_line refl in
-      leaves_out a b t e h (no_number g text s b h.operand h.line first.0 t read h.is_line first.1 h.is_operand)
+      leaves_out a b t e h (no_number g text s b h.operand h.line t read h.is_line h.is_operand)

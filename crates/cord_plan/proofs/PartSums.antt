@@ -86,10 +86,8 @@ sum_parts [] = 0
 sum_parts (e ∷ es) = parts e + sum_parts es
 
 parts_prefix : (e : Expr) (b : Exprs) → parts_of (preceding e b) ≡ parts e + parts_of b
-parts_prefix (name x) b = refl
-parts_prefix (run c n) b = refl
 parts_prefix (cat es) b = parts_append es b
-parts_prefix (sub e i n) b = refl
+parts_prefix e b = refl
 
 pub parts_members : (es : List Expr) → parts_of (members es) ≡ sum_parts es
 parts_members [] = refl

@@ -13,13 +13,13 @@ use Rattle.cord_plan.specs.Inlined.{ChoiceTable, Choice, replaced, defining, cho
 use Rattle.cord_plan.specs.Planned.{Operation, Measure, Joined, gives, or_nothing, operation, is_from, some_from, is_first, is_dead}
 use Rattle.cord_plan.specs.Planned.{operations, planned}
 use Rattle.cord_plan.specs.Pairs.{IsPair, expression_of}
-use Rattle.cord_plan.proofs.Chosen.{Taken, are_chosen, EachEntry, IsPrefix, each_entry}
+use Rattle.cord_plan.proofs.Chosen.{Taken, are_chosen, EachEntry, IsPrefix, each_entry, line_there}
 use Rattle.cord_plan.proofs.Named.{same_bytes}
 use Rattle.cord_plan.proofs.ReadNames.{HasDefining}
 use Rattle.cord_plan.proofs.Pairs.{taken_at, EntryOf, entry_of, EntryDefining, entry_defining}
 
 -- the operation at a line's place
-operation_at : (later : List ℕ → ℕ → Bool) (table : ChoiceTable) (p : ℕ) (s : List Statement) (entries : ChoiceTable) (k : ℕ) (l : Statement)
+pub operation_at : (later : List ℕ → ℕ → Bool) (table : ChoiceTable) (p : ℕ) (s : List Statement) (entries : ChoiceTable) (k : ℕ) (l : Statement)
     (en : Option Expr × List Choice) → slice_get s k ≡ Some l → slice_get entries k ≡ Some en →
     slice_get (operations later table p s entries) k ≡ Some (operation l (or_nothing en.0) (is_dead later (p + k) (target_of l))
     (is_first (p + k) table))
@@ -88,19 +88,6 @@ only_measures (Substr line target operand start n) e dead paired t o named first
 only_measures (Put line operand) e dead paired t o named first = let bad : ⊥ = cc in absurd bad
 only_measures l e dead paired t o named first = absurd o
 
--- the line at a place that assigns a name
-record LineAt (s : List Statement) (a : ℕ) (t : List ℕ) : Type 0 where
-  line : Statement
-  at : slice_get s a ≡ Some line
-  assigns_it : assigns line t ≡ true
-
-line_at : (s : List Statement) (a : ℕ) (t : List ℕ) → assigns_at (slice_get s a) t ≡ true → LineAt s a t
-line_at s a t e = pick (slice_get s a) refl e
-  where
-    pick : (o : Option Statement) → slice_get s a ≡ o → assigns_at o t ≡ true → LineAt s a t
-    pick None at h = let bad : ⊥ = cc in absurd bad
-    pick (Some l) at h = record { line = l; at = at; assigns_it = h }
-
 module _ (s : List Statement) (later : List ℕ → ℕ → Bool) where
   -- the earlier line of a pair assigns the name, and its expression is the one that was taken
   record Earlier (a : ℕ) (t : List ℕ) (r : Expr) : Type 0 where
@@ -151,20 +138,20 @@ module _ (s : List Statement) (later : List ℕ → ℕ → Bool) where
         let earlier : Earlier a t pair.earlier =
         each_entry s later EntryEarlier entry_earlier b (Some e, pair.choices) pair.is_expression pair.line t a pair.operand
         pair.earlier e pair.is_line refl pair.is_operand pair.is_replaced in
-        let line : LineAt s a t = line_at s a t earlier.assigned in
+        let line = line_there (slice_get s a) t earlier.assigned in
         let en : Option Expr × List Choice = earlier.entry.en in
-        let defining_is : HasDefining (defining line.line) = has_defining a en line.line pair.earlier earlier.entry.at line.at
+        let defining_is : HasDefining (defining line.0) = has_defining a en line.0 pair.earlier earlier.entry.at line.1
         earlier.entry.is in
         let first : is_first a (exprs s later) ≡ true =
         first_found a b (exprs s later) (Some e, pair.choices) pair.is_expression
         (some_found a pair.operand pair.earlier pair.choices pair.is_replaced) in
         let place : 0 + a ≡ a = omega arith in (
-          line_of line.line,
-          operation_at later (exprs s later) 0 s (exprs s later) a line.line en line.at earlier.entry.at
-              ∙ ap (λ (n : ℕ). Some (operation line.line (or_nothing en.0) (is_dead later n (target_of line.line))
+          line_of line.0,
+          operation_at later (exprs s later) 0 s (exprs s later) a line.0 en line.1 earlier.entry.at
+              ∙ ap (λ (n : ℕ). Some (operation line.0 (or_nothing en.0) (is_dead later n (target_of line.0))
               (is_first n (exprs s later)))) place
-              ∙ ap (λ (o : Option Expr). Some (operation line.line (or_nothing o) (is_dead later a (target_of line.line))
+              ∙ ap (λ (o : Option Expr). Some (operation line.0 (or_nothing o) (is_dead later a (target_of line.0))
               (is_first a (exprs s later)))) earlier.entry.is
-              ∙ ap (λ (o : Operation). Some o) (only_measures line.line pair.earlier (is_dead later a (target_of line.line))
-              (is_first a (exprs s later)) t defining_is line.assigns_it first),
+              ∙ ap (λ (o : Operation). Some o) (only_measures line.0 pair.earlier (is_dead later a (target_of line.0))
+              (is_first a (exprs s later)) t defining_is line.2 first),
         )

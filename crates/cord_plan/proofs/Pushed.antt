@@ -1,7 +1,7 @@
 -- Lists that a loop fills, one item after the other.
 use Rattle.std.proofs.Common.{◌≡◌, ◌⊎◌, ℕ, zero, suc, ◌+◌, ◌<◌, List, [], ◌∷◌, ◌++◌, map, take, length, get_or, Some, refl, sym, ap, ◌∙◌}
 use Rattle.std.proofs.Common.{inl, inr, arith, length-append}
-use Rattle.std.proofs.Math.Nat.{eq-or-lt_of_le}
+use borrow.Author.Count.{below_more}
 use Rattle.std.proofs.lemmas.List.{map-append, take_more}
 use Rattle.std.specs.Prelude.{slice_get}
 
@@ -17,38 +17,22 @@ made_more {A} {B} {C} f g xs old new made i x lt is so_far items same =
     ∙ sym (ap (λ (ys : List B). map g ys) (take_more xs i x lt ∙ ap (λ (y : B). take i xs ++ y ∷ []) (sym is))
     ∙ map-append g (take i xs) (x ∷ [])))))
 
--- the same where the other list is seen as a third one
-pub made_more_of : {A B C D : Type 0} (f : A → C) (g : B → C) (h : D → B) (xs : List D) (old new : List A) (made : A) (i : ℕ) (x : D) →
-    i < length xs → x ≡ get_or xs i x →
-    map f old ≡ map g (map h (take i xs)) → new ≡ old ++ made ∷ [] → f made ≡ g (h x) → map f new ≡ map g (map h (take (i + 1) xs))
-made_more_of {A} {B} {C} {D} f g h xs old new made i x lt is so_far items same =
-    ap (λ (ys : List A). map f ys) items
-    ∙ (map-append f old (made ∷ [])
-    ∙ (ap (λ (zs : List C). zs ++ f made ∷ []) so_far
-    ∙ (ap (λ (z : C). map g (map h (take i xs)) ++ z ∷ []) same
-    ∙ sym (ap (λ (ys : List D). map g (map h ys)) (take_more xs i x lt ∙ ap (λ (y : D). take i xs ++ y ∷ []) (sym is))
-    ∙ (ap (λ (ys : List B). map g ys) (map-append h (take i xs) (x ∷ [])) ∙ map-append g (map h (take i xs)) (h x ∷ []))))))
+-- an element before others, and the last one
+pub get_before : {A : Type 0} (xs ys : List A) (k : ℕ) (x : A) → slice_get xs k ≡ Some x → slice_get (xs ++ ys) k ≡ Some x
+get_before [] ys k x e = let bad : ⊥ = cc in absurd bad
+get_before (z ∷ xs) ys zero x e = e
+get_before (z ∷ xs) ys (suc k) x e = get_before xs ys k x e
 
-get_before : {A : Type 0} (xs : List A) (last x : A) (k : ℕ) → slice_get xs k ≡ Some x → slice_get (xs ++ last ∷ []) k ≡ Some x
-get_before [] last x k e = let bad : ⊥ = cc in absurd bad
-get_before (z ∷ xs) last x zero e = e
-get_before (z ∷ xs) last x (suc k) e = get_before xs last x k e
-
-get_last : {A : Type 0} (xs : List A) (last : A) → slice_get (xs ++ last ∷ []) (length xs) ≡ Some last
+pub get_last : {A : Type 0} (xs : List A) (last : A) → slice_get (xs ++ last ∷ []) (length xs) ≡ Some last
 get_last [] last = refl
 get_last (z ∷ xs) last = get_last xs last
 
 -- one item more, reported by its place
 pub reported_more : {A : Type 0} (f : ℕ → A) (old new : List A) (made : A) (n : ℕ) → new ≡ old ++ made ∷ [] → length old ≡ n → made ≡ f n →
     ((k : ℕ) → k < n → slice_get old k ≡ Some (f k)) → (k : ℕ) → k < n + 1 → slice_get new k ≡ Some (f k)
-reported_more {A} f old new made n items size is before k lt = ap (λ (xs : List A). slice_get xs k) items
-    ∙ by_place (eq-or-lt_of_le (omega arith))
-  where
-    by_place : (k ≡ n) ⊎ (k < n) → slice_get (old ++ made ∷ []) k ≡ Some (f k)
-    by_place (inl same) =
-        ap (λ (m : ℕ). slice_get (old ++ made ∷ []) m) (same ∙ sym size)
-        ∙ (get_last old made ∙ (ap (λ (a : A). Some a) is ∙ ap (λ (m : ℕ). Some (f m)) (sym same)))
-    by_place (inr less) = get_before old made (f k) k (before k less)
+reported_more {A} f old new made n items size is before =
+    rw items (below_more (λ k. slice_get (old ++ made ∷ []) k ≡ Some (f k)) n (λ k lt. get_before old (made ∷ []) k (f k) (before k lt))
+    (ap (λ (m : ℕ). slice_get (old ++ made ∷ []) m) (sym size) ∙ (get_last old made ∙ ap (λ (a : A). Some a) is)))
 
 -- and how many there are then
 pub size_more : {A : Type 0} (old new : List A) (made : A) (n : ℕ) → new ≡ old ++ made ∷ [] → length old ≡ n → length new ≡ n + 1

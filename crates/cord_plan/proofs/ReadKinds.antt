@@ -18,9 +18,10 @@ use Rattle.cord_script.specs.Forms.Term.{Operand}
 use Rattle.cord_script.specs.Script.{Scope, kind_of, with_name, names_after, after_all, AreAllowed, ReadsBy, start}
 use Rattle.cord_plan.specs.Operands.{has, read_by, cord_arguments, assigns, reads_at}
 use Rattle.cord_plan.specs.Conditions.{makes_cord, assigns_other_at, HasKinds}
+use Rattle.cord_plan.specs.Pairs.{numbers_named, numbers_named_at, IsNoNumber}
 use Rattle.cord_plan.proofs.Flows.{or_true}
-use Rattle.cord_plan.proofs.Named.{no_true}
-use Rattle.cord_plan.proofs.ReadNames.{HasScope, line_scope}
+use Rattle.cord_plan.proofs.Named.{has_at, no_true}
+use Rattle.cord_plan.proofs.ReadNames.{HasScope, line_scope, numbers_known}
 
 -- a name that stands after others, and not among them, has its kind
 kind_last : (names : List Known) (x : List ℕ) (k : Kind) → kind_of names x ≡ None → kind_of (names ++ record { name = x; kind = k } ∷ []) x
@@ -134,3 +135,25 @@ read_kinds g b s read p q x assigned = no_true (reads_at (slice_get s q) x)
             IsOther last x
         on names kept (inl h) = inl (kept x kinds.Number h)
         on names kept (inr h) = inr (kept x kinds.Extensible h)
+
+-- a cord that a line reads is no number
+pub no_number : (g : Grammar) (b : List ℕ) (s : List Statement) (p k : ℕ) (l : Statement) (t : List ℕ) → ReadsBy g b s →
+    slice_get s p ≡ Some l → slice_get (read_by l) k ≡ Some t → IsNoNumber s t
+no_number g b s p k l t read at operand = λ q. at_line (slice_get s q) q refl
+  where
+    last : List Known
+    last = (after_all s start).names
+
+    cord : kind_of last t ≡ Some kinds.Cord
+    cord =
+        let said : HasScope l last = line_scope g read.lines 1 start s p l read.say at in
+        said.stays.kept t kinds.Cord (read_known said.scope t l said.allowed (has_at (read_by l) k t operand))
+
+    at_line : (o : Option Statement) (q : ℕ) → slice_get s q ≡ o → has (numbers_named_at o) t ≡ false
+    at_line None q here = refl
+    at_line (Some m) q here = no_true (has (numbers_named m) t) (λ named. (
+        let said : HasScope m last = line_scope g read.lines 1 start s q m read.say here in
+        let number : kind_of last t ≡ Some kinds.Number =
+        said.stays.kept t kinds.Number (numbers_known m said.scope t said.allowed named) in
+        let bad : Some kinds.Cord ≡ Some kinds.Number = sym cord ∙ number in
+        cc))

@@ -48,13 +48,7 @@ terms_stay (Target j x ∷ ts) names = record {
   kept = λ y k e. (terms_stay ts (with_name names x j)).kept y k
       ((name_stays names x j).kept y k e);
 }
-terms_stay (Operand j x ∷ ts) names = terms_stay ts names
-terms_stay (Value n ∷ ts) names = terms_stay ts names
-terms_stay (Literal t ∷ ts) names = terms_stay ts names
-terms_stay (FilePath t ∷ ts) names = terms_stay ts names
-terms_stay (Applies f ∷ ts) names = terms_stay ts names
-terms_stay (Compares r ∷ ts) names = terms_stay ts names
-terms_stay (Formats t ∷ ts) names = terms_stay ts names
+terms_stay (t ∷ ts) names = terms_stay ts names
 
 lines_stay : (ss : List Statement) (scope : Scope) → Stays scope.names (after_all ss scope).names
 lines_stay [] scope = record { kept = λ y k e. e }
@@ -112,7 +106,7 @@ two_known scope n m y h k e = pick (has_append (number_names n) (number_names m)
     pick (inl f) = number_known scope n y h f
     pick (inr f) = number_known scope m y k f
 
-numbers_known : (l : Statement) (scope : Scope) (y : List ℕ) → AreAllowed scope (terms_of l) → has (numbers_named l) y ≡ true →
+pub numbers_known : (l : Statement) (scope : Scope) (y : List ℕ) → AreAllowed scope (terms_of l) → has (numbers_named l) y ≡ true →
     kind_of scope.names y ≡ Some kinds.Number
 numbers_known (Chars line target byte n) scope y h e = two_known scope byte n y h.1.0 h.1.1.0 e
 numbers_known (Nul line target n) scope y h e = number_known scope n y h.1.0 e
@@ -120,49 +114,6 @@ numbers_known (Catc line target operand byte) scope y h e = number_known scope b
 numbers_known (Substr line target operand start n) scope y h e = two_known scope start n y h.1.1.0 h.1.1.1.0 e
 numbers_known l scope y h e = let bad : ⊥ = cc in absurd bad
 
--- the cords that a line with an expression reads are names of cords
-operands_known : (scope : Scope) (xs : List (List ℕ)) (k : ℕ) (y : List ℕ) → AreAllowed scope (map (Operand kinds.Cord) xs) →
-    slice_get xs k ≡ Some y → kind_of scope.names y ≡ Some kinds.Cord
-operands_known scope [] k y h e = let bad : ⊥ = cc in absurd bad
-operands_known scope (x ∷ xs) zero y h e =
-    let same : x ≡ y = cc in
-    subst (λ (z : List ℕ). kind_of scope.names z ≡ Some kinds.Cord) same h.0
-operands_known scope (x ∷ xs) (suc k) y h e = operands_known scope xs k y h.1 e
-
 abbrev pub HasDefining : Option Expr → Type 0
 HasDefining None = ⊥
 HasDefining (Some e) = Unit {0}
-
-reads_known : (l : Statement) (scope : Scope) (k : ℕ) (y : List ℕ) → HasDefining (defining l) → AreAllowed scope (terms_of l) →
-    slice_get (read_by l) k ≡ Some y → kind_of scope.names y ≡ Some kinds.Cord
-reads_known (Cat line target left right) scope k y o h e = operands_known scope (left ∷ right ∷ []) k y (h.1.0, (h.1.1.0, tt)) e
-reads_known (Catn line target many) scope k y o h e = operands_known scope many k y h.1 e
-reads_known (Catc line target operand byte) scope k y o h e = operands_known scope (operand ∷ []) k y (h.1.0, tt) e
-reads_known (Substr line target operand start n) scope k y o h e = operands_known scope (operand ∷ []) k y (h.1.0, tt) e
-reads_known (Put line operand) scope k y o h e = operands_known scope (operand ∷ []) k y (h.0, tt) e
-reads_known (Chars line target byte n) scope k y o h e = let bad : ⊥ = cc in absurd bad
-reads_known (Nul line target n) scope k y o h e = let bad : ⊥ = cc in absurd bad
-reads_known l scope k y o h e = absurd o
-
--- a cord that a line with an expression reads is no number
-pub no_number : (g : Grammar) (b : List ℕ) (s : List Statement) (p k : ℕ) (l : Statement) (e : Expr) (t : List ℕ) → ReadsBy g b s →
-    slice_get s p ≡ Some l → defining l ≡ Some e → slice_get (read_by l) k ≡ Some t → IsNoNumber s t
-no_number g b s p k l e t read at is operand = λ q. at_line (slice_get s q) q refl
-  where
-    last : List Known
-    last = (after_all s start).names
-
-    cord : kind_of last t ≡ Some kinds.Cord
-    cord =
-        let said : HasScope l last = line_scope g read.lines 1 start s p l read.say at in
-        said.stays.kept t kinds.Cord (reads_known l said.scope k t (subst (λ (o : Option Expr). HasDefining o) (sym is) tt) said.allowed
-        operand)
-
-    at_line : (o : Option Statement) (q : ℕ) → slice_get s q ≡ o → has (numbers_named_at o) t ≡ false
-    at_line None q here = refl
-    at_line (Some m) q here = no_true (has (numbers_named m) t) (λ named. (
-        let said : HasScope m last = line_scope g read.lines 1 start s q m read.say here in
-        let number : kind_of last t ≡ Some kinds.Number =
-        said.stays.kept t kinds.Number (numbers_known m said.scope t said.allowed named) in
-        let bad : Some kinds.Cord ≡ Some kinds.Number = sym cord ∙ number in
-        cc))

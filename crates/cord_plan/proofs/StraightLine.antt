@@ -10,7 +10,8 @@ use Rattle.std.proofs.Math.Bool.{and-false, and-true, or-false}
 use Rattle.std.proofs.Math.Nat.{eq-or-lt_of_le}
 use Rattle.std.proofs.lemmas.Bool.Decides.{eqb_tells}
 use Rattle.std.proofs.lemmas.Nat.Bits.{bit_at-zero, bit_at_set_same, bit_at_set_other}
-use Rattle.std.proofs.lemmas.List.{length-replicate}
+use Rattle.std.proofs.lemmas.List.{drop_more, length-replicate}
+use Rattle.std.proofs.lemmas.Option.{get_or_from_slice_get, slice_get_within}
 use Rattle.cord_syntax.specs.declared.statements.Statement.{Statement}
 use Rattle.cord_plan.specs.Operands.{assigns, read_by, reads, target_of}
 use Rattle.cord_plan.specs.inner.StraightLine.{AreNextReads, AreBits, AreReportedFrom, IsLineLater, flow, later_in}
@@ -123,11 +124,5 @@ reported_more s p q lines line l next within there reported before k m le e = by
         (found.0, set_apart lines p k line (λ same. omega (arith, less, same)) ∙ found.1, found.2)
 
 pub from_place : (s : List Statement) (p q : ℕ) (l : Statement) → q ≡ p + 1 → slice_get s p ≡ Some l → l ∷ drop q s ≡ drop p s
-from_place s p q l next there =
-    let on : q ≡ suc p = omega (arith, next) in
-    ap (λ (n : ℕ). l ∷ drop n s) on ∙ at_place s p there
-  where
-    at_place : (s : List Statement) (p : ℕ) → slice_get s p ≡ Some l → l ∷ drop (suc p) s ≡ drop p s
-    at_place [] p e = let bad : ⊥ = cc in absurd bad
-    at_place (m ∷ s) zero e = let same : m ≡ l = cc in ap (λ (k : Statement). k ∷ s) (sym same)
-    at_place (m ∷ s) (suc p) e = at_place s p e
+from_place s p q l next there = rw next (sym (drop_more s p l (slice_get_within s p l there)
+    ∙ ap (λ (m : Statement). m ∷ drop (p + 1) s) (get_or_from_slice_get s p l l there)))

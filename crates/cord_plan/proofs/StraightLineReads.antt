@@ -17,10 +17,7 @@ use Rattle.cord_plan.specs.inner.Liveness.{NoBlocks}
 -- only a simple statement belongs to no block
 simple_alone : (x : Shape) → is_block x ≡ false → x ≡ Straight
 simple_alone Straight e = refl
-simple_alone Loop e = let bad : ⊥ = cc in absurd bad
-simple_alone Branch e = let bad : ⊥ = cc in absurd bad
-simple_alone Otherwise e = let bad : ⊥ = cc in absurd bad
-simple_alone Close e = let bad : ⊥ = cc in absurd bad
+simple_alone x e = let bad : ⊥ = cc in absurd bad
 
 -- how a line reads a name before it is assigned
 flow_parts : (a b c : Bool) → flow a b c ≡ true → (a ≡ true) ⊎ ((b ≡ true) × (c ≡ false))

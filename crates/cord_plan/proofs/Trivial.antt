@@ -103,24 +103,7 @@ module _ (limit : ℕ) (files : FileSystem) (p : ℕ) (s : State) where
   trivial_agrees (Len line target operand) = len_agrees limit files (Same p) s (full s) line target operand refl refl
       (λ u puts is e. full_others s u e) refl
   trivial_agrees (Put line operand) = put_agrees limit files (Same p) s (full s) line operand (name operand) refl refl refl
-  trivial_agrees (Fetch line target operand index) = keeps_on (Fetch line target operand index) tt
-  trivial_agrees (Cmp line target left right) = keeps_on (Cmp line target left right) tt
-  trivial_agrees (Ncmp line target left left_start right right_start count) =
-      keeps_on (Ncmp line target left left_start right right_start count) tt
-  trivial_agrees (Str line target operand start pattern) = keeps_on (Str line target operand start pattern) tt
-  trivial_agrees (Chr line target operand start byte) = keeps_on (Chr line target operand start byte) tt
-  trivial_agrees (Rchr line target operand start byte) = keeps_on (Rchr line target operand start byte) tt
-  trivial_agrees (Assign line target value) = keeps_on (Assign line target value) tt
-  trivial_agrees (Add line target left right) = keeps_on (Add line target left right) tt
-  trivial_agrees (Sub line target left right) = keeps_on (Sub line target left right) tt
-  trivial_agrees (EcInit line target) = keeps_on (EcInit line target) tt
-  trivial_agrees (EcPut line extensible byte) = keeps_on (EcPut line extensible byte) tt
-  trivial_agrees (EcCat line extensible operand) = keeps_on (EcCat line extensible operand) tt
-  trivial_agrees (EcStr line extensible text) = keeps_on (EcStr line extensible text) tt
-  trivial_agrees (Repeat line count) = keeps_on (Repeat line count) tt
-  trivial_agrees (If line left relation right) = keeps_on (If line left relation right) tt
-  trivial_agrees (Else line) = keeps_on (Else line) tt
-  trivial_agrees (End line) = keeps_on (End line) tt
+  trivial_agrees l = keeps_on l tt
 
 -- the operation of the trivial plan at a place
 trivial_at : (s : List Statement) (p : ℕ) (l : Statement) (o : Operation) → slice_get s p ≡ Some l → slice_get (trivial s) p ≡ Some o →

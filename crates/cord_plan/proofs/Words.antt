@@ -87,14 +87,3 @@ room_less words p new lt less within = less_room (room (set words p new)) (room 
   where
     less_room : (a b old : ℕ) → a + (2 ^ 128 - old) ≡ b + (2 ^ 128 - new) → old < new → a < b
     less_room a b old e more = omega arith
-
--- columns of lists with one more
-pub reported_more : (f : Statement → Bool) (s : List Statement) (k : ℕ) (l : Statement) (words : List ℕ) (w i : ℕ) → k < length s →
-    l ≡ get_or s k l → column words i ≡ map f (take k s) → bit w i ≡ f l → column (words ++ w ∷ []) i ≡ map f (take (k + 1) s)
-reported_more f s k l words w i lt is before here =
-    let prefix : take (k + 1) s ≡ take k s ++ l ∷ [] = take_more s k l lt ∙ ap (λ (z : Statement). take k s ++ z ∷ []) (sym is) in
-    map-append (λ v. bit v i) words (w ∷ [])
-    ∙ rw (before, here) (sym (ap (λ (ls : List Statement). map f ls) prefix ∙ map-append f (take k s) (l ∷ [])))
-
-pub size_more : (words : List ℕ) (w k : ℕ) → length words ≡ k → length (words ++ w ∷ []) ≡ k + 1
-size_more words w k is = length-append words (w ∷ []) ∙ ap (λ (n : ℕ). n + 1) is

@@ -147,10 +147,6 @@ pub record IsFound (s : List Statement) (t : Numbering) (found : Found) : Type 0
   pub later : IsLater s (found_reports s t found)
   pub reported : (p : ℕ) (l : Statement) → slice_get s p ≡ Some l → IsReportedBy s found l p
 
--- each of the first k groups is live
-abbrev pub LiveTo : List Statement → Numbering → ℕ → List Group → Type 0
-LiveTo s t k groups = (g : ℕ) → g < k → (group : Group) × (slice_get groups g ≡ Some group) × AreLive s t g group.words.items
-
 -- the group of each name is live
 abbrev pub AllLive : List Statement → Numbering → List Group → Type 0
 AllLive s t groups = (n : ℕ) → n < length (names_of t) → (group : Group) × (slice_get groups (n / 128) ≡ Some group) ×

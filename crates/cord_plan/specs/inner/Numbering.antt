@@ -1,8 +1,7 @@
 -- Names with numbers: their places in the list of all names.
-use Rattle.std.specs.Prelude.{◌≡◌, ℕ, ◌<◌, true, List, length, Option, slice_get}
+use Rattle.std.specs.Prelude.{ℕ, List, Option}
 use Rattle.cord_syntax.specs.declared.statements.Statement.{Statement}
-use Rattle.cord_plan.specs.Operands.{has, reads_at}
-use Rattle.cord_plan.specs.inner.Places.{AreLines, HasNumbers, IsLineIn, IsNumber, place_in, place_of}
+use Rattle.cord_plan.specs.inner.Places.{AreLines, HasNumbers, IsNumber, place_in, place_of}
 use Rattle.cord_plan.specs.declared.flow.numbering.LineNumbers.{LineNumbers}
 use Rattle.cord_plan.specs.declared.flow.numbering.Numbering.{Numbering}
 
@@ -19,16 +18,9 @@ number_in t o = place_in (names_of t) o
 abbrev pub IsNumberIn : Numbering → Option (List ℕ) → Option ℕ → Type 0
 IsNumberIn t o number = IsNumber (names_of t) o number
 
--- these are the numbers of the names of a line; they are kept for the line at a place, and for each line of a script
+-- these are the numbers of the names of a line; they are kept for each line of a script
 abbrev pub IsNumbered : Numbering → Statement → LineNumbers → Type 0
 IsNumbered t l numbers = HasNumbers (names_of t) l numbers
 
-abbrev pub IsLineAt : Numbering → Statement → ℕ → Type 0
-IsLineAt t l p = IsLineIn (names_of t) t.read.items t.lines.items l p
-
 abbrev pub IsNumbering : List Statement → Numbering → Type 0
 IsNumbering s t = AreLines s (names_of t) t.read.items t.lines.items
-
--- the names that the lines read have numbers
-abbrev pub CoversNames : List Statement → Numbering → Type 0
-CoversNames s t = (p : ℕ) → p < length s → (x : List ℕ) → reads_at (slice_get s p) x ≡ true → has (names_of t) x ≡ true

@@ -3,13 +3,12 @@ ghost use Rattle.std.specs.Prelude.{◌≡◌, [], ◌∷◌, false, All, IfOk, 
 ghost use Rattle.std.specs.List.{IsDistinct};
 ghost use Rattle.std.specs.Str.{bytes_eq};
 ghost use Rattle.std.proofs.Props.{props};
-ghost use Rattle.cord_syntax.specs.Readings.{read_names};
 ghost use Rattle.cord_syntax.specs.declared.statements.Statement.{Statement};
-ghost use Rattle.cord_plan.specs.Operands.{cord_arguments};
+ghost use Rattle.cord_plan.specs.Operands.{read_by};
 ghost use Rattle.cord_plan.specs.inner.Places.{AddsPlaces, AddsLine, AreLines, HasNumbers, IsLineIn, TakesNumber, place_of};
 
-use cord_script::{Argument, Name, Statement};
-use cord_syntax::{Operands, Reading};
+use crate::flow::readings::first_read;
+use cord_script::{Name, Statement};
 use std::alloc::{AllocError, Global};
 
 /// The names of a script, each with a number: its place in the list; and the numbers of the names of each line.
@@ -77,64 +76,21 @@ fn add(names: &mut Vec<Name>, read: &mut Vec<usize>, name: &Name) -> Result<(), 
     Ok(())
 }
 
-// Notes the numbers of two names.
-fn add_two(
-    names: &mut Vec<Name>,
-    read: &mut Vec<usize>,
-    left: &Name,
-    right: &Name,
-) -> Result<(), AllocError>
-    ensures { OnOk result (AddsPlaces (left.now ∷ right.now ∷ []) names.old.items names.new.items
-        read.old.items read.new.items) }
-{
-    add(names, read, left)?;
-    add(names, read, right)
-}
-
-// Notes the numbers of these names.
-fn add_all(names: &mut Vec<Name>, read: &mut Vec<usize>, others: &[Name]) -> Result<(), AllocError>
-    ensures { OnOk result (AddsPlaces others.now names.old.items names.new.items read.old.items read.new.items) }
-{
-    for name in others {
-        add(names, read, name)?;
-    }
-    Ok(())
-}
-
-// Notes the numbers of the cords among the arguments of a format.
-fn add_arguments(
-    names: &mut Vec<Name>,
-    read: &mut Vec<usize>,
-    arguments: &[Argument],
-) -> Result<(), AllocError>
-    ensures { OnOk result (AddsPlaces (cord_arguments arguments.now) names.old.items names.new.items
-        read.old.items read.new.items) }
-{
-    for argument in arguments {
-        match argument {
-            Argument::Number(_) => {}
-            Argument::Cord(name) => add(names, read, name)?,
-        }
-    }
-    Ok(())
-}
-
 // Notes the numbers of the names that a line reads.
-fn add_reading(
+fn add_read(
     names: &mut Vec<Name>,
     read: &mut Vec<usize>,
-    reading: Reading,
+    statement: &Statement,
 ) -> Result<(), AllocError>
-    ensures { OnOk result (AddsPlaces (read_names reading.entry) names.old.items names.new.items
+    ensures { OnOk result (AddsPlaces (read_by statement.now) names.old.items names.new.items
         read.old.items read.new.items) }
 {
-    match reading {
-        Reading::Operands(Operands::Nothing) => Ok(()),
-        Reading::Operands(Operands::One(operand)) => add(names, read, operand),
-        Reading::Operands(Operands::Two(left, right)) => add_two(names, read, left, right),
-        Reading::Operands(Operands::Listed(operands)) => add_all(names, read, operands),
-        Reading::Printed(arguments) => add_arguments(names, read, arguments),
+    let mut left = statement.reading();
+    'others: while let Some((name, rest)) = first_read(left) {
+        add(names, read, name)?;
+        left = rest;
     }
+    Ok(())
 }
 
 // Notes the numbers of the names that a line reads, and answers them with that of the name that it assigns.
@@ -146,7 +102,7 @@ fn add_line(
     ensures { IfOk result (AddsLine statement.now names.old.items names.new.items read.old.items read.new.items) }
 {
     let start = read.len();
-    add_reading(names, read, statement.reading())?;
+    add_read(names, read, statement)?;
     let end = read.len();
     match statement.target() {
         None => Ok(NumberedLine {

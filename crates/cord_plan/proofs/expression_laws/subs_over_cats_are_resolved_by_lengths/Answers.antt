@@ -2,11 +2,9 @@ use Rattle.std.proofs.Common.{refl}
 use Rattle.cord_plan.proofs.Resolved.{resolves}
 use Rattle.cord_plan.proofs.expression_laws.subs_over_cats_are_resolved_by_lengths.Goals as goal
 
-pub returns-clause-resolves : goal.returns-clause-resolves
-returns-clause-resolves c = λ limit s es lens text i n lengths h. resolves limit s es lens text i n lengths h
-
-pub returns-clause-seam : goal.returns-clause-seam
-returns-clause-seam c = refl
-
-pub returns-clause-untouched : goal.returns-clause-untouched
-returns-clause-untouched c = refl
+pub returns : goal.returns
+returns c = record {
+  resolves = λ limit s es lens text i n lengths h. resolves limit s es lens text i n lengths h;
+  seam = refl;
+  untouched = refl;
+}

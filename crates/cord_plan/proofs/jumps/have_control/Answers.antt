@@ -1,6 +1,6 @@
+use borrow.Author.Count.{below_more}
 use Rattle.std.proofs.Common.{◌≡◌, ◌≤◌, ℕ, Some, false, inl, inr, length, map, refl, sym, ap, ◌∙◌, subst, arith}
 use Rattle.std.specs.Prelude.{option_map, slice_get}
-use Rattle.std.proofs.Math.Nat.{eq-or-lt_of_le}
 use Rattle.std.proofs.lemmas.Bool.Decides.{leb_tells}
 use Rattle.std.proofs.lemmas.Option.{slice_get-map, slice_get_past, slice_get_read}
 use Rattle.cord_plan.specs.Meaning.{operation_shape}
@@ -20,10 +20,7 @@ loop-operation-preserved c =
     ∙ ap (option_map operation_shape) (slice_get-map operation_view os n ∙ ap (option_map operation_view) there) in
     let here : is_block_shape (slice_get shapes n) ≡ false =
     ap is_block_shape seen ∙ (sym c.is_control.ensures ∙ c.if-is_control.false) in
-    λ p lt. elim (eq-or-lt_of_le (let le : p ≤ n = omega (arith, lt) in le)) [
-      | inl same ↦ subst (λ (k : ℕ). is_block_shape (slice_get shapes k) ≡ false) (sym same) here
-      | inr less ↦ c.loop-operation.invariant p less
-    ]
+    below_more (λ p. is_block_shape (slice_get shapes p) ≡ false) n c.loop-operation.invariant here
 
 pub returns : goal.returns
 returns c =

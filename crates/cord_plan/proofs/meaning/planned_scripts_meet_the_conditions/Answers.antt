@@ -4,11 +4,9 @@ use Rattle.cord_plan.proofs.Planning.{decisions, meets, planned_decided}
 use Rattle.cord_plan.proofs.ReadKinds.{read_kinds}
 use Rattle.cord_plan.proofs.meaning.planned_scripts_meet_the_conditions.Goals as goal
 
-pub returns-clause-meets : goal.returns-clause-meets
-returns-clause-meets c = λ s later reported kinds. (decisions s later, meets s later reported kinds, planned_decided s later)
-
-pub returns-clause-trivial : goal.returns-clause-trivial
-returns-clause-trivial c = λ s kinds. (plain_decisions s, trivial_meets s kinds, trivial_decided s, λ p x. (refl, refl, refl))
-
-pub returns-clause-kinds : goal.returns-clause-kinds
-returns-clause-kinds c = λ g text s read. read_kinds g text s read
+pub returns : goal.returns
+returns c = record {
+  meets = λ s later reported kinds. (decisions s later, meets s later reported kinds, planned_decided s later);
+  trivial = λ s kinds. (plain_decisions s, trivial_meets s kinds, trivial_decided s, λ p x. (refl, refl, refl));
+  kinds = λ g text s read. read_kinds g text s read;
+}

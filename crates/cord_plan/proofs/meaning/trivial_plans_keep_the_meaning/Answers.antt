@@ -13,14 +13,12 @@ is_some : (p : ℕ) (s : State) (t : Option Holding) → Same p s t → IsSome t
 is_some p s None same = absurd same
 is_some p s (Some h) same = refl
 
-pub returns-clause-never_stuck : goal.returns-clause-never_stuck
-returns-clause-never_stuck c = λ limit most s files nested. each_related (rules limit files) (plan_rules limit files) most s
-    (trivial s) Same (trivial_simulates limit files s) (λ t. IsSome t) is_some nested start_state (Some start_holding) refl
-
-pub returns-clause-members : goal.returns-clause-members
-returns-clause-members c = λ limit most s files nested. reported_same (rules limit files) (plan_rules limit files) most s (trivial s) Same
-    (trivial_simulates limit files s) nested start_state (Some start_holding) refl
-
-pub returns-clause-end : goal.returns-clause-end
-returns-clause-end c = λ limit most s files nested. end_same (rules limit files) (plan_rules limit files) most s (trivial s) Same
-    (trivial_simulates limit files s) nested start_state (Some start_holding) refl
+pub returns : goal.returns
+returns c = record {
+  never_stuck = λ limit most s files nested. each_related (rules limit files) (plan_rules limit files) most s
+      (trivial s) Same (trivial_simulates limit files s) (λ t. IsSome t) is_some nested start_state (Some start_holding) refl;
+  members = λ limit most s files nested. reported_same (rules limit files) (plan_rules limit files) most s (trivial s) Same
+      (trivial_simulates limit files s) nested start_state (Some start_holding) refl;
+  end = λ limit most s files nested. end_same (rules limit files) (plan_rules limit files) most s (trivial s) Same
+      (trivial_simulates limit files s) nested start_state (Some start_holding) refl;
+}

@@ -1,13 +1,14 @@
 use Rattle.std.proofs.Common.{◌/◌, arith}
 use Rattle.cord_plan.specs.declared.flow.liveness.Group.{Group}
-use Rattle.cord_plan.proofs.LivenessTables.{live_more, groups_more}
+use Rattle.cord_plan.proofs.LivenessTables.{live_more}
+use Rattle.cord_plan.proofs.Pushed.{size_more}
 use Rattle.cord_plan.proofs.flow.liveness.groups_of.Goals as goal
 
 pub loop-group-preserved : goal.loop-group-preserved
 loop-group-preserved c =
     let group : Group = record { words = c.in_ok-words.words } in
     record {
-      size = rw c.in_ok-push.ensures.items (groups_more c.loop-group.groups.items group c.loop-group.group c.loop-group.invariant.size);
+      size = size_more c.loop-group.groups.items c.push.new.self.items group c.loop-group.group c.in_ok-push.ensures.items c.loop-group.invariant.size;
       live = rw c.in_ok-push.ensures.items (live_more c.args.statements.now c.args.numbering.now c.loop-group.group
           c.loop-group.groups.items group c.loop-group.invariant.size c.loop-group.invariant.live c.in_ok-words.ensures);
     }

@@ -1,5 +1,5 @@
 use Rattle.std.proofs.Common.{◌≡◌, length}
-use Rattle.cord_plan.specs.inner.Liveness.{LiveTo}
+use Rattle.cord_plan.proofs.LivenessTables.{LiveTo}
 use Rattle.cord_plan.proofs.flow.liveness.groups_of.Given as goal
 
 abbrev pub invariant-loop-group : goal.invariant-loop-group

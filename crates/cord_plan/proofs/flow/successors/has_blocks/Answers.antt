@@ -1,6 +1,6 @@
+use borrow.Author.Count.{below_more}
 use Rattle.std.proofs.Common.{◌≡◌, ◌≤◌, ℕ, Some, false, inl, inr, length, refl, sym, ap, ◌∙◌, subst, arith}
 use Rattle.std.specs.Prelude.{slice_get}
-use Rattle.std.proofs.Math.Nat.{eq-or-lt_of_le}
 use Rattle.std.proofs.lemmas.Bool.Decides.{leb_tells}
 use Rattle.std.proofs.lemmas.Option.{slice_get_past, slice_get_read}
 use Rattle.cord_plan.specs.Inlined.{is_block_at}
@@ -13,10 +13,7 @@ loop-statement-preserved c =
     let l = c.statement-item.result in
     let there : slice_get s n ≡ Some l = slice_get_read s (length s) n l refl c.loop-statement-test.true c.statement-item.is in
     let here : is_block_at (slice_get s n) ≡ false = ap is_block_at there ∙ (sym c.is_block.ensures ∙ c.if-is_block.false) in
-    λ p lt. elim (eq-or-lt_of_le (let le : p ≤ n = omega (arith, lt) in le)) [
-      | inl same ↦ subst (λ (k : ℕ). is_block_at (slice_get s k) ≡ false) (sym same) here
-      | inr less ↦ c.loop-statement.invariant p less
-    ]
+    below_more (λ p. is_block_at (slice_get s p) ≡ false) n c.loop-statement.invariant here
 
 pub returns : goal.returns
 returns c =

@@ -4,12 +4,12 @@ use Rattle.cord_syntax.specs.declared.statements.Statement.{Statement}
 use Rattle.cord_plan.specs.Exprs.{Expr, names}
 use Rattle.cord_plan.specs.Inlined.{each_from, preserves}
 use Rattle.cord_plan.specs.Operands.{target_of}
-use Rattle.cord_plan.specs.inner.Numbering.{IsLineAt, IsNumbered, IsNumberIn}
+use Rattle.cord_plan.specs.inner.Numbering.{IsNumbered, IsNumberIn}
 use Rattle.cord_plan.specs.inner.Recent.{IsRecent, stay}
 use Rattle.cord_plan.specs.declared.flow.numbering.LineNumbers.{LineNumbers}
 use Rattle.cord_plan.specs.declared.planner.operand_choices.Line.{Line}
 use Rattle.cord_plan.proofs.Nearest.{keep_here}
-use Rattle.cord_plan.proofs.Numbers.{line_there}
+use Rattle.cord_plan.proofs.Numbers.{IsLineAt, line_there}
 use Rattle.cord_plan.proofs.planner.unchanged.stays_near.Goals as goal
 
 -- the line at a place before a line, and what it preserves

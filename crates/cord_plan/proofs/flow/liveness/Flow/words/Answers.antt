@@ -4,10 +4,10 @@ use Rattle.std.proofs.lemmas.Option.{get_or_from_slice_get}
 use Rattle.cord_syntax.specs.declared.statements.Statement.{Statement}
 use Rattle.cord_plan.specs.Operands.{assigns, read_by, reads, target_of}
 use Rattle.cord_plan.specs.inner.Liveness.{at}
-use Rattle.cord_plan.specs.inner.NameSets.{column}
+use Rattle.cord_plan.specs.inner.NameSets.{bit, column}
 use Rattle.cord_plan.specs.inner.Numbering.{IsNumbered}
 use Rattle.cord_plan.proofs.Numbers.{line_there, number_reported}
-use Rattle.cord_plan.proofs.Words.{reported_more, size_more}
+use Rattle.cord_plan.proofs.Pushed.{made_more, size_more}
 use Rattle.cord_plan.proofs.Sweeps.{assigned_at, readers_partly}
 use Rattle.cord_plan.proofs.flow.liveness.Flow.words.Goals as goal
 
@@ -21,10 +21,10 @@ loop-place-preserved c =
     let is : l ≡ get_or s k l = sym (get_or_from_slice_get s k l l there.1) in
     let numbered : IsNumbered t l c.line-numbers.result = c.line-numbers.ensures l there.2 in
     record {
-      readers = rw c.push_reserved.ensures.items (size_more c.loop-place.read.items c.mark_all.result k
-          c.loop-place.invariant.readers);
-      setters = rw c.push_reserved-in-loop-place.ensures.items (size_more c.loop-place.assigned.items c.mark_target.result k
-          c.loop-place.invariant.setters);
+      readers = size_more c.loop-place.read.items c.push_reserved.new.self.items c.mark_all.result k c.push_reserved.ensures.items
+          c.loop-place.invariant.readers;
+      setters = size_more c.loop-place.assigned.items c.push_reserved-in-loop-place.new.self.items c.mark_target.result k
+          c.push_reserved-in-loop-place.ensures.items c.loop-place.invariant.setters;
       room_read = omega (
         arith,
         c.loop-place-test.true,
@@ -39,11 +39,13 @@ loop-place-preserved c =
         c.push_reserved-in-loop-place.ensures.len,
         c.push_reserved-in-loop-place.ensures.capacity,
       );
-      read = λ x i b. rw c.push_reserved.ensures.items (reported_more (λ m. reads m x) s k l c.loop-place.read.items c.mark_all.result i
-          c.loop-place-test.true is (c.loop-place.invariant.read x i b) (c.mark_all.ensures t (read_by l) numbered.read x i b));
-      assigned = λ x i b. rw c.push_reserved-in-loop-place.ensures.items (reported_more (λ m. assigns m x) s k l c.loop-place.assigned.items
-          c.mark_target.result i c.loop-place-test.true is (c.loop-place.invariant.assigned x i b)
-          (c.mark_target.ensures t (target_of l) (number_reported t (target_of l) _ numbered.target) x i b));
+      read = λ x i b. made_more (λ v. bit v i) (λ m. reads m x) s c.loop-place.read.items c.push_reserved.new.self.items c.mark_all.result
+          k l c.loop-place-test.true is (c.loop-place.invariant.read x i b) c.push_reserved.ensures.items
+          (c.mark_all.ensures t (read_by l) numbered.read x i b);
+      assigned = λ x i b. made_more (λ v. bit v i) (λ m. assigns m x) s c.loop-place.assigned.items
+          c.push_reserved-in-loop-place.new.self.items c.mark_target.result k l c.loop-place-test.true is
+          (c.loop-place.invariant.assigned x i b) c.push_reserved-in-loop-place.ensures.items
+          (c.mark_target.ensures t (target_of l) (number_reported t (target_of l) _ numbered.target) x i b);
     }
 
 pub returns-clause-read : goal.returns-clause-read
