@@ -1,8 +1,9 @@
 -- What is read later in a script without blocks.
-use Rattle.std.proofs.Common.{◌≡◌, ◌⊎◌, ℕ, zero, suc, ◌+◌, ◌<◌, Bool, true, false, List, [], ◌∷◌, map, drop, length, inl, inr}
+use Rattle.std.proofs.Common.{◌≡◌, ◌⊎◌, ℕ, zero, suc, ◌+◌, ◌<◌, Bool, true, false, List, [], ◌∷◌, map, drop, get_or, length, inl, inr}
 use Rattle.std.proofs.Common.{Option, Some, None, refl, sym, ap, ◌∙◌, arith}
 use Rattle.std.specs.Prelude.{slice_get}
 use Rattle.std.proofs.Math.Bool.{and-false, and-true}
+use Rattle.std.proofs.lemmas.List.{at_drop_more}
 use Rattle.std.proofs.lemmas.Option.{slice_get-map, slice_get_cases}
 use Rattle.cord_syntax.specs.declared.statements.Statement.{Statement}
 use Rattle.cord_meaning.specs.Blocks.{Shape, Straight, Loop, Branch, Otherwise, Close}
@@ -42,12 +43,10 @@ lines_from (l ∷ ls) zero x = refl
 lines_from (l ∷ ls) (suc p) x = lines_from ls p x
 
 -- where the line at a place reads a name, and where it doesn't but assigns it
-module _ (s : List Statement) (p : ℕ) (l : Statement) (x : List ℕ) (there : slice_get s p ≡ Some l) where
+module _ (s : List Statement) (p : ℕ) (l : Statement) (x : List ℕ) (within : p < length s) (is : l ≡ get_or s p l) where
   line_from : later_in (drop p s) x ≡ flow (reads l x) (later_in (drop (p + 1) s) x) (assigns l x)
-  line_from =
-      let on : suc p ≡ p + 1 = omega arith in
-      lines_from s p x ∙ ap (λ (n : ℕ). flow (reads_at (slice_get s p) x) (later_in (drop n s) x) (assigns_at (slice_get s p) x)) on
-      ∙ ap (λ (o : Option Statement). flow (reads_at o x) (later_in (drop (p + 1) s) x) (assigns_at o x)) there
+  line_from = at_drop_more (λ (ls : List Statement). later_in ls x) s p l within
+      ∙ ap (λ (m : Statement). later_in (m ∷ drop (p + 1) s) x) (sym is)
 
   pub read_here : reads l x ≡ true → later_in (drop p s) x ≡ true
   read_here r = line_from ∙ flow_read (reads l x) (later_in (drop (p + 1) s) x) (assigns l x) r

@@ -8,30 +8,19 @@ use Rattle.cord_plan.proofs.StraightLineReads.{assigned_here, passed_here, read_
 use Rattle.cord_plan.proofs.flow.liveness.is_read_in.Goals as goal
 
 pub returns-then-reads : goal.returns-then-reads
-returns-then-reads c =
-    let s = c.args.statements.now in
-    let p = c.loop-statement.statement-index in
-    let l = c.statement-item.result in
-    let there : slice_get s p ≡ Some l = slice_get_read s (length s) p l refl c.loop-statement-test.true c.statement-item.is in
-    sym (c.loop-statement.invariant ∙ read_here s p l c.args.name.now there (sym c.reads.ensures ∙ c.if-reads.true))
+returns-then-reads c = sym (c.loop-statement.invariant
+    ∙ read_here c.args.statements.now c.loop-statement.statement-index c.statement-item.result c.args.name.now c.loop-statement-test.true
+    c.statement-item.is (sym c.reads.ensures ∙ c.if-reads.true))
 
 pub returns-then-assigns : goal.returns-then-assigns
-returns-then-assigns c =
-    let s = c.args.statements.now in
-    let p = c.loop-statement.statement-index in
-    let l = c.statement-item.result in
-    let there : slice_get s p ≡ Some l = slice_get_read s (length s) p l refl c.loop-statement-test.true c.statement-item.is in
-    sym (c.loop-statement.invariant ∙ assigned_here s p l c.args.name.now there (sym c.reads.ensures ∙ c.if-reads.false)
-    (sym c.assigns.ensures ∙ c.if-assigns.true))
+returns-then-assigns c = sym (c.loop-statement.invariant
+    ∙ assigned_here c.args.statements.now c.loop-statement.statement-index c.statement-item.result c.args.name.now c.loop-statement-test.true
+    c.statement-item.is (sym c.reads.ensures ∙ c.if-reads.false) (sym c.assigns.ensures ∙ c.if-assigns.true))
 
 pub loop-statement-preserved : goal.loop-statement-preserved
-loop-statement-preserved c =
-    let s = c.args.statements.now in
-    let p = c.loop-statement.statement-index in
-    let l = c.statement-item.result in
-    let there : slice_get s p ≡ Some l = slice_get_read s (length s) p l refl c.loop-statement-test.true c.statement-item.is in
-    c.loop-statement.invariant ∙ passed_here s p l c.args.name.now there (sym c.reads.ensures ∙ c.if-reads.false)
-    (sym c.assigns.ensures ∙ c.if-assigns.false)
+loop-statement-preserved c = c.loop-statement.invariant
+    ∙ passed_here c.args.statements.now c.loop-statement.statement-index c.statement-item.result c.args.name.now c.loop-statement-test.true
+    c.statement-item.is (sym c.reads.ensures ∙ c.if-reads.false) (sym c.assigns.ensures ∙ c.if-assigns.false)
 
 pub returns : goal.returns
 returns c = sym (c.loop-statement.invariant

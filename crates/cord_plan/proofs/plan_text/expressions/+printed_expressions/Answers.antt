@@ -1,7 +1,10 @@
-use Rattle.std.proofs.Common.{rules, ◌≡◌, ◌<◌, ℕ, List, [], ◌∷◌, ◌++◌, map, sym, ap, subst, ◌∙◌, ◌+◌}
+use Rattle.std.proofs.Common.{Global, rules, ◌≡◌, ◌<◌, ℕ, List, [], ◌∷◌, ◌++◌, map, sym, ap, subst, ◌∙◌, ◌+◌}
 use Rattle.std.specs.Prelude.{codes}
 use Rattle.cord_operands.specs.declared.operands.Number.{Number}
 use Rattle.cord_plan.specs.declared.expressions.Expr.{Expr}
+use Rattle.cord_plan.specs.declared.expressions.Expr.TheVariants.{Run, Cat, Sub}
+use Rattle.cord_plan.specs.declared.expressions.Members.{Members}
+use Rattle.std.specs.declared.rc.Rc.{Rc}
 use Rattle.cord_plan.specs.Exprs as plain
 use Rattle.cord_plan.specs.inner.Fragments.{blank_after, exprs_after}
 use Rattle.cord_plan.specs.PlanText.{expr, exprs, number}
@@ -17,61 +20,61 @@ use Rattle.cord_plan.proofs.plan_text.expressions.+printed_expressions.Goals as 
 abbrev suffix : Number → Number → List ℕ
 suffix i n = 32 ∷ (number i ++ 32 ∷ (number n ++ 41 ∷ []))
 
-run_text : {v : plain.Expr} (byte count : Number) → v ≡ plain.run byte count →
-    codes "run(" ++ (number byte ++ 32 ∷ (number count ++ 41 ∷ [])) ≡ expr v
-run_text byte count is = sym (ap expr is ∙ ap (λ (t : List ℕ). codes "run(" ++ t) (two_words (number byte) (number count) (41 ∷ [])))
+run_text : (e : Expr) (byte count : Number) → e ≡ Run byte count →
+    codes "run(" ++ (number byte ++ 32 ∷ (number count ++ 41 ∷ [])) ≡ expr (expr_view e)
+run_text e byte count is = sym (ap (λ f. expr (expr_view f)) is ∙ ap expr (view-Run byte count)
+    ∙ ap (λ (t : List ℕ). codes "run(" ++ t) (two_words (number byte) (number count) (41 ∷ [])))
 
-cat_text : {v : plain.Expr} (es : plain.Exprs) → v ≡ plain.cat es → codes "cat(" ++ (exprs es ++ 41 ∷ []) ≡ expr v
-cat_text es is = sym (ap expr is)
+cat_text : (e : Expr) (ms : Members) → e ≡ Cat ms → codes "cat(" ++ (exprs (members_view ms) ++ 41 ∷ []) ≡ expr (expr_view e)
+cat_text e ms is = sym (ap (λ f. expr (expr_view f)) is ∙ ap expr (view-Cat ms))
 
-sub_text : {v : plain.Expr} (e : plain.Expr) (i n : Number) → v ≡ plain.sub e i n → codes "sub(" ++ (expr e ++ suffix i n) ≡ expr v
-sub_text e i n is = sym (ap expr is ∙ ap (λ (t : List ℕ). codes "sub(" ++ t) (three_words (expr e) (number i) (number n) (41 ∷ [])))
+sub_text : (e : Expr) (f : Rc Expr Global) (i n : Number) → e ≡ Sub f i n →
+    codes "sub(" ++ (expr (expr_view f.value) ++ suffix i n) ≡ expr (expr_view e)
+sub_text e f i n is = sym (ap (λ g. expr (expr_view g)) is ∙ ap expr (view-Sub f i n)
+    ∙ ap (λ (t : List ℕ). codes "sub(" ++ t) (three_words (expr (expr_view f.value)) (number i) (number n) (41 ∷ [])))
 
 pub put_expression-returns-in_err-put_text-in-Cat : goal.put_expression-returns-in_err-put_text-in-Cat
 put_expression-returns-in_err-put_text-in-Cat g t c =
     let es = members_view c.in-Cat.members in
-    writes_failed c.from_residual.ensures.0 (writes_same (cat_text es (ap expr_view c.in-Cat.is ∙ view-Cat c.in-Cat.members))
+    writes_failed c.from_residual.ensures.0 (writes_same (cat_text c.args.expression.now c.in-Cat.members c.in-Cat.is)
     (writes_stopped (exprs es ++ 41 ∷ []) c.in_err-put_text-in-Cat.ensures))
 
 pub put_expression-returns-in_err-put_members-in-Cat : goal.put_expression-returns-in_err-put_members-in-Cat
 put_expression-returns-in_err-put_members-in-Cat g t c =
     writes_failed c.from_residual-in_err-put_members-in-Cat.ensures.0
-    (writes_same (cat_text (members_view c.in-Cat.members) (ap expr_view c.in-Cat.is ∙ view-Cat c.in-Cat.members))
+    (writes_same (cat_text c.args.expression.now c.in-Cat.members c.in-Cat.is)
     (writes_then c.in_ok-put_text-in-Cat.ensures (writes_stopped (41 ∷ []) c.in_err-put_members-in-Cat.ensures)))
 
 pub put_expression-returns-in_ok-put_members-in-Cat : goal.put_expression-returns-in_ok-put_members-in-Cat
 put_expression-returns-in_ok-put_members-in-Cat g t c =
-    writes_same (cat_text (members_view c.in-Cat.members) (ap expr_view c.in-Cat.is ∙ view-Cat c.in-Cat.members))
+    writes_same (cat_text c.args.expression.now c.in-Cat.members c.in-Cat.is)
     (writes_then c.in_ok-put_text-in-Cat.ensures (writes_then c.in_ok-put_members-in-Cat.ensures c.put_text-in-Cat-2.ensures))
 
 pub put_expression-returns-in_err-put_text-in-Sub : goal.put_expression-returns-in_err-put_text-in-Sub
 put_expression-returns-in_err-put_text-in-Sub g t c =
     let inner = expr_view c.in-Sub.expression.value in
     writes_failed c.from_residual-in_err-put_text-in-Sub.ensures.0
-    (writes_same (sub_text inner c.in-Sub.start c.in-Sub.count
-    (ap expr_view c.in-Sub.is ∙ view-Sub c.in-Sub.expression c.in-Sub.start c.in-Sub.count))
+    (writes_same (sub_text c.args.expression.now c.in-Sub.expression c.in-Sub.start c.in-Sub.count c.in-Sub.is)
     (writes_stopped (expr inner ++ suffix c.in-Sub.start c.in-Sub.count) c.in_err-put_text-in-Sub.ensures))
 
 pub put_expression-returns-in_err-put_expression-in-Sub : goal.put_expression-returns-in_err-put_expression-in-Sub
 put_expression-returns-in_err-put_expression-in-Sub g t c =
     let same = ap (λ e. expr (expr_view e)) c.as_ref.ensures in
     writes_failed c.from_residual-in_err-put_expression-in-Sub.ensures.0
-    (writes_same (sub_text (expr_view c.in-Sub.expression.value) c.in-Sub.start c.in-Sub.count
-    (ap expr_view c.in-Sub.is ∙ view-Sub c.in-Sub.expression c.in-Sub.start c.in-Sub.count))
+    (writes_same (sub_text c.args.expression.now c.in-Sub.expression c.in-Sub.start c.in-Sub.count c.in-Sub.is)
     (writes_then c.in_ok-put_text-in-Sub.ensures
     (writes_stopped (suffix c.in-Sub.start c.in-Sub.count) (writes_same same c.in_err-put_expression-in-Sub.ensures))))
 
 pub put_expression-returns-in_ok-put_expression-in-Sub : goal.put_expression-returns-in_ok-put_expression-in-Sub
 put_expression-returns-in_ok-put_expression-in-Sub g t c =
     let same = ap (λ e. expr (expr_view e)) c.as_ref.ensures in
-    writes_same (sub_text (expr_view c.in-Sub.expression.value) c.in-Sub.start c.in-Sub.count
-    (ap expr_view c.in-Sub.is ∙ view-Sub c.in-Sub.expression c.in-Sub.start c.in-Sub.count))
+    writes_same (sub_text c.args.expression.now c.in-Sub.expression c.in-Sub.start c.in-Sub.count c.in-Sub.is)
     (writes_then c.in_ok-put_text-in-Sub.ensures
     (writes_then (writes_same same c.in_ok-put_expression-in-Sub.ensures) c.put_numbers-in-Sub.ensures))
 
 pub put_expression-returns-in-Run : goal.put_expression-returns-in-Run
 put_expression-returns-in-Run g t c =
-    writes_same (run_text c.in-Run.byte c.in-Run.count (ap expr_view c.in-Run.is ∙ view-Run c.in-Run.byte c.in-Run.count))
+    writes_same (run_text c.args.expression.now c.in-Run.byte c.in-Run.count c.in-Run.is)
     c.put_numbers.ensures
 
 pub put_listed-put_expression-requires : goal.put_listed-put_expression-requires
@@ -111,22 +114,19 @@ put_listed-loop-member-preserved g t c =
 
 pub put_members-put_listed-requires : goal.put_members-put_listed-requires
 put_members-put_listed-requires g t c κs within =
-    let below : weights (members_of (map shared_view c.halves.result.1.now)) < weights (members_view c.args.members.now) + 1 =
-    rest_falls (members_view c.args.members.now) c.halves.result.0 c.halves.result.1.now c.halves.ensures.members in
-    search (rules, below)
+    search (rules, rest_falls (members_view c.args.members.now) c.halves.result.0 c.halves.result.1.now c.halves.ensures.members)
 
 pub put_members-put_members-requires : goal.put_members-put_members-requires
 put_members-put_members-requires g t c κs within =
-    let below : weights (members_view c.in-Some.prefix.now) + 1 < weights (members_view c.args.members.now) + 1 =
-    prefix_falls (members_view c.args.members.now) c.halves.result.0 c.halves.result.1.now c.halves.ensures.members
-    c.halves.ensures.after c.in-Some.prefix c.in-Some.is in
-    search (rules, below)
+    search (
+      rules,
+      prefix_falls (members_view c.args.members.now) c.halves.result.0 c.halves.result.1.now c.halves.ensures.members
+          c.halves.ensures.after c.in-Some.prefix c.in-Some.is,
+    )
 
 pub put_members-put_listed-requires-in-Some : goal.put_members-put_listed-requires-in-Some
 put_members-put_listed-requires-in-Some g t c κs within =
-    let below : weights (members_of (map shared_view c.halves.result.1.now)) < weights (members_view c.args.members.now) + 1 =
-    rest_falls (members_view c.args.members.now) c.halves.result.0 c.halves.result.1.now c.halves.ensures.members in
-    search (rules, below)
+    search (rules, rest_falls (members_view c.args.members.now) c.halves.result.0 c.halves.result.1.now c.halves.ensures.members)
 
 pub put_members-returns-in-None : goal.put_members-returns-in-None
 put_members-returns-in-None g t c =

@@ -54,23 +54,20 @@ room_left_all-loop-member-preserved t c =
 
 pub room_left_members-room_left_all-requires : goal.room_left_members-room_left_all-requires
 room_left_members-room_left_all-requires t c =
-    let below : weights (members_of (map shared_view c.halves.result.1.now)) < weights (members_view c.args.members.now) + 1 =
-    rest_falls (members_view c.args.members.now) c.halves.result.0 c.halves.result.1.now c.halves.ensures.members in
-    search (rules, below)
+    search (rules, rest_falls (members_view c.args.members.now) c.halves.result.0 c.halves.result.1.now c.halves.ensures.members)
 
 pub room_left_members-room_left_members-requires : goal.room_left_members-room_left_members-requires
 room_left_members-room_left_members-requires t c =
-    let below : weights (members_view c.in-Some.prefix.now) + 1 < weights (members_view c.args.members.now) + 1 =
-    prefix_falls (members_view c.args.members.now) c.halves.result.0 c.halves.result.1.now c.halves.ensures.members
-    c.halves.ensures.after c.in-Some.prefix c.in-Some.is in
-    search (rules, below)
+    search (
+      rules,
+      prefix_falls (members_view c.args.members.now) c.halves.result.0 c.halves.result.1.now c.halves.ensures.members
+          c.halves.ensures.after c.in-Some.prefix c.in-Some.is,
+    )
 
 pub room_left_members-room_left_all-requires-in-Some-room_left_members :
     goal.room_left_members-room_left_all-requires-in-Some-room_left_members
 room_left_members-room_left_all-requires-in-Some-room_left_members t c =
-    let below : weights (members_of (map shared_view c.halves.result.1.now)) < weights (members_view c.args.members.now) + 1 =
-    rest_falls (members_view c.args.members.now) c.halves.result.0 c.halves.result.1.now c.halves.ensures.members in
-    search (rules, below)
+    search (rules, rest_falls (members_view c.args.members.now) c.halves.result.0 c.halves.result.1.now c.halves.ensures.members)
 
 pub room_left_members-returns-in-None : goal.room_left_members-returns-in-None
 room_left_members-returns-in-None t c =

@@ -81,22 +81,19 @@ all_stay_far-returns t c =
 
 pub members_stay_far-all_stay_far-requires : goal.members_stay_far-all_stay_far-requires
 members_stay_far-all_stay_far-requires t c =
-    let below : weights (members_of (map shared_view c.halves.result.1.now)) < weights (members_view c.args.members.now) + 1 =
-    rest_falls (members_view c.args.members.now) c.halves.result.0 c.halves.result.1.now c.halves.ensures.members in
-    search (rules, below)
+    search (rules, rest_falls (members_view c.args.members.now) c.halves.result.0 c.halves.result.1.now c.halves.ensures.members)
 
 pub members_stay_far-members_stay_far-requires : goal.members_stay_far-members_stay_far-requires
 members_stay_far-members_stay_far-requires t c =
-    let below : weights (members_view c.in-Some.prefix.now) + 1 < weights (members_view c.args.members.now) + 1 =
-    prefix_falls (members_view c.args.members.now) c.halves.result.0 c.halves.result.1.now c.halves.ensures.members
-    c.halves.ensures.after c.in-Some.prefix c.in-Some.is in
-    search (rules, below)
+    search (
+      rules,
+      prefix_falls (members_view c.args.members.now) c.halves.result.0 c.halves.result.1.now c.halves.ensures.members
+          c.halves.ensures.after c.in-Some.prefix c.in-Some.is,
+    )
 
 pub members_stay_far-all_stay_far-requires-then-members_stay_far : goal.members_stay_far-all_stay_far-requires-then-members_stay_far
 members_stay_far-all_stay_far-requires-then-members_stay_far t c =
-    let below : weights (members_of (map shared_view c.halves.result.1.now)) < weights (members_view c.args.members.now) + 1 =
-    rest_falls (members_view c.args.members.now) c.halves.result.0 c.halves.result.1.now c.halves.ensures.members in
-    search (rules, below)
+    search (rules, rest_falls (members_view c.args.members.now) c.halves.result.0 c.halves.result.1.now c.halves.ensures.members)
 
 pub members_stay_far-returns-in-None : goal.members_stay_far-returns-in-None
 members_stay_far-returns-in-None t c =
