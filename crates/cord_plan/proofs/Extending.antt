@@ -17,13 +17,12 @@ use Rattle.cord_plan.specs.inner.Choices.{simple_operands}
 use Rattle.cord_plan.specs.inner.Steps.{AreLonger, IsLongerAt, is_last, is_longer, is_named}
 use Rattle.cord_plan.specs.Operands.{assigns, assigns_at, read_by, target_of}
 use Rattle.cord_plan.specs.Planned.{Joined, Operation, gives, is_dead, is_first, operation, operations, or_nothing, planned}
-use Rattle.cord_plan.proofs.Choices.{chosen_simple}
-use Rattle.cord_plan.proofs.Choices as simple
 use Rattle.cord_plan.proofs.Chosen.{AreChosen, EachEntry, IsPrefix, Taken, are_chosen, both_true, each_entry, line_there}
 use Rattle.cord_plan.proofs.Lacking.{preserves_lacking}
 use Rattle.cord_plan.proofs.Named.{each_at}
 use Rattle.cord_plan.proofs.Pairs.{EntryOf, entry_of, taken_at, taken_facts}
-use Rattle.cord_plan.proofs.PlannedPairs.{operation_at}
+use Rattle.cord_plan.proofs.PlannedPairs.{has_defining, operation_at}
+use Rattle.cord_plan.proofs.ReadNames.{HasDefining}
 
 pub reported_there : (reported : List Bool) (place : ℕ) → get_or reported place false ≡ true → slice_get reported place ≡ Some true
 reported_there [] place h = let bad : ⊥ = cc in absurd bad
@@ -45,7 +44,7 @@ given_joins : (l : Statement) (v : Bool) (line : ℕ) (x : List ℕ) (es : Exprs
     Joins l (gives v line x (Joined (cat es))) es
 given_joins l v line x es target = record { target = x; is_target = target; joined = gives_cat v line x es }
 
-line_joins : (l : Statement) (es : Exprs) (dead paired : Bool) (x : List ℕ) → assigns l x ≡ true → is_some (simple_operands l) ≡ true →
+line_joins : (l : Statement) (es : Exprs) (dead paired : Bool) (x : List ℕ) → assigns l x ≡ true → HasDefining (defining l) →
     Joins l (operation l (cat es) dead paired) es
 line_joins (Cat line target left right) es dead paired x a simple =
     given_joins (Cat line target left right) (dead || paired) line target es refl
@@ -57,7 +56,8 @@ line_joins (Chars line target byte n) es dead paired x a simple =
 line_joins (Nul line target n) es dead paired x a simple = given_joins (Nul line target n) (dead || paired) line target es refl
 line_joins (Substr line target operand start n) es dead paired x a simple =
     given_joins (Substr line target operand start n) (dead || paired) line target es refl
-line_joins l es dead paired x a simple = let bad : ⊥ = cc in absurd bad
+line_joins (Put line operand) es dead paired x a simple = let bad : ⊥ = cc in absurd bad
+line_joins l es dead paired x a simple = absurd simple
 
 -- ---- the choices of a line
 -- a choice that takes the members that the line before b joins
@@ -163,12 +163,10 @@ module _ (s : List Statement) (later : List ℕ → ℕ → Bool) where
     joined : joined_at (slice_get (planned s later) a) ≡ Some (target, es)
     lacking : lacks (names_of es) target ≡ true
 
-  -- where an entry has an expression its line is simple; where its choices say that the line joins more than the one before it, its
-  -- operation does
-  record IsEntry (k : ℕ) (en : Option Expr × List Choice) : Type 0 where
-    simple : (l : Statement) (e : Expr) → slice_get s k ≡ Some l → en.0 ≡ Some e → is_some (simple_operands l) ≡ true
-    extends : (l : Statement) → slice_get s k ≡ Some l → slice_get (exprs s later) k ≡ Some en → is_longer k l en.1 ≡ true →
-        Extends (planned s later) k
+  -- where its choices say that a line joins more than the one before it, its operation does
+  abbrev IsEntry : ℕ → Option Expr × List Choice → Type 0
+  IsEntry k en = (l : Statement) → slice_get s k ≡ Some l → slice_get (exprs s later) k ≡ Some en → is_longer k l en.1 ≡ true →
+      Extends (planned s later) k
 
   -- no name of an expression that stands for an operand is assigned by its line
   taken_stays : (t : ChoiceTable) (b : ℕ) (l : Statement) (x : List ℕ) (a : ℕ) (r : Expr) → Taken s later t b l x a r →
@@ -181,7 +179,7 @@ module _ (s : List Statement) (later : List ℕ → ℕ → Bool) where
   operation_there k l en at entered =
       (is_dead later (0 + k) (target_of l), is_first (0 + k) (exprs s later), operation_at later (exprs s later) 0 s (exprs s later) k l en at entered)
 
-  module _ (t : ChoiceTable) (b : ℕ) (prefix : IsPrefix s later t) (each : EachEntry s later IsEntry t) where
+  module _ (t : ChoiceTable) (b : ℕ) (prefix : IsPrefix s later t) where
     source_of_taken : (l : Statement) (x : List ℕ) (a : ℕ) (es : Exprs) → Taken s later t b l x a (cat es) → Source a es
     source_of_taken l x a es h =
         record { target = j.target; joined = ap joined_at (found.2 ∙ ap Some same) ∙ j.joined; lacking = lacking }
@@ -200,7 +198,8 @@ module _ (s : List Statement) (later : List ℕ → ℕ → Bool) where
         same = ap (λ (f : Option Expr). operation there.0 (or_nothing f) found.0 found.1) from.is
 
         j : Joins there.0 (operation there.0 (cat es) found.0 found.1) es
-        j = line_joins there.0 es found.0 found.1 x there.2 ((each a from.en from.at).simple there.0 (cat es) there.1 from.is)
+        j = line_joins there.0 es found.0 found.1 x there.2 (has_defining s later a from.en there.0 (cat es) (prefix a from.en from.at)
+            there.1 from.is)
 
         lacking : lacks (names_of es) j.target ≡ true
         lacking = sym (preserves_lacking there.0 j.target j.is_target (names_of es))
@@ -253,24 +252,14 @@ module _ (s : List Statement) (later : List ℕ → ℕ → Bool) where
         longer_extends l (made l) at entered (are_made l) (catc_longer b line target operand byte (made l) longer)
     extends_here l at entered longer = let bad : ⊥ = cc in absurd bad
 
-    entry_simple : (l : Statement) (o : Option (List (List ℕ))) (e : Expr) → simple_operands l ≡ o →
-        (simple.entry_of s later t b l o).0 ≡ Some e → is_some o ≡ true
-    entry_simple l None e none is = let bad : ⊥ = cc in absurd bad
-    entry_simple l (Some xs) e some is = refl
-
     entry_here : (l : Statement) → slice_get s b ≡ Some l → IsEntry b (operands_chosen s later t b l (defining l))
-    entry_here l at = record {
-      simple = λ m e there is. (let same : m ≡ l = cc in
-          ap (λ (k : Statement). is_some (simple_operands k)) same
-          ∙ entry_simple l (simple_operands l) e refl
-          (ap (λ (en : Option Expr × List Choice). en.0) (sym (chosen_simple s later t b l)) ∙ is));
-      extends = λ m there entered longer. (let same : l ≡ m = cc in extends_here l at entered
-          (ap (λ (k : Statement). is_longer b k (operands_chosen s later t b l (defining l)).1) same ∙ longer));
-    }
+    entry_here l at m there entered longer =
+        let same : l ≡ m = cc in
+        extends_here l at entered (ap (λ (k : Statement). is_longer b k (operands_chosen s later t b l (defining l)).1) same ∙ longer)
 
   -- each line of which it is reported that it joins more than the line before it has an operation that does
   pub all_extending : (reported : List Bool) → AreLonger s later reported → AreExtending reported (planned s later)
   all_extending reported longer place h =
       let w : IsLongerAt s later place = longer place h in
-      (each_entry s later IsEntry (λ t b l at prefix each. entry_here t b prefix each l at) place w.entry w.entered).extends w.line w.at
+      (each_entry s later IsEntry (λ t b l at prefix each. entry_here t b prefix l at) place w.entry w.entered) w.line w.at
       w.entered w.longer

@@ -116,7 +116,7 @@ module _ (s : List Statement) (later : List ℕ → ℕ → Bool) where
       earlier_of table b l prefix (defining l) t a i r e is (subst (λ (x : Statement). slice_get (read_by x) i ≡ Some t) same operand)
       is_replaced
 
-  has_defining : (k : ℕ) (en : Option Expr × List Choice) (l : Statement) (e : Expr) → slice_get (exprs s later) k ≡ Some en →
+  pub has_defining : (k : ℕ) (en : Option Expr × List Choice) (l : Statement) (e : Expr) → slice_get (exprs s later) k ≡ Some en →
       slice_get s k ≡ Some l → en.0 ≡ Some e → HasDefining (defining l)
   has_defining k en l e entry at is =
       let first = each_entry s later (EntryDefining s later) (entry_defining s later) k en entry l e at is in

@@ -7,6 +7,7 @@ use Rattle.cord_plan.specs.inner.Numbering.{IsNumbered}
 use Rattle.cord_plan.specs.Planned as plan
 use Rattle.cord_plan.specs.Views.{expr_view, operation_view}
 use Rattle.cord_plan.proofs.Begun.{NextLeft, all_operations, as_many, left_then, next_left, operations_then}
+use Rattle.cord_plan.proofs.Numbers.{line_there}
 use Rattle.cord_plan.proofs.planner.operations_of.Goals as goal
 
 pub loop-place-preserved : goal.loop-place-preserved
@@ -55,7 +56,5 @@ returns c = all_operations c.args.statements.now (reports c.args.later.now) c.lo
 
 pub line-numbers-requires : goal.line-numbers-requires
 line-numbers-requires c =
-    let s = c.args.statements.now in
-    let p = c.loop-place.place in
-    let l = c.index-statements-place.result in
-    (l, c.requires.numbered p l (slice_get_read s (length s) p l refl c.loop-place-test.true c.index-statements-place.is))
+    let there = line_there c.args.later.now.numbering c.args.statements.now c.requires.numbered c.loop-place.place c.loop-place-test.true in
+    (there.0, there.2)

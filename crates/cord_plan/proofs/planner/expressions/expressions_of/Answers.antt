@@ -9,6 +9,7 @@ use Rattle.cord_plan.specs.inner.Steps.{IsStep, IsReportedLonger, table_view}
 use Rattle.cord_plan.specs.Views.{expr_view}
 use Rattle.cord_plan.specs.declared.flow.liveness.Later.{Later}
 use Rattle.cord_plan.proofs.Begun.{all_begun, begun_long, begun_none, begun_then, longer_then, written_back}
+use Rattle.cord_plan.proofs.Numbers.{line_there}
 use Rattle.cord_plan.proofs.planner.expressions.expressions_of.Goals as goal
 
 pub loop-place-preserved : goal.loop-place-preserved
@@ -87,10 +88,8 @@ returns-clause-made c = all_begun c.args.statements.now (reports c.args.later.no
 
 pub line-numbers-requires : goal.line-numbers-requires
 line-numbers-requires c =
-    let s = c.args.statements.now in
-    let p = c.loop-place.place in
-    let l = c.index-statements-place.result in
-    (l, c.requires.numbered p l (slice_get_read s (length s) p l refl c.loop-place-test.true c.index-statements-place.is))
+    let there = line_there c.args.later.now.numbering c.args.statements.now c.requires.numbered c.loop-place.place c.loop-place-test.true in
+    (there.0, there.2)
 
 pub note-requires : goal.note-requires
 note-requires c =
