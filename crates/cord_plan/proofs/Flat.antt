@@ -1,5 +1,5 @@
 -- No `cat` is a member of a `cat` in the expressions of a plan.
-use Rattle.std.proofs.Common.{◌≡◌, ℕ, zero, suc, ◌+◌, Bool, true, false, List, [], ◌∷◌, ◌++◌, map, Option, Some, None, subst}
+use Rattle.std.proofs.Common.{◌≡◌, ℕ, zero, suc, ◌+◌, Bool, true, false, List, [], ◌∷◌, ◌++◌, map, Option, Some, None, refl, subst}
 use Rattle.std.specs.Prelude.{slice_get, if◌then◌else◌, ◌||◌, ◌&&◌, pos}
 use Rattle.cord_operands.specs.declared.operands.Number.TheVariants.{Numeral}
 use Rattle.cord_syntax.specs.declared.statements.Statement.{Statement}
@@ -12,6 +12,7 @@ use Rattle.cord_plan.specs.Inlined.{ChoiceTable, Choice, named, replaced, expr_o
 use Rattle.cord_plan.specs.Inlined.{chosen_from}
 use Rattle.cord_plan.specs.Inlined.{chosen_of, choices, operands_chosen, grown, exprs}
 use Rattle.cord_plan.specs.Planned.{Operation, Joined, gives, or_nothing, operation, operations, is_dead, is_first}
+use Rattle.cord_plan.proofs.Chosen.{each_entry}
 
 append_flat : (es others : Exprs) → AreMembers es → AreMembers others → AreMembers (append es others)
 append_flat nothing others a b = b
@@ -68,17 +69,15 @@ choice_exprs [] a = tt
 choice_exprs (c ∷ cs) a = (a.0, choice_exprs cs a.1)
 
 abbrev EachEntry : ChoiceTable → Type 0
-EachEntry [] = Unit {0}
-EachEntry (en ∷ table) = OptionFlat en.0 × EachEntry table
+EachEntry table = (k : ℕ) → OptionFlat (first_of (slice_get table k))
 
-table_then : (table : ChoiceTable) (en : Option Expr × List Choice) → EachEntry table → OptionFlat en.0 → EachEntry (table ++ en ∷ [])
-table_then [] en a b = (b, tt)
-table_then (f ∷ table) en a b = (a.0, table_then table en a.1 b)
-
-entry_flat : (table : ChoiceTable) (k : ℕ) → EachEntry table → OptionFlat (first_of (slice_get table k))
-entry_flat [] k a = tt
-entry_flat (en ∷ table) zero a = a.0
-entry_flat (en ∷ table) (suc k) a = entry_flat table k a.1
+by_place : (table : ChoiceTable) → ((k : ℕ) (en : Option Expr × List Choice) → slice_get table k ≡ Some en → OptionFlat en.0) →
+    EachEntry table
+by_place table each k = pick (slice_get table k) refl
+  where
+    pick : (o : Option (Option Expr × List Choice)) → slice_get table k ≡ o → OptionFlat (first_of o)
+    pick None e = tt
+    pick (Some en) e = each k en e
 
 picked : (v : Bool) (k : ℕ) (e : Expr) (x : List ℕ) → IsFlat e → IsFlat (expr_of (if v then replaced k e else named x))
 picked true k e x a = a
@@ -93,7 +92,7 @@ module _ (s : List Statement) (later : List ℕ → ℕ → Bool) where
   chosen_flat : (table : ChoiceTable) (b : ℕ) (l : Statement) (x : List ℕ) (before after : List Expr) (o : Option ℕ) → EachEntry table →
       IsFlat (expr_of (chosen_of s later table b l x before after o))
   chosen_flat table b l x before after None a = tt
-  chosen_flat table b l x before after (Some k) a = from_flat b l x before after k (first_of (slice_get table k)) (entry_flat table k a)
+  chosen_flat table b l x before after (Some k) a = from_flat b l x before after k (first_of (slice_get table k)) (a k)
 
   choices_flat : (table : ChoiceTable) (b : ℕ) (l : Statement) (done : List Choice) (xs : List (List ℕ)) → EachEntry table → EachChoice done →
       EachChoice (choices s later table b l done xs)
@@ -109,14 +108,9 @@ module _ (s : List Statement) (later : List ℕ → ℕ → Bool) where
   operands_flat table b l (Some e) a = with_flat l (map (λ c. expr_of c) (choices s later table b l [] (read_by l)))
       (choice_exprs (choices s later table b l [] (read_by l)) (choices_flat table b l [] (read_by l) a tt))
 
-  grown_flat : (table : ChoiceTable) (b : ℕ) (rest : List Statement) → EachEntry table → EachEntry (grown s later table b rest)
-  grown_flat table b [] a = a
-  grown_flat table b (l ∷ rest) a =
-      let en : Option Expr × List Choice = operands_chosen s later table b l (defining l) in
-      grown_flat (table ++ en ∷ []) (b + 1) rest (table_then table en a (operands_flat table b l (defining l) a))
-
   pub exprs_flat : EachEntry (exprs s later)
-  exprs_flat = grown_flat [] 0 s tt
+  exprs_flat = by_place (exprs s later) (each_entry s later (λ k en. OptionFlat en.0)
+      (λ table b l at prefix each. operands_flat table b l (defining l) (by_place table each)))
 
 or_flat : (o : Option Expr) → OptionFlat o → IsFlat (or_nothing o)
 or_flat None a = tt
@@ -145,5 +139,5 @@ module _ (later : List ℕ → ℕ → Bool) (table : ChoiceTable) where
   operations_flat p (l ∷ rest) (en ∷ entries) a zero o e =
       let same : operation l (or_nothing en.0) (is_dead later p (target_of l)) (is_first p table) ≡ o = cc in
       subst (λ (w : Operation). IsFlatOperation w) same (operation_flat l (or_nothing en.0) (is_dead later p (target_of l))
-      (is_first p table) (or_flat en.0 a.0))
-  operations_flat p (l ∷ rest) (en ∷ entries) a (suc k) o e = operations_flat (p + 1) rest entries a.1 k o e
+      (is_first p table) (or_flat en.0 (a 0)))
+  operations_flat p (l ∷ rest) (en ∷ entries) a (suc k) o e = operations_flat (p + 1) rest entries (λ m. a (suc m)) k o e

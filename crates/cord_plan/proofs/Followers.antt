@@ -10,7 +10,7 @@ use Rattle.cord_meaning.specs.Paths.{opened, open_at}
 use Rattle.cord_plan.specs.declared.flow.successors.Shape.{Shape}
 use Rattle.cord_plan.specs.declared.flow.successors.Successors.{Successors}
 use Rattle.cord_plan.specs.Liveness.{successors, close_successors}
-use Rattle.cord_plan.specs.inner.Liveness.{shape_view, innermost, places, places_at, AreSuccessors}
+use Rattle.cord_plan.specs.inner.Liveness.{shape_view, innermost, places, places_at, ArePaths}
 
 -- the shape at a place
 pub shape_there : (xs : List Shape) (p : ℕ) (x d : Shape) → p < length xs → get_or xs p d ≡ x →
@@ -120,9 +120,9 @@ pushed (x ∷ found) b f below here zero lt = below 0 (omega arith)
 pushed (x ∷ found) b f below here (suc k) lt = pushed found b (λ n. f (suc n)) (λ n h. below (suc n) (omega arith)) here k (omega arith)
 
 -- and where that is said of every place of the script
-all_places : (found : List Successors) (shapes : List control.Shape) → length found ≡ length shapes →
-    ((k : ℕ) → k < length shapes → places_at found k ≡ successors shapes k) → (p : ℕ) → places_at found p ≡ successors shapes p
-all_places found shapes size below p =
+pub all_after : (found : List Successors) (shapes : List control.Shape) → length found ≡ length shapes →
+    ((k : ℕ) → k < length shapes → places_at found k ≡ successors shapes k) → ArePaths shapes found
+all_after found shapes size below p =
     ⊎_elim
     (λ within. below p within.1)
     (λ past.
@@ -131,10 +131,6 @@ all_places found shapes size below p =
     let nowhere : slice_get shapes p ≡ None = past.1 in
     rw (none, nowhere) refl)
     (slice_get_cases shapes p).1
-
-pub all_after : (found : List Successors) (shapes : List control.Shape) → length found ≡ length shapes →
-    ((k : ℕ) → k < length shapes → places_at found k ≡ successors shapes k) → AreSuccessors shapes found
-all_after found shapes size below = record { size = size; reported = λ p. all_places found shapes size below p }
 
 -- the open blocks after one more place
 pub open_more : (xs : List Shape) (p : ℕ) (d : Shape) (old new : List (Option ℕ)) → p < length xs → old ≡ open_at (map shape_view xs) p →

@@ -5,7 +5,7 @@ use Rattle.std.specs.Prelude.{IfSome, ◌==◌}
 use Rattle.std.proofs.lemmas.Bool.{ne_eqb}
 use Rattle.cord_plan.specs.Exprs as plain
 use Rattle.cord_plan.specs.Exprs.{append}
-use Rattle.cord_plan.specs.inner.Exprs.{is_nothing}
+use Rattle.cord_plan.specs.inner.Views.{is_nothing}
 use Rattle.cord_plan.specs.Views.{Shared, prefix_view, members_of, members_view, shared_view}
 use Rattle.cord_plan.specs.declared.expressions.Members.{Members}
 use Rattle.cord_plan.proofs.MemberTexts.{weights}

@@ -5,7 +5,7 @@ use Rattle.std.specs.Prelude.{IfOk, Result}
 use Rattle.std.specs.declared.rc.Rc.{Rc}
 use Rattle.std.proofs.lemmas.List.{take_more}
 use Rattle.cord_plan.specs.Exprs.{Expr, Exprs, nothing, member, append}
-use Rattle.cord_plan.specs.inner.Exprs.{is_nothing}
+use Rattle.cord_plan.specs.inner.Views.{is_nothing}
 use Rattle.cord_plan.specs.Views.{Shared, expr_view, members_of, members_view, shared_view}
 use Rattle.cord_plan.specs.inner.Views.{rest_view}
 use Rattle.cord_plan.specs.declared.expressions.Expr.TheViews.{out-Members, roll-Members}

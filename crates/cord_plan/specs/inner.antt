@@ -1,6 +1,5 @@
 pub mod StraightLine
 pub mod Choices
-pub mod Exprs
 pub mod Extensions
 pub mod ExpressionFacts
 pub mod Liveness

@@ -1,7 +1,7 @@
 // Expressions of plans.
 ghost use Rattle.std.specs.Prelude.{◌≡◌, ◌<◌, ◌∷◌, [], IfOk, IfSome, length, map};
 ghost use Rattle.cord_plan.specs.Exprs.{append, member, nothing};
-ghost use Rattle.cord_plan.specs.inner.Exprs.{is_nothing};
+ghost use Rattle.cord_plan.specs.inner.Views.{is_nothing};
 ghost use Rattle.cord_plan.specs.Views.{prefix_view, members_of, members_view, shared_view};
 ghost use Rattle.cord_plan.specs.inner.Views.{rest_view};
 

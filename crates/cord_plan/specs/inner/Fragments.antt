@@ -1,7 +1,7 @@
 -- The text of fragments of a plan's lines.
 use Rattle.std.specs.Prelude.{ℕ, if◌then◌else◌, List, [], ◌∷◌, ◌++◌}
 use Rattle.cord_plan.specs.Exprs.{Exprs, nothing, member}
-use Rattle.cord_plan.specs.inner.Exprs.{is_nothing}
+use Rattle.cord_plan.specs.inner.Views.{is_nothing}
 use Rattle.cord_plan.specs.PlanText.{decimal, expr, more_exprs, number, quoted, printed_arguments}
 use Rattle.cord_plan.specs.declared.plan_text.fragments.Fragment.{Fragment}
 use Rattle.cord_plan.specs.declared.plan_text.fragments.Fragment.TheVariants.{Plain, Name, Count, Number, Path, Arguments}

@@ -59,11 +59,6 @@ places_of (Some b) = places b
 abbrev pub places_at : List Successors → ℕ → List ℕ
 places_at successor_table p = places_of (slice_get successor_table p)
 
--- as many as the lines, these are the places that may come next after each of them
-pub record AreSuccessors (shapes : List blocks.Shape) (successor_table : List Successors) : Type 0 where
-  pub size : length successor_table ≡ length shapes
-  pub reported : (p : ℕ) → places_at successor_table p ≡ successors shapes p
-
 -- these are the places that may come next after each place, whether a line stands there or not
 abbrev pub ArePaths : List blocks.Shape → List Successors → Type 0
 ArePaths shapes successor_table = (p : ℕ) → places_at successor_table p ≡ successors shapes p

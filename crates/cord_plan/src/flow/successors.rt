@@ -7,7 +7,7 @@ ghost use Rattle.cord_meaning.specs.Statements.{shape_of};
 ghost use Rattle.cord_plan.specs.Inlined.{is_block};
 ghost use Rattle.cord_plan.specs.Liveness.{successors};
 ghost use Rattle.cord_plan.specs.inner.Liveness.{shape_view, turn_of, innermost, places};
-ghost use Rattle.cord_plan.specs.inner.Liveness.{AreSuccessors, ArePaths, NoBlocks};
+ghost use Rattle.cord_plan.specs.inner.Liveness.{ArePaths, NoBlocks};
 
 use cord_script::Statement;
 use cord_syntax::{Control, Family};
@@ -201,7 +201,7 @@ fn successors_at(shapes: &[Shape], p: usize, block: Option<usize>) -> Successors
 
 // The places that may come next after each place.
 fn successor_table(alloc: Global, shapes: &[Shape]) -> Result<Vec<Successors>, AllocError>
-    ensures { IfOk result (λ v. AreSuccessors (map shape_view shapes.now) v.items) }
+    ensures { IfOk result (λ v. ArePaths (map shape_view shapes.now) v.items) }
 {
     let mut blocks = Vec::new(alloc);
     let mut found = Vec::with_capacity(alloc, shapes.len())?;
