@@ -3,7 +3,7 @@ use Rattle.std.proofs.Common.{◌≡◌, ℕ, ◌+◌, ◌<◌, Bool, List, [], 
 use Rattle.std.proofs.Common.{sym, ap, ◌∙◌}
 use Rattle.std.proofs.lemmas.List.{at_drop_more}
 use Rattle.cord_syntax.specs.declared.statements.Statement.{Statement}
-use Rattle.cord_syntax.specs.declared.statements.Statement.TheVariants.{Chars, Nul, Cat, Catn, Catc, Substr, Put}
+use Rattle.cord_syntax.specs.declared.statements.Statement.TheVariants.{Cat}
 use Rattle.cord_plan.specs.Exprs.{Expr, name}
 use Rattle.cord_plan.specs.Operands.{read_by}
 use Rattle.cord_plan.specs.Inlined.{Choice, named, ChoiceTable, expr_of, expr_with, setter, chosen_of, choices, entry, operands_chosen, defining}

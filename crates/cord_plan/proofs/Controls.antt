@@ -1,13 +1,11 @@
 -- What an operation is to control, beside its statement.
-use Rattle.std.proofs.Common.{◌≡◌, ℕ, pos, Bool, true, false, ◌||◌, List, Some, refl, sym}
+use Rattle.std.proofs.Common.{◌≡◌, Bool, true, false, Some, refl, sym}
 use Rattle.cord_syntax.specs.declared.statements.Statement.{Statement}
-use Rattle.cord_syntax.specs.declared.statements.Statement.TheVariants.{Let, File, Eager, Lazy, Chars, Nul, FromFn, Cat, Catn, Catc, Substr}
-use Rattle.cord_syntax.specs.declared.statements.Statement.TheVariants.{Balance, EcToCord, Sprintf, Repeat, If}
-use Rattle.cord_meaning.specs.Blocks.{Straight}
+use Rattle.cord_syntax.specs.declared.statements.Statement.TheVariants.{Repeat, If}
 use Rattle.cord_meaning.specs.State.{State}
 use Rattle.cord_meaning.specs.Statements.{shape_of, line_of, repeat_count, holds_of, compares}
 use Rattle.cord_plan.specs.Exprs.{Expr}
-use Rattle.cord_plan.specs.Planned.{Operation, Made, gives, operation}
+use Rattle.cord_plan.specs.Planned.{Operation, operation}
 use Rattle.cord_plan.specs.Meaning.{Holding, operation_shape, operation_line, operation_count, operation_holds}
 use Rattle.cord_plan.proofs.Evaluation.{plain_number}
 

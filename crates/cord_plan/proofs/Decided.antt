@@ -22,8 +22,8 @@ use Rattle.cord_meaning.specs.State.{sets_number, sets_extensible}
 use Rattle.cord_meaning.specs.Statements.{act, shape_of, byte_of_text, file_text, function_text}
 use Rattle.cord_meaning.specs.Formats.{piece_argument, format_text, unless_refused}
 use Rattle.cord_meaning.specs.inner.Simulation.{Agree}
-use Rattle.cord_plan.specs.Exprs.{Expr, name, run, cat, sub, Exprs, nothing, member, append, preceding, members}
-use Rattle.cord_plan.specs.Operands.{has, read_by, target_of, is_this_name, cord_arguments, assigns, assigns_at, reads_at}
+use Rattle.cord_plan.specs.Exprs.{Expr, run, cat, sub, Exprs, nothing, member, append, preceding, members}
+use Rattle.cord_plan.specs.Operands.{read_by, target_of, is_this_name, cord_arguments, assigns, assigns_at, reads_at}
 use Rattle.cord_plan.specs.Liveness.{NotLive}
 use Rattle.cord_plan.specs.Inlined.{expr_with, defining}
 use Rattle.cord_plan.specs.Planned.{Made, Joined, Literal, OfFile, OfEager, OfLazy, OfFunction, Balanced, OfExtensible, Printed, gives}
@@ -36,7 +36,7 @@ use Rattle.cord_plan.specs.Conditions.{Decisions, is_simple, is_simple_at, makes
 use Rattle.cord_plan.proofs.Keeps.{IsVerbatimButLen, Agrees}
 use Rattle.cord_plan.proofs.Values.{within_length}
 use Rattle.cord_plan.proofs.DefiningExpressions.{sets_within}
-use Rattle.cord_plan.proofs.Evaluation.{In, in_left, in_right, in_either, plain_number, value_same, extent_is, line_gives, gives_after}
+use Rattle.cord_plan.proofs.Evaluation.{In, in_either, plain_number, value_same, extent_is, line_gives, gives_after}
 use Rattle.cord_plan.proofs.Evaluation.{function_gives}
 use Rattle.cord_plan.proofs.Named.{own_bytes}
 use Rattle.cord_plan.proofs.OperationEffects.{built_agrees, measured_agrees, put_agrees, len_agrees, kept_agrees, with_others}

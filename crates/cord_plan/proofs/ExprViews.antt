@@ -1,5 +1,5 @@
 -- The equations of `expr_view`, one for each variant, and of `members_view`.
-use Rattle.std.proofs.Common.{◌≡◌, ℕ, List, [], ◌∷◌, map, Option, Some, None, Global, refl, sym, ap, ◌∙◌}
+use Rattle.std.proofs.Common.{◌≡◌, ℕ, List, [], map, Option, Some, None, Global, sym, ap, ◌∙◌}
 use Rattle.std.specs.declared.rc.Rc.{Rc}
 use Rattle.std.proofs.lemmas.Simd.{map-map}
 use Rattle.cord_operands.specs.declared.operands.Number.{Number}

@@ -6,8 +6,8 @@ use Rattle.std.specs.Str.{bytes_eq}
 use Rattle.std.specs.Int.RustNames.{bit_or}
 use Rattle.std.proofs.Math.Bool.{or-false}
 use Rattle.cord_syntax.specs.declared.statements.Statement.{Statement}
-use Rattle.cord_syntax.specs.declared.statements.Statement.TheVariants.{Chars, Nul, Cat, Catn, Catc, Substr, Put}
-use Rattle.cord_plan.specs.Exprs.{Expr, Exprs, name, run, cat, sub, nothing, preceding, members}
+use Rattle.cord_syntax.specs.declared.statements.Statement.TheVariants.{Cat, Catn}
+use Rattle.cord_plan.specs.Exprs.{Expr, Exprs, cat, nothing, preceding, members}
 use Rattle.cord_plan.specs.Exprs.{names, names_of, parts}
 use Rattle.cord_plan.specs.Operands.{has}
 use Rattle.cord_plan.specs.Inlined as plain

@@ -1,25 +1,23 @@
 -- Operations that join what the one before them joins, and one member more.
-use Rattle.std.proofs.Common.{◌≡◌, ℕ, zero, suc, ◌+◌, ◌-◌, ◌<◌, Bool, true, false, List, [], ◌∷◌, map, get_or}
-use Rattle.std.proofs.Common.{Option, Some, None, pos, refl, sym, ap, ◌∙◌, subst, arith}
-use Rattle.std.specs.Prelude.{◌&&◌, ◌||◌, ◌==◌, is_some, slice_get}
+use Rattle.std.proofs.Common.{◌≡◌, ℕ, zero, suc, ◌+◌, ◌-◌, Bool, true, false, List, [], ◌∷◌, map, get_or}
+use Rattle.std.proofs.Common.{Option, Some, pos, refl, sym, ap, ◌∙◌, subst, arith}
+use Rattle.std.specs.Prelude.{◌&&◌, ◌||◌, ◌==◌, slice_get}
 use Rattle.std.proofs.Math.Bool.{and-false}
 use Rattle.std.proofs.lemmas.Bool.{eqb-true}
 use Rattle.cord_operands.specs.declared.operands.Number.{Number}
 use Rattle.cord_operands.specs.declared.operands.Number.TheVariants.{Numeral}
 use Rattle.cord_syntax.specs.declared.statements.Statement.{Statement}
 use Rattle.cord_syntax.specs.declared.statements.Statement.TheVariants.{Chars, Nul, Cat, Catn, Catc, Substr, Put}
-use Rattle.cord_plan.specs.Exprs.{Expr, Exprs, name, run, cat, sub, nothing, member, append, lacks, members, names, names_of}
+use Rattle.cord_plan.specs.Exprs.{Expr, Exprs, name, run, cat, nothing, member, append, lacks, members, names, names_of}
 use Rattle.cord_plan.specs.Extending.{Extends, IsLonger, joined_at, joined_by}
 use Rattle.cord_plan.specs.inner.Extensions.{AreExtending}
 use Rattle.cord_plan.specs.Inlined.{Choice, ChoiceTable, choices, defining, expr_of, expr_with, exprs, named, operands_chosen, preserves}
 use Rattle.cord_plan.specs.Inlined.{replaced}
-use Rattle.cord_plan.specs.inner.Choices.{simple_operands}
 use Rattle.cord_plan.specs.inner.Steps.{AreLonger, IsLongerAt, is_last, is_longer, is_named}
-use Rattle.cord_plan.specs.Operands.{assigns, assigns_at, read_by, target_of}
-use Rattle.cord_plan.specs.Planned.{Joined, Operation, gives, is_dead, is_first, operation, operations, or_nothing, planned}
-use Rattle.cord_plan.proofs.Chosen.{AreChosen, EachEntry, IsPrefix, Taken, are_chosen, both_true, each_entry, line_there}
+use Rattle.cord_plan.specs.Operands.{assigns, read_by, target_of}
+use Rattle.cord_plan.specs.Planned.{Joined, Operation, gives, is_dead, is_first, operation, or_nothing, planned}
+use Rattle.cord_plan.proofs.Chosen.{AreChosen, IsPrefix, Taken, are_chosen, both_true, each_entry, line_there}
 use Rattle.cord_plan.proofs.Lacking.{preserves_lacking}
-use Rattle.cord_plan.proofs.Named.{each_at}
 use Rattle.cord_plan.proofs.Pairs.{EntryOf, entry_of, taken_at, taken_facts}
 use Rattle.cord_plan.proofs.PlannedPairs.{has_defining, operation_at}
 use Rattle.cord_plan.proofs.ReadNames.{HasDefining}

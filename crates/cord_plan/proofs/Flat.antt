@@ -3,14 +3,14 @@ use Rattle.std.proofs.Common.{◌≡◌, ℕ, zero, suc, ◌+◌, Bool, true, fa
 use Rattle.std.specs.Prelude.{slice_get, if◌then◌else◌, ◌||◌, ◌&&◌, pos}
 use Rattle.cord_operands.specs.declared.operands.Number.TheVariants.{Numeral}
 use Rattle.cord_syntax.specs.declared.statements.Statement.{Statement}
-use Rattle.cord_syntax.specs.declared.statements.Statement.TheVariants.{Let, File, Eager, Lazy, Chars, Nul, FromFn, Cat, Catn, Catc, Substr}
-use Rattle.cord_syntax.specs.declared.statements.Statement.TheVariants.{Balance, EcToCord, Sprintf, Put}
+use Rattle.cord_syntax.specs.declared.statements.Statement.TheVariants.{Chars, Nul, Cat, Catn, Catc, Substr}
+use Rattle.cord_syntax.specs.declared.statements.Statement.TheVariants.{Put}
 use Rattle.cord_plan.specs.Exprs.{Expr, name, run, cat, sub, Exprs, nothing, member, append, preceding, members}
 use Rattle.cord_plan.specs.Operands.{read_by, target_of}
 use Rattle.cord_plan.specs.Flat.{IsFlat, AreMembers, IsFlatOperation}
 use Rattle.cord_plan.specs.Inlined.{ChoiceTable, Choice, named, replaced, expr_of, expr_with, first_of, defining, setter, fits, is_small}
 use Rattle.cord_plan.specs.Inlined.{chosen_from}
-use Rattle.cord_plan.specs.Inlined.{chosen_of, choices, operands_chosen, grown, exprs}
+use Rattle.cord_plan.specs.Inlined.{chosen_of, choices, operands_chosen, exprs}
 use Rattle.cord_plan.specs.Planned.{Operation, Joined, gives, or_nothing, operation, operations, is_dead, is_first}
 use Rattle.cord_plan.proofs.Chosen.{each_entry}
 

@@ -6,7 +6,7 @@ use Rattle.cord_syntax.specs.declared.statements.Statement.{Statement}
 use Rattle.cord_syntax.specs.declared.statements.Statement.TheVariants.{Chars, Nul, Cat, Catn, Catc, Substr, Put}
 use Rattle.cord_meaning.specs.declared.ends.FaultKind.{FaultKind}
 use Rattle.cord_meaning.specs.State.{State, number_value, and_then}
-use Rattle.cord_plan.specs.Exprs.{Expr, name, run, cat, sub, Exprs, nothing, member, append, preceding, members}
+use Rattle.cord_plan.specs.Exprs.{Expr, name, run, cat, Exprs, nothing, member, append, preceding, members}
 use Rattle.cord_plan.specs.Operands.{read_by}
 use Rattle.cord_plan.specs.Inlined.{expr_with, defining}
 use Rattle.cord_plan.specs.Values.{within, part_of, text_in}

@@ -9,8 +9,8 @@ use Rattle.std.proofs.lemmas.Bool.{or_left, or_right}
 use Rattle.std.proofs.lemmas.Option.{slice_get-map, slice_get_within}
 use Rattle.std.proofs.lemmas.Slice.Eq.{bytes_eq-Decides}
 use Rattle.cord_syntax.specs.declared.statements.Statement.{Statement}
-use Rattle.cord_syntax.specs.declared.statements.Statement.TheVariants.{Chars, Nul, Cat, Catn, Catc, Substr, Put, Repeat, If, Else, End}
-use Rattle.cord_meaning.specs.Blocks.{Shape, Straight, Loop, Branch, Otherwise, Close}
+use Rattle.cord_syntax.specs.declared.statements.Statement.TheVariants.{Put, Repeat, If, Else, End}
+use Rattle.cord_meaning.specs.Blocks.{Shape, Straight}
 use Rattle.cord_meaning.specs.Paths.{NextOf, Next}
 use Rattle.cord_meaning.specs.State.{State, with_value}
 use Rattle.cord_meaning.specs.Statements.{shape_of}

@@ -2,7 +2,7 @@
 use Rattle.std.proofs.Common.{◌≡◌, ℕ, ◌+◌, ◌<◌, List, [], ◌∷◌, ◌++◌, map, take, length, get_or, refl, sym, ap, ◌∙◌}
 use Rattle.std.proofs.lemmas.List.{map-append, take_more}
 use Rattle.cord_operands.specs.declared.operands.Number.{Number}
-use Rattle.cord_plan.specs.Exprs.{Expr, Exprs, name, run, cat, sub, nothing, member, append, preceding, members}
+use Rattle.cord_plan.specs.Exprs.{Expr, Exprs, name, run, cat, nothing, member, append, preceding, members}
 use Rattle.cord_plan.specs.declared.planner.operand_choices.Choice.{Choice}
 use Rattle.cord_plan.specs.Inlined as plain
 use Rattle.cord_plan.specs.Inlined.{expr_of}

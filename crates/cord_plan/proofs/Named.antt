@@ -8,7 +8,7 @@ use Rattle.std.proofs.lemmas.Slice.Eq.{bytes_eq-Decides}
 use Rattle.cord_operands.specs.declared.operands.Number.TheVariants.{Numeral}
 use Rattle.cord_syntax.specs.declared.statements.Statement.{Statement}
 use Rattle.cord_syntax.specs.declared.statements.Statement.TheVariants.{Chars, Nul, Cat, Catn, Catc, Substr, Put}
-use Rattle.cord_plan.specs.Exprs.{Expr, name, run, cat, sub, Exprs, nothing, member, append, preceding, members, names, names_of}
+use Rattle.cord_plan.specs.Exprs.{Expr, run, cat, Exprs, nothing, member, append, preceding, members, names, names_of}
 use Rattle.cord_plan.specs.Exprs.{number_names}
 use Rattle.cord_plan.specs.Operands.{count, has, assigns_at}
 use Rattle.cord_plan.specs.Inlined.{expr_with, each_from, preserves}

@@ -2,7 +2,7 @@
 use Rattle.std.proofs.Common.{◌≡◌, ◌+◌, ℕ, List, Bool, false, Option, Some, None, drop, refl}
 use Rattle.std.specs.Prelude.{slice_get}
 use Rattle.cord_meaning.specs.Blocks.{Shape, jump, jump_at}
-use Rattle.cord_meaning.specs.Blocks.Shape.{Straight, Loop, Branch, Otherwise, Close}
+use Rattle.cord_meaning.specs.Blocks.Shape.{Straight}
 use Rattle.cord_plan.specs.Inlined.{is_block}
 
 -- whether a shape, where there is one, belongs to a block

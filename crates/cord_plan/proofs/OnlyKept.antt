@@ -1,17 +1,13 @@
 -- Plans keep only statements that make no cord and put nothing.
-use Rattle.std.proofs.Common.{ℕ, ◌+◌, Bool, true, false, ◌||◌, List, [], ◌∷◌}
+use Rattle.std.proofs.Common.{ℕ, ◌+◌, Bool, true, false, List, [], ◌∷◌}
 use Rattle.std.specs.Prelude.{All}
 use Rattle.std.proofs.lemmas.List.Elements.{All-nil, All-cons}
 use Rattle.cord_syntax.specs.declared.statements.Statement.{Statement}
-use Rattle.cord_syntax.specs.declared.statements.Statement.TheVariants.{Let, File, Eager, Lazy, Chars, Nul, FromFn, Cat, Catn, Catc, Substr}
-use Rattle.cord_syntax.specs.declared.statements.Statement.TheVariants.{Balance, EcToCord, Sprintf, Len, Fetch, Cmp, Ncmp, Str, Chr, Rchr}
-use Rattle.cord_syntax.specs.declared.statements.Statement.TheVariants.{Assign, Add, Sub, EcInit, EcPut, EcCat, EcStr, Put, Repeat, If}
-use Rattle.cord_syntax.specs.declared.statements.Statement.TheVariants.{Else, End}
+use Rattle.cord_syntax.specs.declared.statements.Statement.TheVariants.{Put}
 use Rattle.cord_plan.specs.Exprs.{Expr}
 use Rattle.cord_plan.specs.Inlined.{ChoiceTable, defining, exprs}
 use Rattle.cord_plan.specs.Verbatim.{KeepsNoOther}
 use Rattle.cord_plan.specs.Operands.{target_of}
-use Rattle.cord_plan.specs.Planned.{Made, Joined, Literal, OfFile, OfEager, OfLazy, OfFunction, Balanced, OfExtensible, Printed, gives}
 use Rattle.cord_plan.specs.Planned.{operation, operations, or_nothing, is_dead, is_first, planned, trivial}
 
 -- a plan keeps only such statements

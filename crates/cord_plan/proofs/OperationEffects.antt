@@ -2,8 +2,7 @@
 use Rattle.std.proofs.Common.{◌≡◌, ℕ, pos, Bool, true, List, [], ◌∷◌, length, Option, Some, Result, Ok, Err, refl, sym, ap, ◌∙◌, subst}
 use Rattle.cord_io.specs.Device.{FileSystem}
 use Rattle.cord_syntax.specs.declared.statements.Statement.{Statement}
-use Rattle.cord_syntax.specs.declared.statements.Statement.TheVariants.{Let, File, Eager, Lazy, Chars, Nul, FromFn, Cat, Catn, Catc, Substr}
-use Rattle.cord_syntax.specs.declared.statements.Statement.TheVariants.{Balance, EcToCord, Sprintf, Len, Put}
+use Rattle.cord_syntax.specs.declared.statements.Statement.TheVariants.{Len, Put}
 use Rattle.cord_meaning.specs.declared.ends.FaultKind.{FaultKind}
 use Rattle.cord_meaning.specs.State.{State, Outcome, and_then, with_value}
 use Rattle.cord_meaning.specs.Statements.{act}

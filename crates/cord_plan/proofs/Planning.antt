@@ -1,22 +1,20 @@
 -- What the plan of a script decides meets the conditions.
-use Rattle.std.proofs.Common.{◌≡◌, ◌⊎◌, ℕ, zero, suc, ◌+◌, ◌-◌, ◌<◌, ◌≤◌, Bool, true, false, ◌&&◌, ◌||◌, List, [], ◌∷◌, ◌++◌, map, length}
-use Rattle.std.proofs.Common.{Option, Some, None, refl, sym, ap, ◌∙◌, subst, inl, inr, ⊎_elim, arith, append_assoc, append-nil}
+use Rattle.std.proofs.Common.{◌≡◌, ◌⊎◌, ℕ, zero, suc, ◌+◌, ◌<◌, Bool, true, false, List, [], ◌∷◌, ◌++◌, map, length}
+use Rattle.std.proofs.Common.{Option, Some, None, refl, sym, ap, ◌∙◌, subst, inl, inr, ⊎_elim, arith}
 use Rattle.std.proofs.Common.{length-append}
-use Rattle.std.proofs.Math.Nat.{eq-or-lt_of_le}
 use Rattle.std.proofs.lemmas.Bool.{eqb-true}
 use Rattle.std.proofs.lemmas.Option.{slice_get_cases, slice_get_within}
 use Rattle.std.proofs.lemmas.Slice.Eq.{bytes_eq-Decides}
-use Rattle.std.specs.Prelude.{slice_get, not, ◌==◌, if◌then◌else◌}
+use Rattle.std.specs.Prelude.{slice_get, ◌==◌, if◌then◌else◌}
 use Rattle.std.specs.Str.{bytes_eq}
 use Rattle.cord_syntax.specs.declared.statements.Statement.{Statement}
 use Rattle.cord_syntax.specs.declared.statements.Statement.TheVariants.{Chars, Nul, Cat, Catn, Catc, Substr, Put}
 use Rattle.cord_core.proofs.Places.{at_here, some_here}
 use Rattle.cord_plan.specs.Exprs.{Expr, name, names}
-use Rattle.cord_plan.specs.Operands.{count, read_by, target_of, is_this_name, assigns, assigns_at, reads_at}
+use Rattle.cord_plan.specs.Operands.{count, read_by, target_of, is_this_name, assigns, assigns_at}
 use Rattle.cord_plan.specs.Liveness.{NotLive, IsLater}
-use Rattle.cord_plan.specs.Inlined.{ChoiceTable, Choice, named, replaced, expr_of, expr_with, first_of, defining, setter, fits, is_small}
-use Rattle.cord_plan.specs.Inlined.{is_block_at}
-use Rattle.cord_plan.specs.Inlined.{each_from, preserves, chosen_from, chosen_of, choices, operands_chosen, entry, grown, exprs}
+use Rattle.cord_plan.specs.Inlined.{ChoiceTable, Choice, named, replaced, expr_of, expr_with, first_of, defining, setter}
+use Rattle.cord_plan.specs.Inlined.{preserves, choices, operands_chosen, entry, grown, exprs}
 use Rattle.cord_plan.specs.Planned.{or_nothing, operation, operations, is_dead, is_first, some_from, planned}
 use Rattle.cord_plan.specs.Conditions.{Decisions, decided, decided_from, is_simple, is_simple_at, HasKinds, stands, stands_by, IsInlined}
 use Rattle.cord_plan.specs.Conditions.{MeetsConditions}

@@ -1,5 +1,5 @@
 -- In a script that is read, a name that a line reads as a cord is nowhere the name of a number.
-use Rattle.std.proofs.Common.{◌≡◌, ◌⊎◌, ℕ, zero, suc, ◌+◌, Bool, true, false, List, [], ◌∷◌, ◌++◌, map, Option, Some, None, refl, sym, ap}
+use Rattle.std.proofs.Common.{◌≡◌, ◌⊎◌, ℕ, zero, suc, ◌+◌, Bool, true, false, List, [], ◌∷◌, ◌++◌, Option, Some, None, sym, ap}
 use Rattle.std.proofs.Common.{◌∙◌, subst, inl, inr}
 use Rattle.std.specs.Prelude.{slice_get, is_some, if◌then◌else◌}
 use Rattle.std.specs.Str.{bytes_eq}
@@ -9,17 +9,16 @@ use Rattle.cord_operands.specs.declared.operands.Number.{Number}
 use Rattle.cord_operands.specs.declared.operands.Number.TheVariants.{Numeral, Named}
 use Rattle.cord_script.specs.declared.table.Known.{Known}
 use Rattle.cord_syntax.specs.declared.statements.Statement.{Statement}
-use Rattle.cord_syntax.specs.declared.statements.Statement.TheVariants.{Chars, Nul, Cat, Catn, Catc, Substr, Put}
+use Rattle.cord_syntax.specs.declared.statements.Statement.TheVariants.{Chars, Nul, Catc, Substr}
 use Rattle.cord_script.specs.Forms.{Grammar, Term, terms_of}
-use Rattle.cord_script.specs.Forms.Term.{Target, Operand, Value, Literal, FilePath, Applies, Compares, Formats}
-use Rattle.cord_script.specs.Script.{Scope, kind_of, with_name, names_after, after, after_all, IsAllowed, AreAllowed, LinesSay, ReadsBy}
+use Rattle.cord_script.specs.Forms.Term.{Target, Value}
+use Rattle.cord_script.specs.Script.{Scope, kind_of, with_name, names_after, after, after_all, IsAllowed, AreAllowed, LinesSay}
 use Rattle.cord_script.specs.Script.{start}
 use Rattle.cord_plan.specs.Exprs.{Expr, number_names}
-use Rattle.cord_plan.specs.Operands.{has, read_by}
-use Rattle.cord_plan.specs.Inlined.{defining}
-use Rattle.cord_plan.specs.Pairs.{numbers_named, numbers_named_at, IsNoNumber}
+use Rattle.cord_plan.specs.Operands.{has}
+use Rattle.cord_plan.specs.Pairs.{numbers_named}
 use Rattle.cord_plan.proofs.Flows.{or_true}
-use Rattle.cord_plan.proofs.Named.{has_append, no_true, same_bytes}
+use Rattle.cord_plan.proofs.Named.{has_append, same_bytes}
 
 -- what is known of names stays known
 pub record Stays (old new : List Known) : Type 0 where

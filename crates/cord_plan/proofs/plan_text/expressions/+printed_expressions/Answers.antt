@@ -1,11 +1,10 @@
-use Rattle.std.proofs.Common.{Global, rules, ◌≡◌, ◌<◌, ℕ, List, [], ◌∷◌, ◌++◌, map, sym, ap, subst, ◌∙◌, ◌+◌}
+use Rattle.std.proofs.Common.{Global, rules, ◌≡◌, ◌<◌, ℕ, List, [], ◌∷◌, ◌++◌, map, sym, ap, subst, ◌∙◌}
 use Rattle.std.specs.Prelude.{codes}
 use Rattle.cord_operands.specs.declared.operands.Number.{Number}
 use Rattle.cord_plan.specs.declared.expressions.Expr.{Expr}
 use Rattle.cord_plan.specs.declared.expressions.Expr.TheVariants.{Run, Cat, Sub}
 use Rattle.cord_plan.specs.declared.expressions.Members.{Members}
 use Rattle.std.specs.declared.rc.Rc.{Rc}
-use Rattle.cord_plan.specs.Exprs as plain
 use Rattle.cord_plan.specs.inner.Fragments.{blank_after, exprs_after}
 use Rattle.cord_plan.specs.PlanText.{expr, exprs, number}
 use Rattle.cord_plan.specs.Views.{expr_view, members_of, members_view, shared_view}
