@@ -71,14 +71,20 @@ fn is_once_in(operands: &[Name], name: &Name) -> bool
     times == 1
 }
 
+fn is(operand: &Name, name: &Name) -> bool
+    ensures { result ≡ bytes_eq name.now operand.now }
+{
+    name.is(operand)
+}
+
 // Whether a name is one of the operands, and only once.
 fn is_named_once(operands: Operands, name: &Name) -> bool
     ensures { result ≡ (count name.now (operand_names operands.entry) == 1) }
 {
     match operands {
         Operands::Nothing => false,
-        Operands::One(operand) => name.is(operand),
-        Operands::Two(left, right) => name.is(left) != name.is(right),
+        Operands::One(operand) => is(operand, name),
+        Operands::Two(left, right) => is(left, name) != is(right, name),
         Operands::Listed(names) => is_once_in(names, name),
     }
 }
