@@ -6,6 +6,29 @@ ghost use Rattle.cord_syntax.specs.declared.families.Family.{Family};
 use crate::{Computation, Control, Growth, Look, Search, Statement};
 use std::alloc::AllocError;
 
+// Copies of two values.
+fn two_copies<A: Clone, B: Clone>(first: &A, second: &B) -> Result<(A, B), AllocError>
+    ensures first { IfOk result (λ copies. A.is_clone first.now copies.0) }
+    ensures second { IfOk result (λ copies. B.is_clone second.now copies.1) }
+{
+    let first = first.clone()?;
+    Ok((first, second.clone()?))
+}
+
+// Copies of three values.
+fn three_copies<A: Clone, B: Clone, C: Clone>(
+    first: &A,
+    second: &B,
+    third: &C,
+) -> Result<((A, B), C), AllocError>
+    ensures first { IfOk result (λ copies. A.is_clone first.now copies.0.0) }
+    ensures second { IfOk result (λ copies. B.is_clone second.now copies.0.1) }
+    ensures third { IfOk result (λ copies. C.is_clone third.now copies.1) }
+{
+    let copies = two_copies(first, second)?;
+    Ok((copies, third.clone()?))
+}
+
 // Both copies, unless one of them is refused.
 fn both<A: Drop, B: Drop>(
     left: Result<A, AllocError>,
@@ -18,42 +41,34 @@ fn both<A: Drop, B: Drop>(
     Ok((left, right?))
 }
 
-// A member's fields, as their copies are nested.
-macro_rules! nested {
-    ($fields:tt) => {
-        $fields
-    };
-    ($fields:tt $next:ident $($more:ident)*) => {
-        nested!(($fields, $next) $($more)*)
-    };
-}
-
-// Copies of a member's fields, beside those that were made.
-macro_rules! copies {
-    ($copies:expr;) => {
-        $copies
-    };
-    ($copies:expr; $next:ident $($more:ident)*) => {
-        copies!(both($copies, $next.clone()); $($more)*)
-    };
-}
-
 // The statement that has a line and copies of a member's fields.
 macro_rules! statement {
-    ($line:ident, $name:ident;) => {
-        Ok(Statement::$name { line: $line })
+    ($line:ident, $name:ident; $a:ident) => {
+        Ok(Statement::$name { line: $line, $a: $a.clone()? })
     };
-    ($line:ident, $name:ident; $first:ident $($field:ident)*) => {{
-        let nested!($first $($field)*) = copies!($first.clone(); $($field)*)?;
-        Ok(Statement::$name { line: $line, $first $(, $field)* })
+    ($line:ident, $name:ident; $a:ident $b:ident) => {{
+        let ($a, $b) = two_copies($a, $b)?;
+        Ok(Statement::$name { line: $line, $a, $b })
+    }};
+    ($line:ident, $name:ident; $a:ident $b:ident $c:ident) => {{
+        let (($a, $b), $c) = three_copies($a, $b, $c)?;
+        Ok(Statement::$name { line: $line, $a, $b, $c })
+    }};
+    ($line:ident, $name:ident; $a:ident $b:ident $c:ident $d:ident) => {{
+        let (($a, $b), ($c, $d)) = both(two_copies($a, $b), two_copies($c, $d))?;
+        Ok(Statement::$name { line: $line, $a, $b, $c, $d })
+    }};
+    ($line:ident, $name:ident; $a:ident $b:ident $c:ident $d:ident $e:ident $f:ident) => {{
+        let ((($a, $b), $c), (($d, $e), $f)) = both(three_copies($a, $b, $c), three_copies($d, $e, $f))?;
+        Ok(Statement::$name { line: $line, $a, $b, $c, $d, $e, $f })
     }};
 }
 
 // The statement that has a line and copies of the fields of whichever member this is.
 macro_rules! copied {
-    ($family:ident, $member:ident, $line:ident; $($name:ident($($field:ident),*)),*) => {
+    ($family:ident, $member:ident, $line:ident; $($name:ident($($field:ident),+)),*) => {
         match $member {
-            $($family::$name { $($field),* } => statement!($line, $name; $($field)*),)*
+            $($family::$name { $($field),+ } => statement!($line, $name; $($field)+),)*
         }
     };
 }
@@ -117,6 +132,23 @@ impl Control<'_> {
     pub fn copied(self, line: u32) -> Result<Statement, AllocError>
         ensures { IfOk result (λ copy. copy ≡ statement_of line (Family.Control self.entry)) }
     {
-        copied!(Control, self, line; Repeat(count), If(left, relation, right), Else(), End())
+        match self {
+            Control::Repeat { count } => statement!(line, Repeat; count),
+            Control::If {
+                left,
+                relation,
+                right,
+            } => {
+                let (left, right) = two_copies(left, right)?;
+                Ok(Statement::If {
+                    line,
+                    left,
+                    relation,
+                    right,
+                })
+            }
+            Control::Else => Ok(Statement::Else { line }),
+            Control::End => Ok(Statement::End { line }),
+        }
     }
 }

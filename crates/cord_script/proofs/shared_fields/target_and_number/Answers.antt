@@ -1,9 +1,0 @@
-use Rattle.std.proofs.Common.{ℕ, List, [], ◌∷◌}
-use Rattle.cord_script.specs.Forms.Term.{Target, Value}
-use Rattle.cord_script.proofs.LineReading.{one_field, next_field}
-use Rattle.cord_script.proofs.shared_fields.target_and_number.Goals as goal
-
-pub returns : goal.returns
-returns c =
-    next_field (λ (name : List ℕ). Target c.args.target name ∷ []) Value
-    _ _ _ _ _ _ (one_field c.in_ok-prefix.ensures.gave) c.paired.ensures c.number.ensures
