@@ -1,5 +1,5 @@
 -- Each text is a script, or has a first error.
-use Rattle.std.proofs.Common.{inl, inr, ◌≡◌, ◌≤◌, ◌+◌, ◌⊎◌, ℕ, List, [], ◌∷◌, ◌++◌, refl, ap, subst, length, arith}
+use Rattle.std.proofs.Common.{inl, inr, ◌≡◌, ◌≤◌, ◌+◌, ◌⊎◌, ℕ, List, [], ◌∷◌, ◌++◌, refl, sym, ap, subst, length, arith}
 use Rattle.std.proofs.lemmas.Bool.{cases_lt}
 use Rattle.cord_printf.specs.FormatLaws.{FormatOrBad}
 use Rattle.cord_script.specs.declared.TheConstants.{MAX_SCRIPT, MAX_LINES}
@@ -73,45 +73,25 @@ stops_here g n scope line lines kind wrong =
       wrong = subst (λ m. HasBadLine g m scope line kind) here wrong;
     })
 
--- after a line that says nothing
-after_idle : (g : Grammar) (n : ℕ) (scope : Scope) (line : List ℕ) (lines : List (List ℕ)) → IsIdle line →
-    GoesOrStops g (n + 1) scope lines → GoesOrStops g n scope (line ∷ lines)
-after_idle g n scope line lines idle (inl h) =
-    inl (record { statements = h.statements; say = inl (idle, h.say); few = omega (arith, h.few) })
-after_idle g n scope line lines idle (inr h) =
+-- after a line that says these statements, which lead from one scope to another
+after_line : (g : Grammar) (n : ℕ) (scope next : Scope) (line : List ℕ) (lines : List (List ℕ)) (said : List Statement) →
+    ((ss : List Statement) → after_all (said ++ ss) scope ≡ after_all ss next) →
+    ((ls : List (List ℕ)) (ss : List Statement) → LinesSay g (n + 1) next ls ss → LinesSay g n scope (line ∷ ls) (said ++ ss)) →
+    GoesOrStops g (n + 1) next lines → GoesOrStops g n scope (line ∷ lines)
+after_line g n scope next line lines said leads say (inl h) =
+    inl (record { statements = said ++ h.statements; say = say lines h.statements h.say; few = omega (arith, h.few) })
+after_line g n scope next line lines said leads say (inr h) =
     let number : (n + 1) + length h.prefix ≡ n + length (line ∷ h.prefix) = omega arith in
     inr (record {
       prefix = line ∷ h.prefix;
       line = h.line;
       later = h.later;
       whole = ap (λ x. line ∷ x) h.whole;
-      statements = h.statements;
-      say = inl (idle, h.say);
+      statements = said ++ h.statements;
+      say = say h.prefix h.statements h.say;
       kind = h.kind;
-      wrong = subst (λ m. HasBadLine g m (after_all h.statements scope) h.line h.kind) number h.wrong;
-    })
-
--- after a line that says a statement
-after_saying : (g : Grammar) (n : ℕ) (scope : Scope) (line : List ℕ) (lines : List (List ℕ)) → ¬ IsIdle line →
-    (s : LineSays g n scope line) → GoesOrStops g (n + 1) (after s.statement scope) lines → GoesOrStops g n scope (line ∷ lines)
-after_saying g n scope line lines shows s (inl h) =
-    inl (record {
-      statements = s.statement ∷ h.statements;
-      say =
-          inr (shows, s.statement, s.words, h.statements, refl, s.has, s.says, h.say);
-      few = omega (arith, h.few);
-    })
-after_saying g n scope line lines shows s (inr h) =
-    let number : (n + 1) + length h.prefix ≡ n + length (line ∷ h.prefix) = omega arith in
-    inr (record {
-      prefix = line ∷ h.prefix;
-      line = h.line;
-      later = h.later;
-      whole = ap (λ x. line ∷ x) h.whole;
-      statements = s.statement ∷ h.statements;
-      say = inr (shows, s.statement, s.words, h.statements, refl, s.has, s.says, h.say);
-      kind = h.kind;
-      wrong = subst (λ m. HasBadLine g m (after_all h.statements (after s.statement scope)) h.line h.kind) number h.wrong;
+      wrong = subst (λ m. HasBadLine g m (after_all (said ++ h.statements) scope) h.line h.kind) number
+          (subst (λ s. HasBadLine g ((n + 1) + length h.prefix) s h.line h.kind) (sym (leads h.statements)) h.wrong);
     })
 
 -- the lines from number n on all say something, or one of them is the first that is wrong
@@ -120,9 +100,12 @@ lines_by law g n scope [] few = inl (record { statements = []; say = refl; few =
 lines_by law g n scope (line ∷ lines) few = elim (cases_lt MAX_LINES n) [
   | inl past ↦ stops_here g n scope line lines TooBig (inl (omega (arith, few, past), refl))
   | inr low ↦ elim (idle_or_not line) [
-    | inl idle ↦ after_idle g n scope line lines idle (lines_by law g (n + 1) scope lines (omega (arith, low)))
+    | inl idle ↦ after_line g n scope scope line lines [] (λ ss. refl) (λ ls ss say. inl (idle, say))
+        (lines_by law g (n + 1) scope lines (omega (arith, low)))
     | inr shows ↦ elim (line_or_bad law g n scope line low shows) [
-      | inl s ↦ after_saying g n scope line lines shows s (lines_by law g (n + 1) (after s.statement scope) lines (omega (arith, low)))
+      | inl s ↦ after_line g n scope (after s.statement scope) line lines (s.statement ∷ []) (λ ss. refl)
+          (λ ls ss say. inr (shows, s.statement, s.words, ss, refl, s.has, s.says, say))
+          (lines_by law g (n + 1) (after s.statement scope) lines (omega (arith, low)))
       | inr bad ↦ stops_here g n scope line lines bad.0 bad.1
     ]
   ]

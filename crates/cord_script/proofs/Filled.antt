@@ -53,14 +53,13 @@ use Rattle.cord_script.specs.FirstErrors.{arguments_error, words_error, wants_of
 use Rattle.cord_script.specs.FirstErrors.{HasFormError}
 use Rattle.cord_script.specs.FirstErrors.{HasBadWords}
 use Rattle.cord_script.specs.inner.Fields.{want_of}
-use Rattle.cord_script.specs.inner.ContextViews.{terms_error}
 use Rattle.cord_script.specs.inner.Verbal.{verb_word, all_verbs, find_verb, form_at}
 use Rattle.cord_script.proofs.Spelled.{both, chosen}
 use Rattle.cord_script.proofs.Checked.{neither, holds}
 use Rattle.cord_script.proofs.Firsts.{same_bytes}
 use Rattle.cord_script.proofs.Terms.{either}
 use Rattle.cord_script.proofs.Tabled.{form_found}
-use Rattle.cord_script.proofs.Allowed.{names_same, all_allowed, block_right}
+use Rattle.cord_script.proofs.Allowed.{all_allowed, block_right}
 use Rattle.cord_script.proofs.OneStatement.{fixed_made}
 
 -- what a word says where this is wanted
@@ -315,9 +314,7 @@ well_said g n scope p ws v form formats has spelled is format fine =
     let b = neither (words_error shape formats ws) (first_of names blocks) a.1 in
     let c = neither names blocks b.1 in
     let f = subst (Fills (verb_word v) n ws) is (filled v n ws) formats format (holds (is_count shape (length ws)) WrongCount a.0) b.0 in
-    let ts = terms_of f.statement in
-    let known : terms_error scope ts ≡ None =
-    sym (names_same scope ws ts f.terms) ∙ ap (λ k. names_error scope k ws) (sym f.wanted) ∙ c.0 in (
+    let known = ap (λ k. names_error scope k ws) (sym f.wanted) ∙ c.0 in (
       f.statement,
       record {
         has = ap g.has (f.named ∙ sym spelled) ∙ has;
@@ -326,7 +323,7 @@ well_said g n scope p ws v form formats has spelled is format fine =
         word = ap (λ k. Plain k ∷ ws) (spelled ∙ sym f.named);
         terms = f.terms;
         suits = f.suits;
-        allowed = all_allowed scope ts known;
+        allowed = all_allowed scope ws (terms_of f.statement) f.terms known;
         blocks = subst (λ k. FitsBlocks k scope.blocks) (sym f.leads) (block_right form.effect scope.blocks c.1);
       },
     )

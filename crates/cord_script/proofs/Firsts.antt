@@ -29,27 +29,20 @@ pub kind_at : (names : List Known) (i : ℕ) (entry : Known) (name : List ℕ) �
     entry.name ≡ name → kind_of names name ≡ Some entry.kind
 kind_at names i entry name first at same = ap (kind_of names) (sym same) ∙ first i entry at
 
--- names that are added change no kind
-kept : (names more : List Known) (name : List ℕ) (kind : Kind) → kind_of names name ≡ Some kind → kind_of (names ++ more) name ≡ Some kind
-kept [] more name kind h = let bad : ⊥ = cc in absurd bad
-kept (k ∷ ks) more name kind h = by_name (bytes_eq k.name name) h (λ e. kept ks more name kind e)
-  where
-    by_name : (b : Bool) → (if b then Some k.kind else kind_of ks name) ≡ Some kind →
-        (kind_of ks name ≡ Some kind → kind_of (ks ++ more) name ≡ Some kind) → (if b then Some k.kind else kind_of (ks ++ more) name)
-        ≡ Some kind
-    by_name true e ih = e
-    by_name false e ih = ih e
+-- the first of two that is something
+abbrev or_else : Option Kind → Option Kind → Option Kind
+or_else None o = o
+or_else (Some k) o = Some k
 
--- the kind of a name that stands among those that are added alone
-added : (names more : List Known) (name : List ℕ) → kind_of names name ≡ None → kind_of (names ++ more) name ≡ kind_of more name
-added [] more name h = refl
-added (k ∷ ks) more name h = by_name (bytes_eq k.name name) h (λ e. added ks more name e)
+-- the kind of a name among names and more: the first that is one
+kind_among : (names more : List Known) (name : List ℕ) → kind_of (names ++ more) name ≡ or_else (kind_of names name) (kind_of more name)
+kind_among [] more name = refl
+kind_among (k ∷ ks) more name = by_name (bytes_eq k.name name) (kind_among ks more name)
   where
-    by_name : (b : Bool) → (if b then Some k.kind else kind_of ks name) ≡ None →
-        (kind_of ks name ≡ None → kind_of (ks ++ more) name ≡ kind_of more name) → (if b then Some k.kind else kind_of (ks ++ more) name)
-        ≡ kind_of more name
-    by_name true e ih = let bad : ⊥ = cc in absurd bad
-    by_name false e ih = ih e
+    by_name : (b : Bool) → kind_of (ks ++ more) name ≡ or_else (kind_of ks name) (kind_of more name) →
+        (if b then Some k.kind else kind_of (ks ++ more) name) ≡ or_else (if b then Some k.kind else kind_of ks name) (kind_of more name)
+    by_name true h = refl
+    by_name false h = h
 
 -- an entry stands among the others, or is the last
 at_push : (names : List Known) (last : Known) (i : ℕ) (entry : Known) → slice_get (names ++ last ∷ []) i ≡ Some entry →
@@ -67,8 +60,9 @@ first_push names last first new i entry e = by_place (at_push names last i entry
     own = rw (own_bytes last.name) refl
 
     by_place : (slice_get names i ≡ Some entry) ⊎ (last ≡ entry) → kind_of (names ++ last ∷ []) entry.name ≡ Some entry.kind
-    by_place (inl at) = kept names (last ∷ []) entry.name entry.kind (first i entry at)
-    by_place (inr is) = rw (← is) (added names (last ∷ []) last.name new ∙ own)
+    by_place (inl at) =
+        kind_among names (last ∷ []) entry.name ∙ ap (λ o. or_else o (kind_of (last ∷ []) entry.name)) (first i entry at)
+    by_place (inr is) = rw (← is) (kind_among names (last ∷ []) last.name ∙ ap (λ o. or_else o (kind_of (last ∷ []) last.name)) new ∙ own)
 
 -- a name that is known is a name
 pub known_name : (names : List Known) (name : List ℕ) (kind : Kind) → AreNames names → kind_of names name ≡ Some kind →

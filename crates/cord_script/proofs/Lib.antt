@@ -9,10 +9,8 @@ pub mod FormErrors
 pub mod LineReading
 pub mod Lines
 pub mod Magnitudes
-pub mod Paths
 pub mod Readings
 pub mod Samples
-pub mod Same
 pub mod Single
 pub mod Spelled
 pub mod OneStatement

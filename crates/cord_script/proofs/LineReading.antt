@@ -1,24 +1,17 @@
 -- What the words of a line give.
-use Rattle.std.proofs.Common.{◌≡◌, ◌∙◌, ℕ, List, [], ◌∷◌, ◌++◌, refl, sym, ap, subst, map, IfOk}
+use Rattle.std.proofs.Common.{◌≡◌, ◌∙◌, ℕ, List, [], ◌∷◌, ◌++◌, refl, sym, ap, subst, map}
 use Rattle.std.proofs.lemmas.List.{map-append}
-use Rattle.std.specs.Prelude.{All, Result, Ok, Err}
-use Rattle.cord_operands.specs.declared.operands.Argument.{Argument}
-use Rattle.cord_printf.specs.declared.pieces.Piece.{Piece}
-use Rattle.cord_printf.specs.Format.{IsFormat}
-use Rattle.cord_script.specs.declared.kinds.Kind.TheVariants as kinds
+use Rattle.std.specs.Prelude.{All}
 use Rattle.cord_script.specs.declared.table.Known.{Known}
 use Rattle.cord_script.specs.declared.verbs.FixedVerb.{FixedVerb}
 use Rattle.cord_script.specs.declared.verbs.Verb.{Verb}
-use Rattle.cord_script.specs.declared.verbs.Verb.TheVariants as verbs
 use Rattle.cord_script.specs.declared.words.Word.{Word}
 use Rattle.cord_syntax.specs.declared.statements.Statement.{Statement}
-use Rattle.cord_syntax.specs.declared.statements.Statement.TheVariants.{Sprintf}
 use Rattle.cord_script.specs.Words.{IsBlank, StartsWith}
-use Rattle.cord_script.specs.Formats.{wants_of_pieces}
-use Rattle.cord_script.specs.Forms.{Term, terms_of, argument_term, argument_want}
-use Rattle.cord_script.specs.Forms.Term.{Target, FilePath, Formats}
+use Rattle.cord_script.specs.Forms.{Term, terms_of}
+use Rattle.cord_script.specs.Forms.Term.{Target, FilePath}
 use Rattle.cord_script.specs.Script.{IsTerm, AreTerms, IsAllowed, AreAllowed, names_after, paths_after}
-use Rattle.cord_script.specs.inner.LineReading.{LineView, IsFresh, PassesWord, GivesTerm, GivesAll, IsStatementBuilt, SaysLine, paired}
+use Rattle.cord_script.specs.inner.LineReading.{LineView, IsFresh, PassesWord, GivesTerm, GivesAll, IsStatementBuilt, SaysLine}
 use Rattle.cord_script.specs.inner.LineReading.{names_with, paths_with}
 use Rattle.cord_script.specs.inner.Verbal.{fixed_word}
 
@@ -34,35 +27,17 @@ first_field {b = b} c ts h more = (b, h, more)
 pub one_field : {a b : LineView} {t : Term} → GivesTerm a t b → GivesAll a (t ∷ []) b
 one_field {b = b} h = first_field b [] h (no_field b)
 
--- one more field, after others
-pub last_field : (ts : List Term) (t : Term) (a b c : LineView) → GivesAll a ts b → GivesTerm b t c → GivesAll a (ts ++ t ∷ []) c
+-- fields, and then others
+pub all_given : (ts us : List Term) (a b c : LineView) → GivesAll a ts b → GivesAll b us c → GivesAll a (ts ++ us) c
 unfolding GivesAll
-last_field [] t a b c h k = (c, subst (λ s. GivesTerm s t c) (sym h) k, refl)
-last_field (u ∷ us) t a b c h k = (h.0, h.1, last_field us t h.0 b c h.2 k)
-
--- a field that was asked for after others, unless it was refused
-pub next_field : {X Y E : Type 0} (ts : X → List Term) (u : Y → Term) (a b c : LineView) (before : X) (next : Result Y E)
-    (all : Result (X × Y) E) → GivesAll a (ts before) b → all ≡ paired before next → IfOk next (λ y. GivesTerm b (u y) c) →
-    IfOk all (λ p. GivesAll a (ts p.0 ++ u p.1 ∷ []) c)
-next_field ts u a b c before (Ok y) all h e k =
-    subst (λ r. IfOk r (λ p. GivesAll a (ts p.0 ++ u p.1 ∷ []) c)) (sym e) (last_field (ts before) (u y) a b c h k)
-next_field ts u a b c before (Err x) all h e k = subst (λ r. IfOk r (λ p. GivesAll a (ts p.0 ++ u p.1 ∷ []) c)) (sym e) tt
+all_given [] us a b c h k = subst (λ s. GivesAll s us c) (sym h) k
+all_given (t ∷ ts) us a b c h k = (h.0, h.1, all_given ts us h.0 b c h.2 k)
 
 -- one more field of a list
 pub field_pushed : {X : Type 0} (f : X → Term) (xs grown : List X) (x : X) (a b c : LineView) → grown ≡ xs ++ x ∷ [] →
     GivesAll a (map f xs) b → GivesTerm b (f x) c → GivesAll a (map f grown) c
 field_pushed f xs grown x a b c e h k =
-    subst (λ ts. GivesAll a ts c) (sym (ap (map f) e ∙ map-append f xs (x ∷ []))) (last_field (map f xs) (f x) a b c h k)
-
--- a `sprintf` of what its words give
-pub sprintf_built : (line : ℕ) (old new : LineView) (target text : List ℕ) (format : List Piece) (args : List Argument)
-    (target_put text_put : List ℕ) (format_put : List Piece) (args_put : List Argument) → target_put ≡ target → text_put ≡ text →
-    format_put ≡ format → args_put ≡ args → GivesAll old (Target kinds.Cord target ∷ Formats text ∷ map argument_term args) new →
-    IsFormat text format → map argument_want args ≡ wants_of_pieces format →
-    IsStatementBuilt verbs.Sprintf line old new (Sprintf line target_put text_put format_put args_put)
-sprintf_built line old new target text format args target_put text_put format_put args_put a b c d fields is wants =
-    let same : Sprintf line target text format args ≡ Sprintf line target_put text_put format_put args_put = cc in
-    subst (IsStatementBuilt verbs.Sprintf line old new) same (record { word = refl; effect = refl; numbered = refl; fields = fields; suits = (is, wants) })
+    subst (λ ts. GivesAll a ts c) (sym (ap (map f) e ∙ map-append f xs (x ∷ []))) (all_given (map f xs) (f x ∷ []) a b c h (one_field k))
 
 -- the word of a verb that is reported
 pub spelled : {V : Type 0} (of : V → FixedVerb) {a b : V} → a ≡ b → fixed_word (of b) ≡ fixed_word (of a)

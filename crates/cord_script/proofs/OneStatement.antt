@@ -37,7 +37,7 @@ use Rattle.cord_script.specs.FirstErrors.{HasBadWords}
 use Rattle.cord_script.proofs.Checked.{neither}
 use Rattle.cord_script.proofs.Unique.{within}
 use Rattle.cord_script.specs.inner.Fields.{want_of}
-use Rattle.cord_script.proofs.Allowed.{names_same, none_wrong}
+use Rattle.cord_script.proofs.Allowed.{none_wrong}
 use Rattle.cord_script.proofs.Terms.{words_fit, terms_count, one_list}
 
 -- The form of a statement's word, with what its words have to be.
@@ -178,7 +178,7 @@ fine_form g n scope words s says r =
     (names_error scope (wants_of r.form.shape r.formats others) others) (block_error r.form.effect scope.blocks)
     (ap (λ b. unless b WrongCount) r.count)
     (r.words (words_fit others ts says.terms))
-    (ap (λ k. names_error scope k others) r.wants ∙ names_same scope others ts says.terms ∙ none_wrong scope ts says.allowed)
+    (ap (λ k. names_error scope k others) r.wants ∙ none_wrong scope others ts says.terms says.allowed)
     (ap (λ e. block_error e scope.blocks) r.effect ∙ block_none (effect_of s) scope.blocks says.blocks)
 
 -- a text is a format in one way

@@ -7,7 +7,7 @@ use Rattle.cord_script.specs.declared.TheConstants.{MAX_SCRIPT, MAX_LINES}
 use Rattle.cord_script.specs.declared.words.Word.{Word}
 use Rattle.cord_syntax.specs.declared.statements.Statement.{Statement}
 use Rattle.cord_script.specs.declared.refusals.RefusalKind.{RefusalKind}
-use Rattle.cord_script.specs.declared.refusals.RefusalKind.TheVariants.{TooBig, NoMemory}
+use Rattle.cord_script.specs.declared.refusals.RefusalKind.TheVariants.{NoMemory}
 use Rattle.cord_script.specs.Words.{IsSplit, IsIdle, HasWords}
 use Rattle.cord_syntax.specs.Lines.{line_of}
 use Rattle.cord_script.specs.Forms.{Grammar}
@@ -136,7 +136,7 @@ left_found (InRepeat line ∷ blocks) n kind h = λ e. cc
 left_found (InIf line ∷ blocks) n kind h = λ e. cc
 left_found (InElse line ∷ blocks) n kind h = λ e. cc
 
--- a line that is too much, or wrong
+-- the first line that is wrong
 pub stops : (b rest suffix line : List ℕ) (n : ℕ) (scope : Scope) (ss : List Statement) (kind : RefusalKind) → length b ≤ MAX_SCRIPT →
     HasReadLines b rest n scope ss → ((lines : List (List ℕ)) → IsSplit suffix lines → IsSplit rest (line ∷ lines)) →
     HasBadLine whole n scope line kind → FirstErrorBy whole b n kind
@@ -153,27 +153,6 @@ stops b rest suffix line n scope ss kind small r first wrong =
       say = r.say;
       wrong = subst (λ x. HasBadLine whole n x line kind) (sym r.leaves) wrong;
     }))
-
-too_many_by : (b rest : List ℕ) (n : ℕ) (scope : Scope) (ss : List Statement) (lines : List (List ℕ)) → length b ≤ MAX_SCRIPT →
-    HasReadLines b rest n scope ss → rest ≢ [] → n ≡ MAX_LINES + 1 → IsSplit rest lines → FirstErrorBy whole b n TooBig
-too_many_by b rest n scope ss [] small r some e h = absurd (some h)
-too_many_by b rest n scope ss (line ∷ later) small r some e h =
-    inr (inl (record {
-      size = small;
-      prefix = r.prefix;
-      line = line;
-      later = later;
-      split = r.split (line ∷ later) h;
-      number = r.number;
-      statements = ss;
-      say = r.say;
-      wrong = inl (e, refl);
-    }))
-
--- more lines than there may be
-pub too_many : (b rest : List ℕ) (n : ℕ) (scope : Scope) (ss : List Statement) → length b ≤ MAX_SCRIPT → HasReadLines b rest n scope ss →
-    rest ≢ [] → n ≡ MAX_LINES + 1 → FirstErrorBy whole b n TooBig
-too_many b rest n scope ss small r some e = let later = some_lines rest in too_many_by b rest n scope ss later.0 small r some e later.1
 
 -- a line that is wrong
 pub is_wrong : (n : ℕ) (line : List ℕ) (scope : Scope) (kind : RefusalKind) → n ≤ MAX_LINES → HasWrong line scope kind →
@@ -219,10 +198,6 @@ leaves_open b rest n at scope ss kind small few e r h = open_by b rest n at scop
 pub no_bytes : (xs : List ℕ) → length xs ≡ 0 → xs ≡ []
 no_bytes [] e = refl
 no_bytes (x ∷ xs) e = absurd (omega arith)
-
--- something is left
-pub some_bytes : (xs : List ℕ) → (length xs == 0) ≡ false → xs ≢ []
-some_bytes xs h e = eqb-false (length xs) 0 h (ap length e)
 
 -- one more statement with a number
 pub numbered_push : (ss : List Statement) (s : Statement) → All (λ x. 1 ≤ line_of x) ss → 1 ≤ line_of s →

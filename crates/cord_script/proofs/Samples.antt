@@ -166,16 +166,28 @@ not_idle c rest b n idle =
     ]
 
 -- no byte 10
-abbrev pub no_end : ℕ → Bool
+abbrev no_end : ℕ → Bool
 no_end c = not (c == 10)
 
-pub in_line : (l : List ℕ) → each no_end l ≡ true → All (λ c. c ≢ 10) l
+in_line : (l : List ℕ) → each no_end l ≡ true → All (λ c. c ≢ 10) l
 in_line l h = all_by no_end (λ c. c ≢ 10) (λ c t. eqb-false c 10 (true_not (c == 10) t)) l h
 
--- the last line
-pub last_line : (l : List ℕ) → each no_end l ≡ true → some l ≡ true → IsSplit l (l ∷ [])
-last_line l h s = (in_line l h, inl (refl, some_is l s, refl))
+-- the bytes of lines
+abbrev pub text_of : List (List ℕ) → List ℕ
+text_of [] = []
+text_of (l ∷ []) = l
+text_of (l ∷ m ∷ ls) = l ++ 10 ∷ text_of (m ∷ ls)
 
--- a line in front of others
-pub more_lines : (l rest : List ℕ) (ls : List (List ℕ)) → each no_end l ≡ true → IsSplit rest ls → IsSplit (l ++ 10 ∷ rest) (l ∷ ls)
-more_lines l rest ls h s = (in_line l h, inr (rest, refl, s))
+-- no line has a byte 10, and the last has a byte
+abbrev pub are_lines : List (List ℕ) → Bool
+are_lines [] = true
+are_lines (l ∷ []) = each no_end l && some l
+are_lines (l ∷ m ∷ ls) = each no_end l && are_lines (m ∷ ls)
+
+-- these are the lines of their bytes
+pub splits : (ls : List (List ℕ)) → are_lines ls ≡ true → IsSplit (text_of ls) ls
+splits [] h = refl
+splits (l ∷ []) h = let p = both (each no_end l) (some l) h in (in_line l p.0, inl (refl, some_is l p.1, refl))
+splits (l ∷ m ∷ ls) h =
+    let p = both (each no_end l) (are_lines (m ∷ ls)) h in
+    (in_line l p.0, inr (text_of (m ∷ ls), refl, splits (m ∷ ls) p.1))

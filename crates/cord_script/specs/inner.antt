@@ -1,5 +1,4 @@
 pub mod ContextViews
-pub mod Contexts
 pub mod Diagnosis
 pub mod Fields
 pub mod LineReading

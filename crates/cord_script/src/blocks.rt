@@ -3,7 +3,7 @@ ghost use Rattle.std.specs.Prelude.{◌≡◌, ◌∷◌, [], map, OnOk, MatchOp
 ghost use Rattle.cord_script.specs.Script.{blocks_after, turned};
 ghost use Rattle.cord_script.specs.FirstErrors.{block_error, else_error};
 ghost use Rattle.cord_script.specs.inner.ContextViews.{block_of, IsInnermostOpen};
-ghost use Rattle.cord_script.specs.inner.Verbal.{control_effect, verb_effect};
+ghost use Rattle.cord_script.specs.inner.Verbal.{verb_effect};
 
 use crate::verbs::{Control, FixedVerb, Verb};
 use crate::{MAX_BLOCKS, Refusal, RefusalKind};
@@ -29,26 +29,19 @@ fn else_error(blocks: &VecDeque<Open>) -> Option<RefusalKind>
     }
 }
 
-// What is wrong with a statement that leads the run.
-fn control_error(control: Control, blocks: &VecDeque<Open>) -> Option<RefusalKind>
-    ensures { result ≡ block_error (control_effect control) (map block_of blocks.now.items) }
+/// What is wrong with a statement after these open blocks.
+pub fn block_error(verb: Verb, blocks: &VecDeque<Open>) -> Option<RefusalKind>
+    ensures { result ≡ block_error (verb_effect verb) (map block_of blocks.now.items) }
 {
+    let Verb::Fixed(FixedVerb::Control(control)) = verb else {
+        return None;
+    };
     match control {
         Control::Repeat | Control::If if blocks.len() >= MAX_BLOCKS => Some(RefusalKind::TooDeep),
         Control::Repeat | Control::If => None,
         Control::Else => else_error(blocks),
         Control::End if blocks.is_empty() => Some(RefusalKind::EndAlone),
         Control::End => None,
-    }
-}
-
-/// What is wrong with a statement after these open blocks.
-pub fn block_error(verb: Verb, blocks: &VecDeque<Open>) -> Option<RefusalKind>
-    ensures { result ≡ block_error (verb_effect verb) (map block_of blocks.now.items) }
-{
-    match verb {
-        Verb::Fixed(FixedVerb::Control(control)) => control_error(control, blocks),
-        _ => None,
     }
 }
 
@@ -71,11 +64,14 @@ fn turn(blocks: &mut VecDeque<Open>) -> Result<(), AllocError>
     }
 }
 
-// The open blocks after a statement at a line that leads the run.
-fn set_control(control: Control, line: u32, blocks: &mut VecDeque<Open>) -> Result<(), AllocError>
+/// The open blocks after a statement at a line.
+pub fn set_blocks(verb: Verb, line: u32, blocks: &mut VecDeque<Open>) -> Result<(), AllocError>
     ensures blocks { OnOk result (map block_of blocks.new.items
-        ≡ blocks_after (control_effect control) line (map block_of blocks.old.items)) }
+        ≡ blocks_after (verb_effect verb) line (map block_of blocks.old.items)) }
 {
+    let Verb::Fixed(FixedVerb::Control(control)) = verb else {
+        return Ok(());
+    };
     match control {
         Control::Repeat => add_block(blocks, Open::Repeat(line)),
         Control::If => add_block(blocks, Open::If(line)),
@@ -84,17 +80,6 @@ fn set_control(control: Control, line: u32, blocks: &mut VecDeque<Open>) -> Resu
             let _ = blocks.pop_front();
             Ok(())
         }
-    }
-}
-
-/// The open blocks after a statement at a line.
-pub fn set_blocks(verb: Verb, line: u32, blocks: &mut VecDeque<Open>) -> Result<(), AllocError>
-    ensures blocks { OnOk result (map block_of blocks.new.items
-        ≡ blocks_after (verb_effect verb) line (map block_of blocks.old.items)) }
-{
-    match verb {
-        Verb::Fixed(FixedVerb::Control(control)) => set_control(control, line, blocks),
-        _ => Ok(()),
     }
 }
 

@@ -1,13 +1,14 @@
 // What is wrong with a line that isn't read.
-ghost use Rattle.std.specs.Prelude.{◌≡◌, ◌≢◌, [], Some, IfOk, IfErr, option_map};
+ghost use Rattle.std.specs.Prelude.{◌≡◌, ◌≢◌, ◌++◌, [], Some, IfOk, IfErr, option_map};
 ghost use Rattle.cord_script.specs.declared.words.Word.TheVariants.{Plain};
 ghost use Rattle.cord_script.specs.Words.{IsIdle};
 ghost use Rattle.cord_script.specs.Forms.{form_of};
 ghost use Rattle.cord_script.specs.Forms.Shape.{Joined, Printed};
 ghost use Rattle.cord_script.specs.Forms.Effect.{Stays};
-ghost use Rattle.cord_script.specs.FirstErrors.{HasFormat, HasFormError, HasBadWords};
+ghost use Rattle.cord_script.specs.FirstErrors.{HasFormat, HasFormError, HasBadWords, format_wants};
 ghost use Rattle.cord_script.specs.Script.{whole};
 ghost use Rattle.cord_script.specs.inner.ContextViews.{scope_of};
+ghost use Rattle.cord_script.specs.inner.Diagnosis.{wanted_error};
 ghost use Rattle.cord_script.specs.inner.Steps.{HasWrong};
 ghost use Rattle.cord_script.specs.inner.Verbal.{fixed_word, verb_word};
 
@@ -86,6 +87,21 @@ fn printed_wants(alloc: Global, words: &[Word]) -> Result<Option<Vec<Want>>, All
     Ok(Some(wants_of_pieces(alloc, format.pieces())?))
 }
 
+// What is wrong with the words after `sprintf`, where this is wanted of its arguments.
+fn arguments_error(
+    alloc: Global,
+    context: &Context,
+    arguments: &[Want],
+    words: &[Word],
+) -> Result<(), RefusalKind>
+    ensures { IfErr result (λ kind. kind ≢ RefusalKind.NoMemory →
+        wanted_error Stays (scope_of context.now) (format_wants ++ arguments.now) words.now ≡ Some kind) }
+{
+    let mut wants = Vec::from_slice(alloc, &PRINTED)?;
+    wants.extend_from_slice(arguments)?;
+    none_of(wanted_error(context, Verb::Sprintf, &wants, words))
+}
+
 // What is wrong with the words after `sprintf`.
 fn printed_error(alloc: Global, context: &Context, words: &[Word]) -> Result<(), RefusalKind>
     ensures { IfErr result (λ kind. kind ≢ RefusalKind.NoMemory →
@@ -101,9 +117,7 @@ fn printed_error(alloc: Global, context: &Context, words: &[Word]) -> Result<(),
     let Some(arguments) = arguments else {
         return Err(RefusalKind::BadFormat);
     };
-    let mut wants = Vec::from_slice(alloc, &PRINTED)?;
-    wants.extend_from_slice(&arguments)?;
-    none_of(wanted_error(context, Verb::Sprintf, &wants, words))
+    arguments_error(alloc, context, &arguments, words)
 }
 
 // What is wrong with the words after a verb.

@@ -1,8 +1,6 @@
 // What is wrong first with words where something is wanted of each, by the order of the refusals.
 ghost use Rattle.std.specs.Prelude.{◌≡◌};
-ghost use Rattle.cord_script.specs.FirstErrors.{unless, misfit, name_misfit, number_misfit, text_misfit, path_misfit};
-ghost use Rattle.cord_script.specs.FirstErrors.{function_misfit, relation_misfit, first_pair, number_error};
-ghost use Rattle.cord_script.specs.FirstErrors.{operand_error};
+ghost use Rattle.cord_script.specs.FirstErrors.{unless, misfit, first_pair, number_error, operand_error};
 ghost use Rattle.cord_script.specs.FirstErrors.{word_target_error, word_path_error, plain_number_misfit, names_error};
 ghost use Rattle.cord_script.specs.inner.ContextViews.{scope_of};
 ghost use Rattle.cord_script.specs.inner.Diagnosis.{pair_error, wanted_error};
@@ -39,16 +37,6 @@ fn unless(test: bool, kind: RefusalKind) -> Option<RefusalKind>
     if test { None } else { Some(kind) }
 }
 
-// What is wrong with a word where a name is wanted.
-fn name_misfit(word: &Word) -> Option<RefusalKind>
-    ensures { result ≡ name_misfit word.now }
-{
-    match word {
-        Word::Plain(name) => unless(is_name(name.as_slice()), RefusalKind::BadName),
-        Word::Quoted(_) => Some(RefusalKind::BadName),
-    }
-}
-
 // What is wrong with a plain word where a number operand is wanted.
 fn plain_number_misfit(word: &[u8]) -> Option<RefusalKind>
     ensures { result ≡ plain_number_misfit word.now }
@@ -59,61 +47,38 @@ fn plain_number_misfit(word: &[u8]) -> Option<RefusalKind>
     unless(is_name(word), RefusalKind::BadName)
 }
 
-// What is wrong with a word where a number operand is wanted.
-fn number_misfit(word: &Word) -> Option<RefusalKind>
-    ensures { result ≡ number_misfit word.now }
+// What is wrong with a plain word by itself, where this is wanted.
+fn plain_misfit(want: Want, word: &[u8]) -> Option<RefusalKind>
+    ensures { result ≡ misfit want (Word.Plain word.now) }
 {
-    match word {
-        Word::Plain(word) => plain_number_misfit(word.as_slice()),
-        Word::Quoted(_) => Some(RefusalKind::BadNumber),
+    match want {
+        Want::Target(_) | Want::Operand(_) => unless(is_name(word), RefusalKind::BadName),
+        Want::Number => plain_number_misfit(word),
+        Want::Text | Want::Path | Want::Format => Some(RefusalKind::WrongKind),
+        Want::Function => unless(function_of(word).is_some(), RefusalKind::BadName),
+        Want::Relation => unless(relation_of(word).is_some(), RefusalKind::BadName),
     }
 }
 
-// What is wrong with a word where a quoted one is wanted.
-fn text_misfit(word: &Word) -> Option<RefusalKind>
-    ensures { result ≡ text_misfit word.now }
+// What is wrong with a quoted word by itself, where this is wanted.
+fn quoted_misfit(want: Want, text: &[u8]) -> Option<RefusalKind>
+    ensures { result ≡ misfit want (Word.Quoted text.now) }
 {
-    match word {
-        Word::Plain(_) => Some(RefusalKind::WrongKind),
-        Word::Quoted(_) => None,
+    match want {
+        Want::Number => Some(RefusalKind::BadNumber),
+        Want::Text | Want::Format => None,
+        Want::Path => unless(is_path(text), RefusalKind::BadName),
+        _ => Some(RefusalKind::BadName),
     }
-}
-
-// What is wrong with a word where a path is wanted.
-fn path_misfit(word: &Word) -> Option<RefusalKind>
-    ensures { result ≡ path_misfit word.now }
-{
-    match word {
-        Word::Plain(_) => Some(RefusalKind::WrongKind),
-        Word::Quoted(path) => unless(is_path(path.as_slice()), RefusalKind::BadName),
-    }
-}
-
-// What is wrong with a word where a function is wanted.
-fn function_misfit(word: &Word) -> Option<RefusalKind>
-    ensures { result ≡ function_misfit word.now }
-{
-    function_of(word).err()
-}
-
-// What is wrong with a word where a relation is wanted.
-fn relation_misfit(word: &Word) -> Option<RefusalKind>
-    ensures { result ≡ relation_misfit word.now }
-{
-    relation_of(word).err()
 }
 
 // What is wrong with a word by itself, where this is wanted.
 fn misfit(want: Want, word: &Word) -> Option<RefusalKind>
     ensures { result ≡ misfit want word.now }
 {
-    match want {
-        Want::Target(_) | Want::Operand(_) => name_misfit(word),
-        Want::Number => number_misfit(word),
-        Want::Text | Want::Format => text_misfit(word),
-        Want::Path => path_misfit(word),
-        Want::Function => function_misfit(word),
-        Want::Relation => relation_misfit(word),
+    match word {
+        Word::Plain(word) => plain_misfit(want, word.as_slice()),
+        Word::Quoted(text) => quoted_misfit(want, text.as_slice()),
     }
 }
 

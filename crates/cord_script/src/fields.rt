@@ -1,14 +1,13 @@
 // What a word says that is a path, a function or a relation.
-ghost use Rattle.std.specs.Prelude.{◌≡◌, ◌≢◌, true, false, Some, IfOk, IfErr, IfSome, IfNone, ℕ, List};
+ghost use Rattle.std.specs.Prelude.{◌≡◌, true, false, is_some, IfSome, ℕ, List};
 ghost use Rattle.std.specs.Str.{is_utf8};
 ghost use Rattle.cord_script.specs.Tests.{each, is_path, begins_numeral, function_word, relation_word};
-ghost use Rattle.cord_script.specs.FirstErrors.{path_misfit, function_misfit, relation_misfit};
-ghost use Rattle.cord_script.specs.inner.Fields.{is_path_text, is_no_zero};
+ghost use Rattle.cord_script.specs.FirstErrors.{unless, function_misfit, relation_misfit};
+ghost use Rattle.cord_script.specs.inner.Fields.{is_no_zero};
 
 use crate::numerals::is_digit;
 use crate::words::Word;
-use crate::{Function, MAX_PATH, Path, RefusalKind, Relation};
-use memchr::memchr;
+use crate::{Function, MAX_PATH, Path, RefusalKind, Relation, Text};
 
 /// Whether a word begins as a numeral: with a digit or `-`.
 pub fn begins_numeral(word: &[u8]) -> bool
@@ -24,25 +23,12 @@ pub fn begins_numeral(word: &[u8]) -> bool
 fn has_no_zero(bytes: &[u8]) -> bool
     ensures { result ≡ each is_no_zero bytes.now }
 {
-    memchr(0, bytes).is_none()
-}
-
-// Whether bytes that are UTF-8 are a path.
-fn is_path_text(path: &[u8]) -> bool
-    ensures { result ≡ is_path_text path.now }
-{
-    !path.is_empty() && path.len() <= MAX_PATH && has_no_zero(path)
-}
-
-// The path of bytes that are UTF-8.
-fn utf8_path(bytes: Vec<u8>) -> Option<Path>
-    ensures some { IfSome result (λ path. (path ≡ bytes.items) × (is_utf8 bytes.items ≡ true)) }
-    ensures none { IfNone result (is_utf8 bytes.items ≡ false) }
-{
-    match String::from_utf8(bytes) {
-        Ok(text) => Some(Path::of(text)),
-        Err(_) => None,
+    for byte in bytes {
+        if *byte == 0 {
+            return false;
+        }
     }
+    true
 }
 
 // Whether bytes are UTF-8.
@@ -53,63 +39,48 @@ fn is_utf8(bytes: &[u8]) -> bool
 }
 
 /// Whether bytes are a path.
-#[tactic(auto, using(crate::proofs::Paths::path_reported))]
-pub fn is_path(bytes: &[u8]) -> bool
-    ensures { result ≡ is_path bytes.now }
+pub fn is_path(path: &[u8]) -> bool
+    ensures { result ≡ is_path path.now }
 {
-    is_path_text(bytes) && is_utf8(bytes)
+    !path.is_empty() && path.len() <= MAX_PATH && has_no_zero(path) && is_utf8(path)
 }
 
-/// Where a path is wanted.
-pub fn path_of(word: Word) -> Result<Path, RefusalKind>
-    ensures path { IfOk result (λ path. (word.entry ≡ Word.Quoted path) × (is_path path ≡ true)) }
-    ensures first_error { IfErr result (λ kind. path_misfit word.entry ≡ Some kind) }
+/// The path of a text, where it is one.
+pub fn path_of(text: Text) -> Option<Path>
+    ensures { IfSome result (λ path. (path ≡ text) × (is_path path ≡ true)) }
 {
-    let Word::Quoted(text) = word else {
-        return Err(RefusalKind::WrongKind);
-    };
-    if !is_path_text(text.as_slice()) {
-        return Err(RefusalKind::BadName);
+    if !is_path(text.as_slice()) {
+        return None;
     }
-    let Some(path) = utf8_path(text.into_vec()) else {
-        return Err(RefusalKind::BadName);
-    };
-    Ok(path)
+    match String::from_utf8(text.into_vec()) {
+        Ok(path) => Some(Path::of(path)),
+        Err(_) => None,
+    }
 }
 
-/// Where a function is wanted.
-pub fn function_of(word: &Word) -> Result<Function, RefusalKind>
-    ensures function { IfOk result (λ function. word.now ≡ Word.Plain (function_word function)) }
-    ensures first_error { IfErr result (λ kind. function_misfit word.now ≡ Some kind) }
+/// The function of a plain word, where it is one's.
+pub fn function_of(word: &[u8]) -> Option<Function>
+    ensures function { IfSome result (λ function. word.now ≡ function_word function) }
+    ensures misfit { function_misfit (Word.Plain word.now) ≡ unless (is_some result) RefusalKind.BadName }
 {
-    let Word::Plain(name) = word else {
-        return Err(RefusalKind::BadName);
-    };
-    if name.as_slice() == b"digits".as_slice() {
-        return Ok(Function::Digits);
+    if word == b"digits".as_slice() {
+        return Some(Function::Digits);
     }
-    if name.as_slice() == b"bytes".as_slice() {
-        return Ok(Function::Bytes);
+    if word == b"bytes".as_slice() {
+        return Some(Function::Bytes);
     }
-    Err(RefusalKind::BadName)
+    None
 }
 
-/// Where a relation is wanted.
-pub fn relation_of(word: &Word) -> Result<Relation, RefusalKind>
-    ensures relation { IfOk result (λ relation. word.now ≡ Word.Plain (relation_word relation)) }
-    ensures first_error { IfErr result (λ kind. relation_misfit word.now ≡ Some kind) }
+/// The relation of a plain word, where it is one's.
+pub fn relation_of(word: &[u8]) -> Option<Relation>
+    ensures relation { IfSome result (λ relation. word.now ≡ relation_word relation) }
+    ensures misfit { relation_misfit (Word.Plain word.now) ≡ unless (is_some result) RefusalKind.BadName }
 {
-    let Word::Plain(name) = word else {
-        return Err(RefusalKind::BadName);
-    };
-    if name.as_slice() == b"lt".as_slice() {
-        return Ok(Relation::Less);
+    match word {
+        b"lt" => Some(Relation::Less),
+        b"eq" => Some(Relation::Equal),
+        b"gt" => Some(Relation::Greater),
+        _ => None,
     }
-    if name.as_slice() == b"eq".as_slice() {
-        return Ok(Relation::Equal);
-    }
-    if name.as_slice() == b"gt".as_slice() {
-        return Ok(Relation::Greater);
-    }
-    Err(RefusalKind::BadName)
 }

@@ -7,6 +7,7 @@ mod context;
 mod diagnosis;
 mod errors;
 mod fields;
+mod following;
 mod formats;
 mod grammar;
 mod kinds;
@@ -19,7 +20,6 @@ mod numerals;
 mod parser;
 mod refusals;
 mod remaining_words;
-mod shared_fields;
 mod statements;
 mod table;
 mod verbs;
@@ -37,7 +37,6 @@ pub use laws::{
 pub use limits::limits_are;
 pub use parser::parse;
 pub use refusals::{Refusal, RefusalKind};
-pub use words::is_same;
 
 /// The greatest number of bytes of a script.
 pub const MAX_SCRIPT: usize = 1_048_576;

@@ -38,16 +38,11 @@ fn built_of_all<T: Drop>(is_done: bool, built: Result<T, NoStatement>) -> Result
 
 // The statement of a verb and of all words that are left in its line.
 #[inline(always)]
-fn whole_statement(
-    alloc: Global,
-    verb: Verb,
-    number: u32,
-    words: &mut LineWords,
-) -> Result<Statement, NoStatement>
+fn whole_statement(verb: Verb, number: u32, words: &mut LineWords) -> Result<Statement, NoStatement>
     requires { IsFresh words.old }
     ensures { IfOk result (SaysLine verb number words.old words.new) }
 {
-    let built = statement_of(alloc, verb, number, words);
+    let built = statement_of(verb, number, words);
     built_of_all(words.is_done(), built)
 }
 
@@ -73,7 +68,7 @@ pub fn take_statement(
         return Ok(false);
     }
     let mut words = LineWords::of(alloc, context, rest);
-    let Ok(statement) = whole_statement(alloc, verb, number, &mut words) else {
+    let Ok(statement) = whole_statement(verb, number, &mut words) else {
         return Ok(false);
     };
     let added = words.into_added();

@@ -1,5 +1,4 @@
 // A line for which no statement is built.
-use crate::RefusalKind;
 use cord_printf::FormatError;
 use std::alloc::{AllocError, AllocFailed};
 
@@ -15,12 +14,6 @@ impl From<AllocError> for NoStatement {
 
 impl<T: Drop> From<AllocFailed<T>> for NoStatement {
     fn from(_failed: AllocFailed<T>) -> NoStatement {
-        NoStatement
-    }
-}
-
-impl From<RefusalKind> for NoStatement {
-    fn from(_kind: RefusalKind) -> NoStatement {
         NoStatement
     }
 }

@@ -1,12 +1,13 @@
 // The parser.
-ghost use Rattle.std.specs.Prelude.{◌≡◌, ◌≢◌, ◌≤◌, ◌<◌, [], ◌∷◌, ◌++◌, List, ℕ, All, IfOk, IfErr, OnOk, MatchBool};
+ghost use Rattle.std.specs.Prelude.{◌≡◌, ◌≢◌, ◌≤◌, ◌<◌, ◌+◌, [], ◌∷◌, ◌++◌, List, ℕ, All, IfOk, IfErr, OnOk, MatchBool};
 ghost use Rattle.std.specs.Prelude.{length};
 ghost use Rattle.cord_script.specs.Words.{IsIdle, IsSplit};
 ghost use Rattle.cord_syntax.specs.Lines.{line_of};
-ghost use Rattle.cord_script.specs.Script.{Reads, ReadsUpTo};
-ghost use Rattle.cord_script.specs.FirstErrors.{FirstError};
+ghost use Rattle.cord_script.specs.Script.{Reads, ReadsUpTo, whole};
+ghost use Rattle.cord_script.specs.FirstErrors.{FirstError, HasBadLine};
 ghost use Rattle.cord_script.specs.inner.ContextViews.{scope_of};
-ghost use Rattle.cord_script.specs.inner.Steps.{TakesLine, HasWrong};
+ghost use Rattle.cord_script.specs.inner.Steps.{TakesLine};
+ghost use Rattle.cord_script.specs.declared.TheConstants.{MAX_LINES};
 
 use crate::blocks::open_error;
 use crate::context::Context;
@@ -39,7 +40,7 @@ fn first_line(bytes: &[u8]) -> (&[u8], &[u8])
     }
 }
 
-// Adds the statement of a line, if it has one.
+// Adds the statement of a line, if it has one, where no more lines than there may be stand in front.
 fn take_line(
     alloc: Global,
     number: u32,
@@ -47,12 +48,18 @@ fn take_line(
     context: &mut Context,
     statements: &mut Vec<Statement>,
 ) -> Result<(), RefusalKind>
+    requires { number ≤ MAX_LINES + 1 }
+    ensures few { OnOk result (number ≤ MAX_LINES) }
     ensures takes { OnOk result
         (TakesLine number line.now (scope_of context.old) (scope_of context.new) statements.old.items
         statements.new.items) }
-    ensures first_error { IfErr result (λ kind. kind ≢ RefusalKind.NoMemory → HasWrong line.now (scope_of context.old)
-        kind) }
+    ensures first_error { IfErr result (λ kind. kind ≢ RefusalKind.NoMemory →
+        HasBadLine whole number (scope_of context.old) line.now kind) }
+    ensures no_memory { IfErr result (λ kind. kind ≡ RefusalKind.NoMemory → number ≤ MAX_LINES) }
 {
+    if number > MAX_LINES {
+        return Err(RefusalKind::TooBig);
+    }
     if take_statement(alloc, number, line, context, statements)? {
         return Ok(());
     }
@@ -90,12 +97,6 @@ pub fn parse(alloc: Global, script: &[u8]) -> Result<Script, Refusal>
     let mut rest = script;
     let mut number = 1u32;
     'lines: while !rest.is_empty() {
-        if number > MAX_LINES {
-            return Err(Refusal {
-                line: number,
-                kind: RefusalKind::TooBig,
-            });
-        }
         let (line, after) = first_line(rest);
         if let Err(kind) = take_line(alloc, number, line, &mut context, &mut statements) {
             return Err(Refusal { line: number, kind });

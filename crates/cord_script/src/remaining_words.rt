@@ -6,6 +6,7 @@ ghost use Rattle.cord_script.specs.declared.kinds.Want.{Want};
 ghost use Rattle.cord_script.specs.declared.TheConstants.{MAX_NAMES};
 ghost use Rattle.cord_script.specs.Words.{IsBlank};
 ghost use Rattle.cord_script.specs.Tests.{is_name};
+ghost use Rattle.cord_script.specs.Formats.{wants_of_pieces};
 ghost use Rattle.cord_script.specs.Forms.{argument_term, argument_want};
 ghost use Rattle.cord_script.specs.Forms.Term.{Target, Operand, Value, Literal, FilePath, Applies, Compares, Formats};
 ghost use Rattle.cord_script.specs.Script.{kind_of};
@@ -15,6 +16,7 @@ ghost use Rattle.cord_script.specs.inner.LineReading.{IsFresh, PassesWord, Gives
 use crate::added::{Added, NewName};
 use crate::context::Context;
 use crate::fields::{begins_numeral, function_of, path_of, relation_of};
+use crate::formats::wants_of_pieces;
 use crate::kinds::{Kind, Want};
 use crate::no_statement::NoStatement;
 use crate::numerals::numeral_of;
@@ -84,19 +86,6 @@ impl<'a> LineWords<'a> {
         ensures { result ≡ true → All IsBlank self.now.rest }
     {
         blanks(self.rest) == self.rest.len()
-    }
-
-    // The next word, which is read.
-    fn word(&mut self) -> Result<Word<'a>, NoStatement>
-        ensures { IfOk result (λ word. PassesWord self.old word self.new) }
-    {
-        match next_word(self.alloc, self.rest) {
-            Ok(Some((word, rest))) => {
-                self.rest = rest;
-                Ok(word)
-            }
-            _ => Err(NoStatement),
-        }
     }
 
     // The bytes of the next word, which is a plain one and is read.
@@ -193,10 +182,14 @@ impl<'a> LineWords<'a> {
     fn quoted(&mut self) -> Result<Text, NoStatement>
         ensures { IfOk result (λ text. PassesWord self.old (Word.Quoted text) self.new) }
     {
-        match self.word()? {
-            Word::Plain(_) => Err(NoStatement),
-            Word::Quoted(text) => Ok(text),
-        }
+        let Ok(Some((word, rest))) = next_word(self.alloc, self.rest) else {
+            return Err(NoStatement);
+        };
+        let Word::Quoted(text) = word else {
+            return Err(NoStatement);
+        };
+        self.rest = rest;
+        Ok(text)
     }
 
     /// A text.
@@ -211,8 +204,7 @@ impl<'a> LineWords<'a> {
         requires { self.old.path ≡ None }
         ensures { IfOk result (λ path. GivesTerm self.old (FilePath path) self.new) }
     {
-        let word = self.word()?;
-        let path = path_of(word)?;
+        let path = path_of(self.quoted()?).ok_or(NoStatement)?;
         if self.context.has_path(path.as_str().as_bytes()) {
             return Ok(path);
         }
@@ -227,26 +219,25 @@ impl<'a> LineWords<'a> {
     pub fn function(&mut self) -> Result<Function, NoStatement>
         ensures { IfOk result (λ function. GivesTerm self.old (Applies function) self.new) }
     {
-        let word = self.word()?;
-        Ok(function_of(&word)?)
+        function_of(self.plain()?).ok_or(NoStatement)
     }
 
     /// A relation.
     pub fn relation(&mut self) -> Result<Relation, NoStatement>
         ensures { IfOk result (λ relation. GivesTerm self.old (Compares relation) self.new) }
     {
-        let word = self.word()?;
-        Ok(relation_of(&word)?)
+        relation_of(self.plain()?).ok_or(NoStatement)
     }
 
-    /// The text of a format, and what it is read as.
-    pub fn format(&mut self) -> Result<(Text, Format), NoStatement>
+    /// The text of a format, and what it is read as, on the heap.
+    pub fn format(&mut self) -> Result<(Shared<Text>, Shared<Format>), NoStatement>
         ensures gave { IfOk result (λ r. GivesTerm self.old (Formats r.0) self.new) }
         ensures format { IfOk result (λ r. IsFormat r.0 r.1) }
     {
         let text = self.quoted()?;
         let format = Format::parse(self.alloc, text.as_slice())?;
-        Ok((text, format))
+        let format = Shared::new(self.alloc, format)?;
+        Ok((Shared::new(self.alloc, text)?, format))
     }
 
     /// The cords that the words that are left name, as many as a `catn` may have.
@@ -281,8 +272,8 @@ impl<'a> LineWords<'a> {
         }
     }
 
-    /// The arguments of a format, one for each want.
-    pub fn arguments(&mut self, wants: &[Want]) -> Result<Arguments, NoStatement>
+    // Arguments, one for each want.
+    fn wanted(&mut self, wants: &[Want]) -> Result<Arguments, NoStatement>
         ensures gave { IfOk result (λ arguments. GivesAll self.old (map argument_term arguments) self.new) }
         ensures wants { IfOk result (λ arguments. map argument_want arguments ≡ wants.now) }
     {
@@ -292,5 +283,15 @@ impl<'a> LineWords<'a> {
             arguments.push(argument)?;
         }
         Ok(Arguments::of(arguments))
+    }
+
+    /// The arguments of a format, on the heap.
+    pub fn arguments(&mut self, format: &Format) -> Result<Shared<Arguments>, NoStatement>
+        ensures gave { IfOk result (λ arguments. GivesAll self.old (map argument_term arguments) self.new) }
+        ensures wants { IfOk result (λ arguments. map argument_want arguments ≡ wants_of_pieces format.now) }
+    {
+        let wants = wants_of_pieces(self.alloc, format.pieces())?;
+        let arguments = self.wanted(&wants)?;
+        Ok(Shared::new(self.alloc, arguments)?)
     }
 }

@@ -3,28 +3,24 @@ ghost use Rattle.std.specs.Prelude.{◌≡◌, IfOk};
 ghost use Rattle.cord_script.specs.declared.verbs.Verb.{Verb};
 ghost use Rattle.cord_script.specs.inner.LineReading.{IsFresh, IsStatementBuilt};
 
-use crate::formats::wants_of_pieces;
-use crate::kinds::Kind;
+use crate::Statement;
+use crate::following::{
+    Applied, Compared, Fields, Literal, Operand, SharedValue, Value, target_and_path, with_target,
+};
+use crate::kinds::Kind::{Cord, Extensible, Number};
 use crate::no_statement::NoStatement;
 use crate::remaining_words::LineWords;
-use crate::shared_fields::{
-    paired, target_and_number, target_and_numbers, target_and_operand, target_and_operands,
-    target_and_path, target_operand_number, target_operand_number_operand, target_operand_numbers,
-    target_operand_shared_operand,
-};
 use crate::verbs::{
     Composition, Computation, Control, Derivation, FixedVerb, Growth, Look, Origin, Search, Verb,
 };
-use crate::{Shared, Statement};
-use std::alloc::Global;
 
-// The fields of a variant, as they are nested where one after another was asked for.
+// The fields of a variant, as they are nested where one was asked for before the others.
 macro_rules! nested {
-    ($fields:tt) => {
-        $fields
+    ($last:ident) => {
+        $last
     };
-    ($fields:tt $next:ident $($more:ident)*) => {
-        nested!(($fields, $next) $($more)*)
+    ($first:ident $($more:ident)+) => {
+        ($first, nested!($($more)+))
     };
 }
 
@@ -52,11 +48,11 @@ fn origin_of(verb: Origin, line: u32, words: &mut LineWords) -> Result<Statement
     ensures { IfOk result (IsStatementBuilt (Verb.Fixed (FixedVerb.Origin verb)) line words.old words.new) }
 {
     family!(Origin, verb, line;
-        Let(target, text) = paired(words.target(Kind::Cord)?, words.text()),
+        Let(target, text) = with_target(Cord, Literal, words),
         File(target, path) = target_and_path(words),
         Eager(target, path) = target_and_path(words),
         Lazy(target, path) = target_and_path(words),
-        FromFn(target, function, count) = paired(paired(words.target(Kind::Cord)?, words.function())?, words.number()),
+        FromFn(target, function, count) = with_target(Cord, (Applied, Value), words),
     )
 }
 
@@ -71,11 +67,11 @@ fn composition_of(
     ensures { IfOk result (IsStatementBuilt (Verb.Fixed (FixedVerb.Composition verb)) line words.old words.new) }
 {
     family!(Composition, verb, line;
-        Chars(target, byte, count) = target_and_numbers(Kind::Cord, words),
-        Nul(target, count) = target_and_number(Kind::Cord, words),
-        Cat(target, left, right) = target_and_operands(Kind::Cord, words),
-        Catc(target, operand, byte) = target_operand_number(Kind::Cord, words),
-        Substr(target, operand, start, count) = target_operand_numbers(Kind::Cord, words),
+        Chars(target, byte, count) = with_target(Cord, (Value, Value), words),
+        Nul(target, count) = with_target(Cord, Value, words),
+        Cat(target, left, right) = with_target(Cord, (Operand(Cord), Operand(Cord)), words),
+        Catc(target, operand, byte) = with_target(Cord, (Operand(Cord), Value), words),
+        Substr(target, operand, start, count) = with_target(Cord, (Operand(Cord), (Value, Value)), words),
     )
 }
 
@@ -90,8 +86,8 @@ fn derivation_of(
     ensures { IfOk result (IsStatementBuilt (Verb.Fixed (FixedVerb.Derivation verb)) line words.old words.new) }
 {
     family!(Derivation, verb, line;
-        Balance(target, operand) = target_and_operand(Kind::Cord, Kind::Cord, words),
-        EcToCord(target, extensible) = target_and_operand(Kind::Cord, Kind::Extensible, words),
+        Balance(target, operand) = with_target(Cord, Operand(Cord), words),
+        EcToCord(target, extensible) = with_target(Cord, Operand(Extensible), words),
     )
 }
 
@@ -106,10 +102,10 @@ fn computation_of(
     ensures { IfOk result (IsStatementBuilt (Verb.Fixed (FixedVerb.Computation verb)) line words.old words.new) }
 {
     family!(Computation, verb, line;
-        Assign(target, value) = target_and_number(Kind::Number, words),
-        Len(target, operand) = target_and_operand(Kind::Number, Kind::Cord, words),
-        Add(target, left, right) = target_and_numbers(Kind::Number, words),
-        Sub(target, left, right) = target_and_numbers(Kind::Number, words),
+        Assign(target, value) = with_target(Number, Value, words),
+        Len(target, operand) = with_target(Number, Operand(Cord), words),
+        Add(target, left, right) = with_target(Number, (Value, Value), words),
+        Sub(target, left, right) = with_target(Number, (Value, Value), words),
     )
 }
 
@@ -120,11 +116,12 @@ fn look_of(verb: Look, line: u32, words: &mut LineWords) -> Result<Statement, No
     ensures { IfOk result (IsStatementBuilt (Verb.Fixed (FixedVerb.Look verb)) line words.old words.new) }
 {
     family!(Look, verb, line;
-        Fetch(target, operand, index) = target_operand_number(Kind::Number, words),
-        Cmp(target, left, right) = target_and_operands(Kind::Number, words),
-        Ncmp(target, left, left_start, right, right_start, count) = paired(
-            paired(target_operand_shared_operand(Kind::Number, words)?, words.shared_number())?,
-            words.shared_number()
+        Fetch(target, operand, index) = with_target(Number, (Operand(Cord), Value), words),
+        Cmp(target, left, right) = with_target(Number, (Operand(Cord), Operand(Cord)), words),
+        Ncmp(target, left, left_start, right, right_start, count) = with_target(
+            Number,
+            (Operand(Cord), (SharedValue, (Operand(Cord), (SharedValue, SharedValue)))),
+            words
         ),
     )
 }
@@ -136,9 +133,9 @@ fn search_of(verb: Search, line: u32, words: &mut LineWords) -> Result<Statement
     ensures { IfOk result (IsStatementBuilt (Verb.Fixed (FixedVerb.Search verb)) line words.old words.new) }
 {
     family!(Search, verb, line;
-        Str(target, operand, start, pattern) = target_operand_number_operand(Kind::Number, words),
-        Chr(target, operand, start, byte) = target_operand_numbers(Kind::Number, words),
-        Rchr(target, operand, start, byte) = target_operand_numbers(Kind::Number, words),
+        Str(target, operand, start, pattern) = with_target(Number, (Operand(Cord), (Value, Operand(Cord))), words),
+        Chr(target, operand, start, byte) = with_target(Number, (Operand(Cord), (Value, Value)), words),
+        Rchr(target, operand, start, byte) = with_target(Number, (Operand(Cord), (Value, Value)), words),
     )
 }
 
@@ -149,10 +146,10 @@ fn growth_of(verb: Growth, line: u32, words: &mut LineWords) -> Result<Statement
     ensures { IfOk result (IsStatementBuilt (Verb.Fixed (FixedVerb.Growth verb)) line words.old words.new) }
 {
     family!(Growth, verb, line;
-        EcInit(target) = words.target(Kind::Extensible),
-        EcPut(extensible, byte) = paired(words.operand(Kind::Extensible)?, words.number()),
-        EcCat(extensible, operand) = paired(words.operand(Kind::Extensible)?, words.operand(Kind::Cord)),
-        EcStr(extensible, text) = paired(words.operand(Kind::Extensible)?, words.text()),
+        EcInit(target) = words.target(Extensible),
+        EcPut(extensible, byte) = (Operand(Extensible), Value).read(words),
+        EcCat(extensible, operand) = (Operand(Extensible), Operand(Cord)).read(words),
+        EcStr(extensible, text) = (Operand(Extensible), Literal).read(words),
     )
 }
 
@@ -163,14 +160,11 @@ fn control_of(verb: Control, line: u32, words: &mut LineWords) -> Result<Stateme
     ensures { IfOk result (IsStatementBuilt (Verb.Fixed (FixedVerb.Control verb)) line words.old words.new) }
 {
     match verb {
-        Control::Repeat => statement!(line, Repeat, (count) = words.number()),
+        Control::Repeat => statement!(line, Repeat, (count) = Value.read(words)),
         Control::If => statement!(
             line,
             If,
-            (left, relation, right) = paired(
-                paired(words.number()?, words.relation())?,
-                words.number()
-            )
+            (left, relation, right) = (Value, (Compared, Value)).read(words)
         ),
         Control::Else => Ok(Statement::Else { line }),
         Control::End => Ok(Statement::End { line }),
@@ -183,7 +177,7 @@ fn put_of(line: u32, words: &mut LineWords) -> Result<Statement, NoStatement>
     requires { IsFresh words.old }
     ensures { IfOk result (IsStatementBuilt (Verb.Fixed FixedVerb.Put) line words.old words.new) }
 {
-    statement!(line, Put, (operand) = words.operand(Kind::Cord))
+    statement!(line, Put, (operand) = Operand(Cord).read(words))
 }
 
 // The statement of a verb whose number of words is fixed.
@@ -214,7 +208,7 @@ fn catn_of(line: u32, words: &mut LineWords) -> Result<Statement, NoStatement>
     requires { IsFresh words.old }
     ensures { IfOk result (IsStatementBuilt Verb.Catn line words.old words.new) }
 {
-    let target = words.target(Kind::Cord)?;
+    let target = words.target(Cord)?;
     let parts = words.cords()?;
     Ok(Statement::Catn {
         line,
@@ -226,37 +220,31 @@ fn catn_of(line: u32, words: &mut LineWords) -> Result<Statement, NoStatement>
 // A `sprintf`.
 #[cold]
 #[inline(never)]
-fn sprintf_of(alloc: Global, line: u32, words: &mut LineWords) -> Result<Statement, NoStatement>
+fn sprintf_of(line: u32, words: &mut LineWords) -> Result<Statement, NoStatement>
     requires { IsFresh words.old }
     ensures { IfOk result (IsStatementBuilt Verb.Sprintf line words.old words.new) }
 {
-    let target = words.target(Kind::Cord)?;
+    let target = words.target(Cord)?;
     let (text, format) = words.format()?;
-    let wants = wants_of_pieces(alloc, format.pieces())?;
-    let arguments = words.arguments(&wants)?;
+    let arguments = words.arguments(format.as_ref())?;
     Ok(Statement::Sprintf {
         line,
         target,
-        text: Shared::new(alloc, text)?,
-        format: Shared::new(alloc, format)?,
-        arguments: Shared::new(alloc, arguments)?,
+        text,
+        format,
+        arguments,
     })
 }
 
 /// The statement of a verb, of the words that are left in its line.
 #[inline(always)]
-pub fn statement_of(
-    alloc: Global,
-    verb: Verb,
-    line: u32,
-    words: &mut LineWords,
-) -> Result<Statement, NoStatement>
+pub fn statement_of(verb: Verb, line: u32, words: &mut LineWords) -> Result<Statement, NoStatement>
     requires { IsFresh words.old }
     ensures { IfOk result (IsStatementBuilt verb line words.old words.new) }
 {
     match verb {
         Verb::Fixed(fixed) => fixed_statement_of(fixed, line, words),
         Verb::Catn => catn_of(line, words),
-        Verb::Sprintf => sprintf_of(alloc, line, words),
+        Verb::Sprintf => sprintf_of(line, words),
     }
 }

@@ -5,7 +5,6 @@ ghost use Rattle.cord_script.specs.Words.{IsBlank, IsPlainByte, EndsPlain, Spell
 ghost use Rattle.cord_script.specs.inner.Words.{StartsNoBlank};
 ghost use Rattle.cord_script.specs.inner.Words.{HasNext};
 ghost use Rattle.cord_script.specs.Words.{BeginsBadText, HasWords, HasBadBytes};
-ghost use Rattle.std.specs.Str.{bytes_eq};
 ghost use Rattle.cord_script.specs.inner.Reading.{digit_of, hex_of, escape_of, unit_of};
 
 use crate::{MAX_TEXT, RefusalKind, Text};
@@ -107,21 +106,6 @@ pub fn uncons(bytes: &[u8]) -> Option<(u8, &[u8])>
         [] => None,
         [first, rest @ ..] => Some((*first, rest)),
     }
-}
-
-/// Whether two words, or two names, have the same bytes: a loop of its own, since most of them are of a few bytes.
-pub fn is_same(left: &[u8], right: &[u8]) -> bool
-    ensures { result ≡ bytes_eq left.now right.now }
-{
-    if left.len() != right.len() {
-        return false;
-    }
-    for i in 0..left.len() {
-        if left[i] != right[i] {
-            return false;
-        }
-    }
-    true
 }
 
 // The value of a hexadecimal digit.

@@ -1,9 +1,8 @@
 -- What a term has to be, and tests on bytes as the code splits them.
-use Rattle.std.specs.Prelude.{ℕ, List, Bool, ◌&&◌, ◌||◌, not, ◌==◌, nat_le, nat_lt, length}
-use Rattle.cord_script.specs.declared.TheConstants.{MAX_PATH}
+use Rattle.std.specs.Prelude.{ℕ, Bool, ◌||◌, not, ◌==◌}
 use Rattle.cord_script.specs.declared.kinds.Want.{Want}
 use Rattle.cord_script.specs.declared.kinds.Want.TheVariants as wants
-use Rattle.cord_script.specs.Tests.{each, is_letter, is_digit}
+use Rattle.cord_script.specs.Tests.{is_letter, is_digit}
 use Rattle.cord_script.specs.Forms.{Term}
 use Rattle.cord_script.specs.Forms.Term.{Target, Operand, Value, Literal, FilePath, Applies, Compares, Formats}
 
@@ -22,9 +21,6 @@ want_of (Formats text) = wants.Format
 abbrev pub is_inner : ℕ → Bool
 is_inner c = is_letter c || is_digit c
 
--- what a path has to be besides UTF-8
+-- a byte of a path
 abbrev pub is_no_zero : ℕ → Bool
 is_no_zero c = not (c == 0)
-
-abbrev pub is_path_text : List ℕ → Bool
-is_path_text path = nat_lt 0 (length path) && nat_le (length path) MAX_PATH && each is_no_zero path

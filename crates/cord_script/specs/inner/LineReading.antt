@@ -1,5 +1,5 @@
 -- What the words of a line give, after what the lines before it leave.
-use Rattle.std.specs.Prelude.{◌≡◌, ℕ, List, [], ◌∷◌, Option, Some, None, Result, Ok, Err, option_map}
+use Rattle.std.specs.Prelude.{◌≡◌, ℕ, List, [], ◌∷◌, Option, Some, None, option_map}
 use Rattle.cord_script.specs.declared.added.Added.{Added}
 use Rattle.cord_script.specs.declared.table.Known.{Known}
 use Rattle.cord_script.specs.declared.verbs.Verb.{Verb}
@@ -75,11 +75,6 @@ pub record IsStatementBuilt (verb : Verb) (line : ℕ) (old new : LineView) (s :
   pub numbered : line_of s ≡ line
   pub fields : GivesAll old (terms_of s) new
   pub suits : Suits s
-
--- what came before and the next one, unless that is refused
-abbrev pub paired : {A B E : Type 0} → A → Result B E → Result (A × B) E
-paired before (Ok next) = Ok (before, next)
-paired before (Err error) = Err error
 
 -- the words of the rest of a line say a statement of the verb, and what they add is what the statement adds
 pub record SaysLine (verb : Verb) (n : ℕ) (old new : LineView) (s : Statement) : Type 0 where

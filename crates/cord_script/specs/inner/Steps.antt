@@ -4,9 +4,13 @@ use Rattle.cord_script.specs.declared.words.Word.{Word}
 use Rattle.cord_syntax.specs.declared.statements.Statement.{Statement}
 use Rattle.cord_script.specs.declared.refusals.RefusalKind.{RefusalKind}
 use Rattle.cord_script.specs.Words.{IsIdle, IsSplit, HasWords, HasBadBytes}
-use Rattle.cord_script.specs.Script.{Scope, LinesSay, whole, start, after_all}
+use Rattle.cord_script.specs.Script.{Scope, Says, LinesSay, whole, start, after, after_all}
 use Rattle.cord_script.specs.FirstErrors.{HasBadWords}
-use Rattle.cord_script.specs.inner.Contexts.{SaysAfter}
+
+-- what the words of line n say after these lines, and what is left after it
+pub record SaysAfter (n : ℕ) (old new : Scope) (words : List Word) (s : Statement) : Type 0 where
+  pub says : Says whole n old words s
+  pub leaves : after s old ≡ new
 
 -- a line without a statement changes nothing; one with a statement has words that say it
 abbrev pub ReadsLine : ℕ → List ℕ → Scope → Scope → Option Statement → Type 0

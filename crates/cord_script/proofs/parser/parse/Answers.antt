@@ -1,33 +1,28 @@
 use Rattle.std.proofs.Common.{length, arith, inl, refl, sym, subst, eqb-true}
 use Rattle.cord_script.specs.Script.{Reads}
 use Rattle.cord_script.specs.inner.ContextViews.{scope_of}
-use Rattle.cord_script.proofs.Readings.{reads_line, stops, too_many, is_wrong, read_whole, leaves_open, no_bytes, some_bytes, numbered_line}
+use Rattle.cord_script.proofs.Readings.{reads_line, stops, read_whole, leaves_open, no_bytes, numbered_line}
 use Rattle.cord_script.proofs.Readings.{reached, left_found}
 use Rattle.cord_script.proofs.parser.parse.Goals as goal
 
 pub returns-then-size-gt-MAX_SCRIPT-clause-first_error : goal.returns-then-size-gt-MAX_SCRIPT-clause-first_error
 returns-then-size-gt-MAX_SCRIPT-clause-first_error c = λ n. inl (record { size = omega arith; line = refl; is = refl })
 
-pub returns-then-number-gt-MAX_LINES-clause-first_error : goal.returns-then-number-gt-MAX_LINES-clause-first_error
-returns-then-number-gt-MAX_LINES-clause-first_error c = λ n.
-    too_many c.args.script.now c.lines.rest.now c.lines.number (scope_of c.lines.context) c.lines.statements.items
-    (omega arith) c.lines.invariant.read (some_bytes c.lines.rest.now (sym c.lines-test.ensures)) (omega (arith, c.lines.invariant.few))
-
 pub returns-in-Err-clause-first_error : goal.returns-in-Err-clause-first_error
 returns-in-Err-clause-first_error c = λ n.
     stops c.args.script.now c.lines.rest.now c.first_line.result.1.now c.first_line.result.0.now c.lines.number
     (scope_of c.lines.context) c.lines.statements.items c.in-Err.kind (omega arith) c.lines.invariant.read c.first_line.ensures.first
-    (is_wrong c.lines.number c.first_line.result.0.now (scope_of c.lines.context) c.in-Err.kind (omega arith)
-    (c.in-Err.ensures.first_error n))
+    (c.in-Err.ensures.first_error n)
 
 pub returns-in-Err-clause-no_memory : goal.returns-in-Err-clause-no_memory
 returns-in-Err-clause-no_memory c = λ n.
     reached c.args.script.now c.lines.rest.now c.first_line.result.1.now c.first_line.result.0.now c.lines.number
-    (scope_of c.lines.context) c.lines.statements.items (omega arith) (omega arith) c.lines.invariant.read c.first_line.ensures.first
+    (scope_of c.lines.context) c.lines.statements.items (omega arith) (c.in-Err.ensures.no_memory n) c.lines.invariant.read
+    c.first_line.ensures.first
 
 pub lines-preserved : goal.lines-preserved
 lines-preserved c = record {
-  few = omega arith;
+  few = omega (arith, c.in_default.ensures.few);
   read = reads_line c.args.script.now c.lines.rest.now c.first_line.result.1.now c.first_line.result.0.now c.lines.number
       (scope_of c.lines.context) (scope_of c.take_line.new.context) c.lines.statements.items c.take_line.new.statements.items
       c.lines.invariant.read c.first_line.ensures.first c.in_default.ensures.takes;

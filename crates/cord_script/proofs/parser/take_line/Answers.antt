@@ -1,5 +1,7 @@
-use Rattle.std.proofs.Common.{Some, None, ◌∙◌, sym, subst, append-nil}
+use Rattle.std.proofs.Common.{Some, None, ◌∙◌, sym, subst, append-nil, arith}
 use Rattle.cord_script.specs.inner.Steps.{HasWrong}
+use Rattle.cord_script.specs.inner.ContextViews.{scope_of}
+use Rattle.cord_script.proofs.Readings.{is_wrong}
 use Rattle.cord_script.proofs.parser.take_line.Goals as goal
 
 pub returns-then-branch-clause-takes : goal.returns-then-branch-clause-takes
@@ -14,5 +16,6 @@ returns-then-is_idle-clause-takes c =
 
 pub returns-clause-first_error : goal.returns-clause-first_error
 returns-clause-first_error c = λ n.
-    subst (λ scope. HasWrong c.args.line.now scope c.refusal_of.result) (c.in_ok-take_statement.ensures.keeps c.if-branch.false).0
-    (c.refusal_of.ensures n)
+    is_wrong c.args.number c.args.line.now (scope_of c.args.context.now) c.refusal_of.result (omega arith)
+    (subst (λ scope. HasWrong c.args.line.now scope c.refusal_of.result) (c.in_ok-take_statement.ensures.keeps c.if-branch.false).0
+    (c.refusal_of.ensures n))

@@ -1,5 +1,4 @@
 use Rattle.std.proofs.Common.{refl}
-use Rattle.cord_script.proofs.LineReading.{one_field}
 use Rattle.cord_script.proofs.statements.put_of.Goals as goal
 
 pub returns : goal.returns
@@ -7,6 +6,6 @@ returns c = record {
   word = refl;
   effect = refl;
   numbered = refl;
-  fields = one_field c.in_ok-operand.ensures;
+  fields = c.in_ok-operand.ensures;
   suits = tt;
 }

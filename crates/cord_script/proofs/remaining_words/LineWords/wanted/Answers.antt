@@ -5,7 +5,7 @@ use Rattle.cord_script.specs.declared.kinds.Want.TheVariants as wants
 use Rattle.cord_script.specs.Forms.{argument_term, argument_want}
 use Rattle.cord_script.specs.inner.LineReading.{GivesAll}
 use Rattle.cord_script.proofs.LineReading.{no_field, field_pushed}
-use Rattle.cord_script.proofs.remaining_words.LineWords.arguments.Goals as goal
+use Rattle.cord_script.proofs.remaining_words.LineWords.wanted.Goals as goal
 
 pub loop-want-init : goal.loop-want-init
 loop-want-init c =

@@ -1,7 +1,7 @@
 use Rattle.std.proofs.Common.{◌≡◌, take, map}
 use Rattle.cord_script.specs.Forms.{argument_term, argument_want}
 use Rattle.cord_script.specs.inner.LineReading.{GivesAll}
-use Rattle.cord_script.proofs.remaining_words.LineWords.arguments.Given as goal
+use Rattle.cord_script.proofs.remaining_words.LineWords.wanted.Given as goal
 
 abbrev pub invariant-loop-want : goal.invariant-loop-want
 invariant-loop-want l = record {

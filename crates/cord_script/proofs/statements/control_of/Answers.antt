@@ -1,0 +1,23 @@
+use Rattle.std.proofs.Common.{refl, sym, ap}
+use Rattle.cord_script.specs.declared.verbs.FixedVerb.TheVariants.{Control}
+use Rattle.cord_script.specs.inner.Verbal.{control_effect}
+use Rattle.cord_script.proofs.LineReading.{spelled, no_field}
+use Rattle.cord_script.proofs.statements.control_of.Goals as goal
+
+pub returns-in-Else : goal.returns-in-Else
+returns-in-Else c = record {
+  word = spelled Control c.in-Else.is;
+  effect = ap control_effect (sym c.in-Else.is);
+  numbered = refl;
+  fields = no_field _;
+  suits = tt;
+}
+
+pub returns-in-End : goal.returns-in-End
+returns-in-End c = record {
+  word = spelled Control c.in-End.is;
+  effect = ap control_effect (sym c.in-End.is);
+  numbered = refl;
+  fields = no_field _;
+  suits = tt;
+}
