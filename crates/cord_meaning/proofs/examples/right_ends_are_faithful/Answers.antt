@@ -4,6 +4,7 @@ use Rattle.cord_io.specs.declared.TheConstants.{MAX_LEN}
 use Rattle.cord_meaning.specs.declared.TheConstants.{MAX_TURNS}
 use Rattle.cord_meaning.specs.declared.ends.End.TheVariants.{Done}
 use Rattle.cord_meaning.specs.Examples
+use Rattle.cord_meaning.specs.Meaning.{Means}
 use Rattle.cord_meaning.specs.State.{start_state}
 use Rattle.cord_meaning.specs.Statements.{rules}
 use Rattle.cord_meaning.proofs.Computed.{means_after}
@@ -12,7 +13,7 @@ use Rattle.cord_meaning.proofs.examples.right_ends_are_faithful.Goals as goal
 
 pub returns-clause-whole : goal.returns-clause-whole
 returns-clause-whole c =
-    let run = means_after MAX_LEN MAX_TURNS Examples.hello [] (codes "hello") Done 3 refl refl in
+    let run : Means Examples.hello [] (codes "hello") Done = means_after 3 refl refl in
     record {
       puts = record { out = codes "hello"; taken = refl; faithful = (sym run.output_is, sym run.end_is) };
       fails = tt;
