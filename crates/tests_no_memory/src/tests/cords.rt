@@ -255,32 +255,25 @@ fn refused_cords(rt: HostRuntime) {
     }
 }
 
-fn splice(alloc: Global, cord: &mut Cord, at: u64, middle: &Cord) -> Result<(), CordError> {
-    cord.splice(alloc, at, 4, middle)
-}
-
 // That "xyz" comes in the place of four bytes: where it was refused the text is as before, and it is put in again.
 fn expect_spliced(rt: &impl Abort, alloc: Global, cord: &mut Cord, at: u64, after: &[u8]) {
     let xyz = cord_of(rt, alloc, b"xyz");
-    if splice(alloc, cord, at, &xyz).is_err() {
+    if cord.splice(alloc, at, 4, &xyz).is_err() {
         expect_text(rt, cord, b"abccdef");
-        again!(rt, splice(alloc, cord, at, &xyz));
+        cord.splice(alloc, at, 4, &xyz).expect(rt, "memory");
     }
     expect_text(rt, cord, after);
 }
 
+// In place, and of a cord that is shared.
 #[test]
-fn refused_splice_in_place(rt: HostRuntime) {
+fn refused_splices(rt: HostRuntime) {
     for (at, after) in [(1, b"axyzef".as_slice()), (3, b"abcxyz")] {
         let mut cord = made_of(&rt, rt.alloc(), ABCCDEF.0);
+        let other = made_of(&rt, rt.alloc(), ABCCDEF.0);
+        let mut shared = again!(&rt, other.share(rt.alloc()));
         expect_spliced(&rt, rt.alloc(), &mut cord, at, after);
+        expect_spliced(&rt, rt.alloc(), &mut shared, at, after);
+        expect_text(&rt, &other, b"abccdef");
     }
-}
-
-#[test]
-fn refused_splice_of_a_shared_cord(rt: HostRuntime) {
-    let other = made_of(&rt, rt.alloc(), ABCCDEF.0);
-    let mut cord = again!(&rt, other.share(rt.alloc()));
-    expect_spliced(&rt, rt.alloc(), &mut cord, 1, b"axyzef");
-    expect_text(&rt, &other, b"abccdef");
 }

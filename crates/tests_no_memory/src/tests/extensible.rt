@@ -1,6 +1,5 @@
 //! Extensible cords: each way that they grow, and the cord of their text.
 use super::texts::{cord_of, expect_bytes, expect_no_memory, expect_text, is_refused, pattern};
-use cord_core::Cord;
 use cord_ec::ExtCord;
 use cord_io::CordError;
 use std::alloc::Global;
@@ -103,26 +102,19 @@ fn refused_appends(rt: HostRuntime) {
     }
 }
 
-// The cord of an extensible cord, whose length alone is compared where that is refused.
-fn cord_in(rt: &impl Abort, alloc: Global, ext: &mut ExtCord, text: &[u8]) -> Cord {
-    let cord = match ext.to_cord(alloc) {
-        Ok(cord) => cord,
-        Err(error) => {
-            expect_no_memory(rt, error);
-            expect_ext(rt, alloc, ext, text, false);
-            ext.to_cord(alloc).expect(rt, "memory")
-        }
-    };
-    expect_text(rt, &cord, text);
-    cord
-}
-
 #[test]
 fn refused_to_cord(rt: HostRuntime) {
-    let alloc = rt.alloc();
-    let mut ext = ext_of(&rt, alloc, b"abcde");
-    let cord = cord_in(&rt, alloc, &mut ext, b"abcde");
-    again!(&rt, ext.append(alloc, 102));
-    let _ = cord_in(&rt, alloc, &mut ext, b"abcdef");
-    expect_text(&rt, &cord, b"abcde");
+    let mut ext = ext_of(&rt, rt.alloc(), b"abcde");
+    for text in [b"abcde".as_slice(), b"abcdef"] {
+        let cord = match ext.to_cord(rt.alloc()) {
+            Ok(cord) => cord,
+            Err(error) => {
+                expect_no_memory(&rt, error);
+                expect_ext(&rt, rt.alloc(), &mut ext, text, false);
+                ext.to_cord(rt.alloc()).expect(&rt, "memory")
+            }
+        };
+        expect_text(&rt, &cord, text);
+        again!(&rt, ext.append(rt.alloc(), b'f'));
+    }
 }

@@ -1,6 +1,5 @@
 //! Gap buffers: each edit, and the cord of their text.
-use super::texts::{cord_of, expect_text, is_refused, made, pattern};
-use cord_core::Cord;
+use super::texts::{cord_of, expect_text, is_refused, made};
 use cord_edit::EditBuffer;
 use cord_io::CordError;
 use std::alloc::Global;
@@ -8,10 +7,10 @@ use std::process::Abort;
 
 // One edit of a text.
 #[derive(Clone, Copy)]
-enum Edit<'a> {
-    Insert(u64, &'a [u8]),
+enum Edit {
+    Insert(u64, &'static [u8]),
     Remove(u64, u64),
-    Splice(u64, u64, &'a [u8]),
+    Splice(u64, u64, &'static [u8]),
 }
 
 use Edit::{Insert, Remove, Splice};
@@ -25,20 +24,6 @@ fn expect_buffer(rt: &impl Abort, alloc: Global, buffer: &mut EditBuffer, text: 
     expect_text(rt, &made(rt, first, second), text);
 }
 
-fn splice(
-    rt: &impl Abort,
-    alloc: Global,
-    buffer: &mut EditBuffer,
-    at: u64,
-    count: u64,
-    text: &[u8],
-) -> Result<(), CordError> {
-    let middle = cord_of(rt, alloc, text);
-    let answer = buffer.splice(alloc, at, count, &middle);
-    expect_text(rt, &middle, text);
-    answer
-}
-
 fn make_edit(
     rt: &impl Abort,
     alloc: Global,
@@ -48,32 +33,19 @@ fn make_edit(
     match edit {
         Insert(at, bytes) => buffer.insert(alloc, at, bytes),
         Remove(at, count) => buffer.remove(alloc, at, count),
-        Splice(at, count, text) => splice(rt, alloc, buffer, at, count, text),
-    }
-}
-
-// Edits a text: each edit stands with the text before it, which is there still where the edit is refused.
-fn expect_edits(
-    rt: &impl Abort,
-    alloc: Global,
-    edits: &[(&[u8], Edit)],
-    text: &[u8],
-    after: &[u8],
-) {
-    let cord = cord_of(rt, alloc, text);
-    let mut buffer = again!(rt, EditBuffer::of(alloc, &cord));
-    for (before, each) in edits {
-        if is_refused(rt, make_edit(rt, alloc, &mut buffer, *each)) {
-            expect_buffer(rt, alloc, &mut buffer, before);
-            make_edit(rt, alloc, &mut buffer, *each).expect(rt, "memory");
+        Splice(at, count, text) => {
+            let middle = cord_of(rt, alloc, text);
+            let answer = buffer.splice(alloc, at, count, &middle);
+            expect_text(rt, &middle, text);
+            answer
         }
     }
-    expect_buffer(rt, alloc, &mut buffer, after);
 }
 
-// Edits, each with the text before it, and the text after all.
+// Edits, each with the text before it, which is there still where the edit is refused, and the text after all.
 const EDITS: &[(&[(&[u8], Edit)], &[u8], &[u8])] = &[
     (&[], b"abc", b"abc"),
+    (&[(b"", Insert(0, &[7; 10_000]))], b"", &[7; 10_000]),
     (
         &[
             (b"abcdef", Insert(3, b"x")),
@@ -100,13 +72,16 @@ const EDITS: &[(&[(&[u8], Edit)], &[u8], &[u8])] = &[
 
 #[test]
 fn refused_edits_of_a_buffer(rt: HostRuntime) {
+    let alloc = rt.alloc();
     for (edits, text, after) in EDITS {
-        expect_edits(&rt, rt.alloc(), edits, text, after);
+        let cord = cord_of(&rt, alloc, text);
+        let mut buffer = again!(&rt, EditBuffer::of(alloc, &cord));
+        for (before, each) in *edits {
+            if is_refused(&rt, make_edit(&rt, alloc, &mut buffer, *each)) {
+                expect_buffer(&rt, alloc, &mut buffer, before);
+                make_edit(&rt, alloc, &mut buffer, *each).expect(&rt, "memory");
+            }
+        }
+        expect_buffer(&rt, alloc, &mut buffer, after);
     }
-}
-
-#[test]
-fn refused_insert_of_many_bytes(rt: HostRuntime) {
-    let text = pattern(&rt, rt.alloc(), 10_000);
-    expect_edits(&rt, rt.alloc(), &[(b"", Insert(0, &text))], b"", &text);
 }

@@ -46,12 +46,15 @@ enum Part {
 use Part::{Leaf, Run};
 
 fn leaf_of(rt: &impl Abort, alloc: Global, bytes: &[u8]) -> Rc<Node>
-    ensures { IsSound result.value }
+    ensures sound { IsSound result.value }
+    ensures short { len_of result.value ≤ 1000 }
 {
     let shared = shared_of(rt, alloc, bytes);
     let first = leaf_over(rt, alloc, &shared);
     expect_bytes(rt, shared.as_slice(), bytes);
-    made(rt, first, leaf_over(rt, alloc, &shared))
+    let node = made(rt, first, leaf_over(rt, alloc, &shared));
+    assert!(rt; node.len() <= 1_000);
+    node
 }
 
 // A byte so many times, at least once.
@@ -211,41 +214,25 @@ fn refused_joins_and_ranges(rt: HostRuntime) {
     }
 }
 
-// A leaf of a hundred times a byte.
-fn hundred(rt: &impl Abort, alloc: Global, byte: u8) -> Rc<Node>
-    ensures sound { IsSound result.value }
-    ensures short { len_of result.value ≤ 1000 }
-{
-    let node = leaf_of(rt, alloc, &[byte; 100]);
-    assert!(rt; node.len() <= 1_000);
-    node
-}
-
-// That the hundred bytes from a place on are this one.
-fn expect_hundred(rt: &impl Abort, alloc: Global, node: &Rc<Node>, from: u64, byte: u8)
-    requires { IsSound node.now.value }
-{
-    let first = range_of(rt, alloc, node, from, 100);
-    let part = made(rt, first, range_of(rt, alloc, node, from, 100));
-    expect_node(rt, &part, &[byte; 100]);
-}
+// Three texts of a hundred bytes, one after the other.
+const THREE: &[u8] = b"\
+    aaaaaaaaaaaaaaaaaaaaaaaaaaaaaaaaaaaaaaaaaaaaaaaaaaaaaaaaaaaaaaaaaaaaaaaaaaaaaaaaaaaaaaaaaaaaaaaaaaaa\
+    bbbbbbbbbbbbbbbbbbbbbbbbbbbbbbbbbbbbbbbbbbbbbbbbbbbbbbbbbbbbbbbbbbbbbbbbbbbbbbbbbbbbbbbbbbbbbbbbbbbb\
+    cccccccccccccccccccccccccccccccccccccccccccccccccccccccccccccccccccccccccccccccccccccccccccccccccccc";
 
 #[test]
 fn refused_balance_parts(rt: HostRuntime) {
     let alloc = rt.alloc();
     let ropes = [
-        hundred(&rt, alloc, 1),
-        hundred(&rt, alloc, 2),
-        hundred(&rt, alloc, 3),
+        leaf_of(&rt, alloc, &[b'a'; 100]),
+        leaf_of(&rt, alloc, &[b'b'; 100]),
+        leaf_of(&rt, alloc, &[b'c'; 100]),
     ];
     let first = balance_parts(alloc, &ropes);
-    expect_node(&rt, &ropes[0], &[1; 100]);
-    expect_node(&rt, &ropes[1], &[2; 100]);
-    expect_node(&rt, &ropes[2], &[3; 100]);
+    expect_node(&rt, &ropes[0], &[b'a'; 100]);
+    expect_node(&rt, &ropes[1], &[b'b'; 100]);
+    expect_node(&rt, &ropes[2], &[b'c'; 100]);
     let node = made(&rt, first, balance_parts(alloc, &ropes));
-    assert!(rt; node.len() == 300);
-    assert!(rt; node.depth() <= 13);
-    expect_hundred(&rt, alloc, &node, 0, 1);
-    expect_hundred(&rt, alloc, &node, 100, 2);
-    expect_hundred(&rt, alloc, &node, 200, 3);
+    expect_node(&rt, &node, THREE);
+    assert!(rt; node.len() == 300 && node.depth() <= 13);
 }

@@ -1,5 +1,5 @@
 //! Formats and prints.
-use super::texts::{cord_of, expect_bytes, expect_text, is, pattern};
+use super::texts::{cord_of, expect_text, is};
 use cord_core::Cord;
 use cord_printf::{Arg, Format, FormatError, PrintError, sprintf, sprintf_len};
 use std::alloc::Global;
@@ -84,6 +84,24 @@ const FORMATS: &[(&str, &[Given], &str)] = &[
         &[Text(b"hello"), Number(7), Number(-7), Number(0)],
         "   he|7   |-0007||%",
     ),
+    // 300 bytes of the format, a cord of 300, and 298 zeros: each by itself more than are gathered.
+    (
+        "aaaaaaaaaaaaaaaaaaaaaaaaaaaaaaaaaaaaaaaaaaaaaaaaaaaaaaaaaaaaaaaaaaaaaaaaaaaaaaaaaaaaaaaaaaaaaaa\
+            aaaaaaaaaaaaaaaaaaaaaaaaaaaaaaaaaaaaaaaaaaaaaaaaaaaaaaaaaaaaaaaaaaaaaaaaaaaaaaaaaaaaaaaaaaaaaaa\
+            aaaaaaaaaaaaaaaaaaaaaaaaaaaaaaaaaaaaaaaaaaaaaaaaaaaaaaaaaaaaaaaaaaaaaaaaaaaaaaaaaaaaaaaaaaaaaaa\
+            aaaaaaaaaaaaaaa%05d%s%0300d|",
+        &[Number(42), Text(&[b'b'; 300]), Number(-7)],
+        "aaaaaaaaaaaaaaaaaaaaaaaaaaaaaaaaaaaaaaaaaaaaaaaaaaaaaaaaaaaaaaaaaaaaaaaaaaaaaaaaaaaaaaaaaaaaaaa\
+            aaaaaaaaaaaaaaaaaaaaaaaaaaaaaaaaaaaaaaaaaaaaaaaaaaaaaaaaaaaaaaaaaaaaaaaaaaaaaaaaaaaaaaaaaaaaaaa\
+            aaaaaaaaaaaaaaaaaaaaaaaaaaaaaaaaaaaaaaaaaaaaaaaaaaaaaaaaaaaaaaaaaaaaaaaaaaaaaaaaaaaaaaaaaaaaaaa\
+            aaaaaaaaaaaaaaa00042bbbbbbbbbbbbbbbbbbbbbbbbbbbbbbbbbbbbbbbbbbbbbbbbbbbbbbbbbbbbbbbbbbbbbbbbbbb\
+            bbbbbbbbbbbbbbbbbbbbbbbbbbbbbbbbbbbbbbbbbbbbbbbbbbbbbbbbbbbbbbbbbbbbbbbbbbbbbbbbbbbbbbbbbbbbbbb\
+            bbbbbbbbbbbbbbbbbbbbbbbbbbbbbbbbbbbbbbbbbbbbbbbbbbbbbbbbbbbbbbbbbbbbbbbbbbbbbbbbbbbbbbbbbbbbbbb\
+            bbbbbbbbbbbbbbbbbbbbbbbbbbbbbbbbbbb-00000000000000000000000000000000000000000000000000000000000\
+            00000000000000000000000000000000000000000000000000000000000000000000000000000000000000000000000\
+            00000000000000000000000000000000000000000000000000000000000000000000000000000000000000000000000\
+            00000000000000000000000000000000000000000000000007|",
+    ),
 ];
 
 #[test]
@@ -94,59 +112,12 @@ fn refused_sprintf(rt: HostRuntime) {
     }
 }
 
-// 300 times a byte, and texts after them.
-fn after_many(rt: &impl Abort, alloc: Global, byte: u8, texts: &[&[u8]]) -> Vec<u8> {
-    let mut bytes = again!(rt, Vec::from_elem(alloc, byte, 300));
-    for text in texts {
-        again!(rt, bytes.extend_from_slice(text));
-    }
-    bytes
-}
-
-// 300 bytes of the format, a cord of 300, and 298 blanks: each by itself more than are gathered.
-#[test]
-fn refused_sprintf_of_long_texts(rt: HostRuntime) {
-    let alloc = rt.alloc();
-    let bytes = after_many(&rt, alloc, b'a', &[b"%05d%s%300d|"]);
-    let format = parsed(&rt, alloc, &bytes);
-    let text = pattern(&rt, alloc, 300);
-    let given = [Number(42), Text(&text), Number(-7)];
-    let want = after_many(&rt, alloc, b'a', &[b"00042", &text, &[b' '; 298], b"-7|"]);
-    expect_print(&rt, alloc, &format, &given, &want);
-}
-
-// That a format prints "ab    7%c" of 7.
-fn expect_seven(rt: &impl Abort, alloc: Global, format: &Format) {
-    expect_print(rt, alloc, format, &[Number(7)], b"ab    7%c");
-}
-
-// A copy of the format "ab%5d%%c".
-fn copy_of(rt: &impl Abort, alloc: Global, format: &Format) -> Format {
-    match format.clone() {
-        Ok(copy) => copy,
-        Err(_) => {
-            expect_seven(rt, alloc, format);
-            format.clone().expect(rt, "memory")
-        }
-    }
-}
-
-// Why bytes are no format.
-fn error_of(alloc: Global, bytes: &[u8]) -> Option<FormatError> {
-    match Format::parse(alloc, bytes).err() {
-        Some(FormatError::NoMemory) => Format::parse(alloc, bytes).err(),
-        answer => answer,
-    }
-}
-
+// A copy of a format prints what the format does.
 #[test]
 fn refused_formats(rt: HostRuntime) {
-    let bytes = b"ab%5d%%c";
-    let format = parsed(&rt, rt.alloc(), bytes);
-    expect_bytes(&rt, bytes, b"ab%5d%%c");
-    expect_seven(&rt, rt.alloc(), &copy_of(&rt, rt.alloc(), &format));
-    expect_seven(&rt, rt.alloc(), &format);
-    let bytes = b"a%q";
-    assert!(rt; error_of(rt.alloc(), bytes) == Some(FormatError::BadFormat(1)));
-    expect_bytes(&rt, bytes, b"a%q");
+    let format = parsed(&rt, rt.alloc(), b"ab%5d%%c");
+    let copy = again!(&rt, format.clone());
+    for each in [&format, &copy] {
+        expect_print(&rt, rt.alloc(), each, &[Number(7)], b"ab    7%c");
+    }
 }

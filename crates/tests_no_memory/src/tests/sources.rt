@@ -154,31 +154,18 @@ fn put_file(
     Ok(())
 }
 
-// That a put of the file "f" failed, since no memory was found to make its cord, or to take more than a prefix of it.
-fn expect_part(rt: &impl Abort, sink: &MemSink, error: FileError, bytes: &[u8]) {
-    let is_unmade = error == FileError::NoMemory && sink.bytes().is_empty();
-    assert!(rt; is_unmade || sink.failures() == 1);
-    assert!(rt; bytes.starts_with(sink.bytes()));
-}
-
-// Puts all of the file "f".
-fn put_all(rt: &impl Abort, alloc: Global, sources: &mut Sources<MemFiles>, bytes: &[u8]) {
-    let mut sink = MemSink::new(alloc);
-    assert!(rt; put_file(alloc, sources, &mut sink) == Ok(()));
-    expect_bytes(rt, sink.bytes(), bytes);
-}
-
-// Puts the file "f" of these bytes. No read is refused; a sink that found no memory has taken a prefix, and another one
-// takes all.
+// Puts the file "f" of these bytes. No read is refused: where there was no memory for its cord nothing is put, and a sink
+// that found none has taken a prefix; another sink then takes all.
 fn expect_put(rt: &impl Abort, alloc: Global, sources: &mut Sources<MemFiles>, bytes: &[u8]) {
     let mut sink = MemSink::new(alloc);
-    match put_file(alloc, sources, &mut sink) {
-        Ok(()) => expect_bytes(rt, sink.bytes(), bytes),
-        Err(error) => {
-            expect_part(rt, &sink, error, bytes);
-            put_all(rt, alloc, sources, bytes);
-        }
+    if let Err(error) = put_file(alloc, sources, &mut sink) {
+        let is_unmade = error == FileError::NoMemory && sink.bytes().is_empty();
+        assert!(rt; is_unmade || sink.failures() == 1);
+        assert!(rt; bytes.starts_with(sink.bytes()));
+        sink = MemSink::new(alloc);
+        assert!(rt; put_file(alloc, sources, &mut sink) == Ok(()));
     }
+    expect_bytes(rt, sink.bytes(), bytes);
     assert!(rt; sources.failures() == 0);
 }
 
