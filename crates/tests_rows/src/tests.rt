@@ -2,4 +2,3 @@
 mod faults;
 mod plans;
 mod runs;
-mod scripts;

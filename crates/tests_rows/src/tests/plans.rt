@@ -1,6 +1,7 @@
 // Plans of worked scripts, as they are printed, against texts that were written by hand.
-use cord_io::{CordError, FuseSink, MemSink};
+use cord_io::{MemFiles, MemSink};
 use cord_plan::{Plan, plan};
+use cord_run::{End, run};
 use cord_script::{Script, parse};
 use std::process::Abort;
 
@@ -113,11 +114,13 @@ fn plans_of_cases(rt: HostRuntime) {
     }
 }
 
-// A sink that takes a byte a call and fails at the tenth call.
 #[test]
-fn a_sink_that_fails_has_a_prefix(rt: HostRuntime) {
-    let planned = plan_of(&rt, SEAM, true);
-    let mut sink = FuseSink::new(MemSink::new(rt.alloc()), 9, 1);
-    assert!(rt; planned.show(&mut sink) == Err(CordError::WriteFailed));
-    assert!(rt; sink.inner().bytes() == b"1 build a".as_slice());
+fn parse_plan_run(rt: HostRuntime) {
+    assert!(rt; read(&rt, HELLO).statements().len() == 2);
+    for is_planned in [true, false] {
+        let plan = plan_of(&rt, HELLO, is_planned);
+        let mut written = MemSink::new(rt.alloc());
+        let end = run(rt.alloc(), &plan, MemFiles::new(rt.alloc()), &mut written).0;
+        assert!(rt; end == End::Done && written.bytes() == b"hello".as_slice());
+    }
 }

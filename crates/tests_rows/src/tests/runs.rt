@@ -1,10 +1,8 @@
 //! Cases of scripts through `run_text` and `run_unplanned`: the end, and what is written.
-mod blocks;
 mod cases;
 mod files;
 mod hostile;
 mod malformed;
-mod plans;
 mod refusals;
 
 use cord_io::{Files, FuseSink, MemFiles, MemSink, Sink};
@@ -189,24 +187,11 @@ fn substrings(rt: &(impl AllocGlobal + Abort)) -> Vec<u8> {
     script
 }
 
-// Of two names after the first few that share a slot each keeps its own number: 97 * 31 + 80 is 98 * 31 + 49.
-const ONE_SLOT: &str =
-    "set n1 1 ; set n2 2 ; set n3 3 ; set n4 4 ; set n5 5 ; set n6 6 ; set n7 7 ; set n8 8 ; set aP 10 ; \
-        set b1 20 ; set n9 9 ; add aP aP 1 ; sprintf z \"%d %d %d %d\" aP b1 n1 n9 ; put z";
-
-// Lines and names at their limits, names of one slot, and substrings of a text of two gigabytes, which share it.
+// Lines at their limit, and substrings of a text of two gigabytes, which share it.
 #[test]
 fn built_scripts(rt: HostRuntime) {
     expect_end(&rt, "empty-script", b"", End::Done, b"");
     let script = filled(&rt, b"", b'\n', 65_536);
     expect_end(&rt, "lines-at-the-limit", &script, End::Done, b"");
-    expect_end(&rt, "names-at-the-limit", &names(&rt, 256), End::Done, b"");
-    expect_end(
-        &rt,
-        "names-of-one-slot",
-        &lines(&rt, ONE_SLOT),
-        End::Done,
-        b"11 20 1 9",
-    );
     expect_end(&rt, "substrings-share", &substrings(&rt), End::Done, b"97");
 }

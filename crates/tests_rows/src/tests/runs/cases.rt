@@ -4,7 +4,6 @@ use cord_meaning::FaultKind::{
     BadByte, Negative, NoFile, OutOfRange, Overflow, TooLong, TooManyTurns,
 };
 use cord_run::End;
-use std::process::Abort;
 
 // A name, a script with ` ; ` between its lines, how it ends, and what it writes.
 pub(super) type Case = (&'static str, &'static str, End, &'static [u8]);
@@ -156,6 +155,14 @@ pub(super) const SEARCHES: &[Case] = &[
 ];
 
 pub(super) const BLOCKS: &[Case] = &[
+    (
+        "ec-goes-on-after-tocord",
+        "ecinit e ; repeat 129 ; ecput e 65 ; end ; ectocord z e ; ecput e 66 ; put z ; ectocord y e ; len n y ; \
+            sprintf t \"%d\" n ; put t",
+        End::Done,
+        b"AAAAAAAAAAAAAAAAAAAAAAAAAAAAAAAAAAAAAAAAAAAAAAAAAAAAAAAAAAAAAAAAAAAAAAAAAAAAAAAAAAAAA\
+            AAAAAAAAAAAAAAAAAAAAAAAAAAAAAAAAAAAAAAAAAAAA130",
+    ),
     (
         "doubled-thirty-times",
         r#"let x "ab" ; repeat 30 ; cat x x x ; end ; len n x ; fetch c x 2147483647 ; sprintf z "%d %c" n c ; put z"#,
@@ -331,9 +338,96 @@ pub(super) const FAULTS: &[Case] = &[
     ),
 ];
 
-pub(super) const EC_GOES_ON: &str =
-    "ecinit e ; repeat 129 ; ecput e 65 ; end ; ectocord z e ; ecput e 66 ; put z ; ectocord y e ; len n y ; \
-        sprintf t \"%d\" n ; put t";
+// Words as they are read.
+const WORDS: &[Case] = &[
+    ("comments", " \t\r ; # \"\\q ; #", End::Done, b""),
+    (
+        "escapes",
+        r#"let x "\\\"\n\t\xAf\xfA" ; put x"#,
+        End::Done,
+        &[92, 34, 10, 9, 175, 250],
+    ),
+    ("blanks", "\tlet x\"a b\"\r ; put x", End::Done, b"a b"),
+    (
+        "name-at-the-limit",
+        r#"let _234567890123456789012345678901Z "a" ; put _234567890123456789012345678901Z"#,
+        End::Done,
+        b"a",
+    ),
+    (
+        "name-of-a-statement",
+        r#"let let "a" ; put let"#,
+        End::Done,
+        b"a",
+    ),
+    (
+        "operands-at-the-limit",
+        r#"let x "a" ; catn z x x x x x x x x x x x x x x x x ; put z"#,
+        End::Done,
+        &[b'a'; 16],
+    ),
+    (
+        "blocks-at-the-limit",
+        "repeat 1 ; repeat 1 ; repeat 1 ; repeat 1 ; repeat 1 ; repeat 1 ; repeat 1 ; repeat 1 ; \
+            end ; end ; end ; end ; end ; end ; end ; end",
+        End::Done,
+        b"",
+    ),
+    // Of two names after the first few that share a slot each keeps its own number: 97 * 31 + 80 is 98 * 31 + 49.
+    (
+        "names-of-one-slot",
+        "set n1 1 ; set n2 2 ; set n3 3 ; set n4 4 ; set n5 5 ; set n6 6 ; set n7 7 ; set n8 8 ; set aP 10 ; \
+            set b1 20 ; set n9 9 ; add aP aP 1 ; sprintf z \"%d %d %d %d\" aP b1 n1 n9 ; put z",
+        End::Done,
+        b"11 20 1 9",
+    ),
+    (
+        "cord-into-ec",
+        r#"let x "ab" ; ecinit e ; eccat e x ; ecput e 67 ; eccat e x ; ectocord y e ; put y"#,
+        End::Done,
+        b"abCab",
+    ),
+    (
+        "each-other-statement",
+        "chars a 65 3 ; nul b 2 ; sub n -9223372036854775808 1 ; if n gt 1 ; end",
+        End::Fault(3, Overflow),
+        b"",
+    ),
+    (
+        "a-run-of-the-longest-length-is-searched-at-once",
+        r#"chars a 97 1099511627775 ; chr n a 0 98 ; rchr m a 1099511627774 98 ; sprintf t "%d %d" n m ; put t"#,
+        End::Done,
+        b"-1 -1",
+    ),
+];
+
+// A branch that is run, or not, and a loop that isn't.
+const BRANCHES: &[Case] = &[
+    (
+        "first-branch",
+        "if -1 lt 0 ; repeat -1 ; end ; else ; repeat -1 ; end ; end",
+        End::Fault(2, Negative),
+        b"",
+    ),
+    (
+        "second-branch",
+        "if 2 eq 1 ; repeat -1 ; end ; else ; repeat -1 ; end ; end",
+        End::Fault(5, Negative),
+        b"",
+    ),
+    (
+        "turns-of-both-loops",
+        "repeat 1000 ; repeat 1000 ; end ; end",
+        End::Fault(2, TooManyTurns),
+        b"",
+    ),
+    (
+        "no-turn",
+        "repeat 0 ; repeat -1 ; end ; end",
+        End::Done,
+        b"",
+    ),
+];
 
 // Names that get their own text with another one in the place of a range of it.
 const EDITS: &[Case] = &[
@@ -491,24 +585,20 @@ const DEFINITIONS: &[Case] = &[
     ),
 ];
 
-fn expect_cases(rt: &(impl AllocGlobal + Abort), cases: &[Case]) {
-    for (name, script, end, out) in cases {
-        expect_end(rt, name, &lines(rt, script), *end, out);
-    }
-}
-
 #[test]
 fn cases(rt: HostRuntime) {
-    for cases in [CORDS, SEARCHES, BLOCKS, EDITS, FAULTS] {
-        expect_cases(&rt, cases);
+    for cases in [
+        CORDS,
+        WORDS,
+        SEARCHES,
+        BLOCKS,
+        BRANCHES,
+        EDITS,
+        FAULTS,
+        DEFINITIONS,
+    ] {
+        for (name, script, end, out) in cases {
+            expect_end(&rt, name, &lines(&rt, script), *end, out);
+        }
     }
-}
-
-#[test]
-fn definitions_and_an_extensible_cord(rt: HostRuntime) {
-    expect_cases(&rt, DEFINITIONS);
-    let mut out = vec![in rt.alloc(); b'A'; 129].expect(&rt, "no memory");
-    out.extend_from_slice(b"130").expect(&rt, "no memory");
-    let script = lines(&rt, EC_GOES_ON);
-    expect_end(&rt, "ec-goes-on-after-tocord", &script, End::Done, &out);
 }

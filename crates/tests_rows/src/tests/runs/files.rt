@@ -293,15 +293,13 @@ fn bytes_of(rt: &(impl AllocGlobal + Abort), bytes: Bytes) -> Vec<u8> {
         Text(text) => Vec::from_slice(rt.alloc(), text).expect(rt, "no memory"),
         Numbered(count) => numbered(rt, count),
         Copies(byte, count) => filled(rt, b"", byte, count),
-        Twice(count) => twice(rt, &numbered(rt, count)),
+        Twice(count) => {
+            let mut all = numbered(rt, count);
+            add(rt, &mut all, &numbered(rt, count));
+            all
+        }
         Prefix(most) => numbered(rt, most),
     }
-}
-
-fn twice(rt: &(impl AllocGlobal + Abort), bytes: &[u8]) -> Vec<u8> {
-    let mut all = Vec::from_slice(rt.alloc(), bytes).expect(rt, "no memory");
-    add(rt, &mut all, bytes);
-    all
 }
 
 // Files in memory: this one, and "b" of 600 bytes.
@@ -346,40 +344,5 @@ fn cases_over_files(rt: HostRuntime) {
         for is_planned in case.3 {
             expect_way(&rt, case, *is_planned);
         }
-    }
-}
-
-// The files "p0", "p1" and so on, each of one byte: its number.
-fn numbered_files(rt: &(impl AllocGlobal + Abort), count: u8) -> MemFiles {
-    let alloc = rt.alloc();
-    let mut files = MemFiles::new(alloc);
-    for n in 0..count {
-        let path = format!(in alloc; "p{n}").expect(rt, "no memory");
-        files
-            .add(alloc, path.as_str(), &[n])
-            .expect(rt, "no memory");
-    }
-    files
-}
-
-// A script that puts so many of them.
-fn puts_of_files(rt: &(impl AllocGlobal + Abort), count: u8) -> Vec<u8> {
-    let alloc = rt.alloc();
-    let mut script = Vec::new(alloc);
-    for n in 0..count {
-        let line = format!(in alloc; "file x \"p{n}\"\nput x\n").expect(rt, "no memory");
-        add(rt, &mut script, line.as_bytes());
-    }
-    script
-}
-
-#[test]
-fn files_at_the_limit(rt: HostRuntime) {
-    let script = puts_of_files(&rt, 64);
-    for is_planned in [true, false] {
-        let mut sink = MemSink::new(rt.alloc());
-        let answer = run_way(&rt, &script, numbered_files(&rt, 64), &mut sink, is_planned).0;
-        assert!(rt; answer == Ok(End::Done));
-        assert!(rt; sink.bytes() == numbered(&rt, 64).as_slice());
     }
 }

@@ -2,7 +2,7 @@
 //! end.
 ghost use Rattle.std.specs.Prelude.{◌≡◌, ◌<◌, length};
 
-use super::cases::{BLOCKS, CORDS, EC_GOES_ON, FAULTS, SEARCHES};
+use super::cases::{BLOCKS, CORDS, FAULTS, SEARCHES};
 use super::refusals::REFUSALS;
 use super::{line_and, lines, numbered, run_way, substrings};
 use cord_io::{FuseSink, MemSink, Sink};
@@ -66,7 +66,6 @@ fn cases_with_blocks(rt: HostRuntime) {
             run_malformed(&rt, lines(&rt, script), b"");
         }
     }
-    run_malformed(&rt, lines(&rt, EC_GOES_ON), b"");
 }
 
 #[test]

@@ -45,6 +45,12 @@ pub(super) const REFUSALS: &[Case] = &[
     ("len-into-cord", r#"let x "a" ; len x x"#, 2, WrongKind),
     ("cat-of-itself-unknown", "cat x x x", 1, UnknownName),
     (
+        "operands-one-too-many",
+        r#"let x "a" ; catn z x x x x x x x x x x x x x x x x x"#,
+        2,
+        WrongCount,
+    ),
+    (
         "loops-too-deep",
         "repeat 1 ; repeat 1 ; repeat 1 ; repeat 1 ; repeat 1 ; repeat 1 ; repeat 1 ; repeat 1 ; repeat 1",
         9,
@@ -73,6 +79,47 @@ pub(super) const REFUSALS: &[Case] = &[
     ("chars-quoted-number", r#"chars a "0" 1"#, 1, BadNumber),
     ("fn-bad-function", "fn d letters 1", 1, BadName),
     ("number-unknown", "set n m", 1, UnknownName),
+];
+
+// Scripts with words that are wrong, the first of which counts: the line and the kind of the refusal.
+const WORDS: &[(&str, u32, RefusalKind)] = &[
+    ("let x \"a\"\"b\"", 1, WrongCount),
+    ("\"let\" x \"a\"", 1, UnknownStatement),
+    ("\n # \"\n\nput y\n", 4, UnknownName),
+    ("put x\nlet x \"a\"", 1, UnknownName),
+    ("let x \"\\q\"", 1, BadEscape),
+    ("let x \"\\x4", 1, BadEscape),
+    ("let x \"\\x4g\"", 1, BadEscape),
+    ("let x \"\\", 1, BadEscape),
+    ("let _234567890123456789012345678901Z3 \"\"", 1, BadName),
+    ("let 9 a", 1, BadName),
+    ("catn z x", 1, WrongCount),
+    ("let x \"a\"\ncatn z x 5", 2, BadName),
+    ("let x \"a\"\ncatn z x y 5", 2, BadName),
+    ("let x \"a\"\ncatn z x y", 2, UnknownName),
+    ("let x \"a\"\nset n 1\ncatn z x n", 3, WrongKind),
+    ("sprintf z", 1, WrongCount),
+    ("sprintf 9 x", 1, BadName),
+    ("sprintf 9 \"%q\"", 1, BadName),
+    ("sprintf z x", 1, WrongKind),
+    ("sprintf z \"%q\" 1", 1, BadFormat),
+    ("sprintf z \"%d\" 1 2", 1, WrongCount),
+    ("sprintf z \"%d%s\" 9x", 1, WrongCount),
+    ("sprintf z \"%d\" \"a\"", 1, BadNumber),
+    ("sprintf z \"%d%s\" 9x 5", 1, BadNumber),
+    ("sprintf z \"%s\" 5", 1, BadName),
+    ("sprintf z \"%s\" y", 1, UnknownName),
+    ("set n 1\nsprintf z \"%s\" n", 2, WrongKind),
+    ("set n 1\nsprintf n \"%d\" 1", 2, WrongKind),
+    ("fn x letters 9x", 1, BadName),
+    ("file x p", 1, WrongKind),
+    ("file x \"a\\x00\"", 1, BadName),
+    ("file x \"\\x80\"", 1, BadName),
+    ("set n 9223372036854775808", 1, BadNumber),
+    ("set n -", 1, BadNumber),
+    ("set n +1", 1, BadName),
+    ("end 1", 1, WrongCount),
+    ("ecput e 1", 1, UnknownName),
 ];
 
 // A name, a text and so many copies of a byte after it, which are the script, and the line and the kind of its refusal.
@@ -107,6 +154,9 @@ const SIZES: &[(&str, &[u8], u8, usize, u32, RefusalKind)] = &[
 fn refusals(rt: HostRuntime) {
     for &(name, script, line, kind) in REFUSALS {
         expect_refused(&rt, name, &lines(&rt, script), line, kind);
+    }
+    for &(script, line, kind) in WORDS {
+        expect_refused(&rt, script, script.as_bytes(), line, kind);
     }
     for &(name, text, byte, count, line, kind) in SIZES {
         expect_refused(&rt, name, &filled(&rt, text, byte, count), line, kind);
