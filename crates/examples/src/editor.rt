@@ -35,71 +35,53 @@ mod window;
 use anyhow::Result;
 use buffer::Buffer;
 use command::Command;
-use cord::{CordError, StdSink, Text};
+use cord::{StdSink, Text};
 use edit::edited;
 use refusal::Refusal;
 use std::alloc::Global;
 use std::io::ErrorKind;
 use window::window_of;
 
-/// Does what a command says, and answers the text that is to be written, if any.
-fn obey(
-    alloc: Global,
-    buffer: &mut Buffer,
-    command: &Command<'_>,
-) -> Result<Option<Text>, Refusal> {
+/// Does what a command says, and answers the text that is to be written.
+fn obey(alloc: Global, buffer: &mut Buffer, command: &Command<'_>) -> Result<Text, Refusal> {
     match command {
-        Command::Edit(edit) => {
-            let text = edited(alloc, buffer.text(), edit)?;
-            buffer.keep(text)?;
-        }
+        Command::Edit(edit) => buffer.keep(edited(alloc, buffer.text(), edit)?)?,
         Command::Undo => buffer.undo()?,
         Command::Redo => buffer.redo()?,
-        Command::Find(wanted) => return Ok(Some(place_of(alloc, buffer.text(), wanted)?)),
-        Command::Window(place) => return Ok(Some(window_of(alloc, buffer.text(), *place)?)),
-        Command::Print => return Ok(Some(buffer.text().share(alloc)?)),
-        Command::Quit => {}
+        Command::Find(wanted) => return place_of(alloc, buffer.text(), wanted),
+        Command::Window(place) => return Ok(window_of(alloc, buffer.text(), *place)?),
+        Command::Print => return Ok(buffer.text().share(alloc)?),
     }
-    Ok(None)
+    Ok(Text::empty())
 }
 
 /// The first place of a text, on a line of its own.
 fn place_of(alloc: Global, text: &Text, wanted: &str) -> Result<Text, Refusal> {
     let found = text.find(alloc, wanted.as_bytes(), 0)?;
     let place = found.ok_or(Refusal::NotFound)?;
-    Ok(line_of(alloc, place)?)
+    let line = format!(in alloc; "{place}\n")?;
+    Ok(Text::from_str(alloc, line.as_str())?)
 }
 
-/// A number on a line of its own.
-fn line_of(alloc: Global, number: u64) -> Result<Text, CordError> {
-    let line = format!(in alloc; "{number}\n")?;
-    Text::from_str(alloc, line.as_str())
-}
-
-/// Obeys a line, and writes what comes of it. Answers whether the program goes on.
-fn take(rt: &HostRuntime, buffer: &mut Buffer, line: &str) -> Result<bool> {
+/// Obeys a line, and writes what comes of it.
+fn take(rt: &HostRuntime, buffer: &mut Buffer, line: &str) -> Result<()> {
     let answer = match Command::parse(line) {
-        Ok(Command::Quit) => return Ok(false),
         Ok(command) => obey(rt.alloc(), buffer, &command),
         Err(refusal) => Err(refusal),
     };
     match answer {
-        Ok(Some(text)) => text.put(&mut StdSink::new(rt.stdout()))?,
-        Ok(None) => {}
+        Ok(text) => text.put(&mut StdSink::new(rt.stdout()))?,
         Err(refusal) => println!(rt; "{line}: {refusal}")?,
     }
-    Ok(true)
+    Ok(())
 }
 
 /// Takes the lines of standard input, up to one that ends the program.
 fn take_input(rt: &HostRuntime, buffer: &mut Buffer) -> Result<()> {
     for line in rt.lines(rt.alloc()) {
         match line {
-            Ok(line) => {
-                if !take(rt, buffer, line.as_str())? {
-                    break;
-                }
-            }
+            Ok(line) if line.as_str() == "quit" => break,
+            Ok(line) => take(rt, buffer, line.as_str())?,
             Err(error) if error.kind() == ErrorKind::InvalidData => {
                 println!(rt; "a line that isn't UTF-8")?;
             }

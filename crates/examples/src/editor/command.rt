@@ -11,7 +11,6 @@ pub enum Command<'a> {
     Print,
     Undo,
     Redo,
-    Quit,
 }
 
 impl<'a> Command<'a> {
@@ -24,7 +23,6 @@ impl<'a> Command<'a> {
             "print" => Command::Print,
             "undo" => Command::Undo,
             "redo" => Command::Redo,
-            "quit" => Command::Quit,
             _ => Command::Edit(edit_of(name, rest)?),
         };
         Ok(command)

@@ -5,8 +5,18 @@ ghost use Rattle.examples.specs.Records.{row_arguments};
 
 use super::record::Record;
 use anyhow::Result;
-use cord::{Format, FormatError, Text, TextArg};
+use cord::{Format, FormatError, PrintError, Text, TextArg};
 use std::alloc::Global;
+
+const HEAD: &[u8] = b"Fruit sold                           page %2u of %2u\n\
+    Name                 Count      Price       Amount\n\
+    --------------------------------------------------\n";
+
+const ROW: &[u8] = b"%-19.19s %6u %7u.%02u %9u.%02u\n";
+
+const SUM: &[u8] = b"--------------------------------------------------\n\
+    %-36s %10u.%02u\n\
+    \n";
 
 /// The formats of the lines, each of 50 bytes. An amount is printed as its whole part and its hundredths.
 #[derive(Drop)]
@@ -20,21 +30,16 @@ impl Layout {
     /// Reads the formats. Refused only when out of memory.
     pub fn new(alloc: Global) -> Result<Layout, FormatError> {
         Ok(Layout {
-            head: Format::parse(alloc, b"%-36s page %2u of %2u\n")?,
-            row: Format::parse(alloc, b"%-19.19s %6u %7u.%02u %9u.%02u\n")?,
-            sum: Format::parse(alloc, b"%-36s %10u.%02u\n")?,
+            head: Format::parse(alloc, HEAD)?,
+            row: Format::parse(alloc, ROW)?,
+            sum: Format::parse(alloc, SUM)?,
         })
     }
 
-    /// The head of a page, and of how many.
-    pub fn head(&self, alloc: Global, title: &str, page: u32, pages: u32) -> Result<Text> {
-        let title = Text::from_str(alloc, title)?;
-        let args = [
-            TextArg::Text(&title),
-            TextArg::Num(page.into()),
-            TextArg::Num(pages.into()),
-        ];
-        Ok(Text::print(alloc, &self.head, &args)?)
+    /// The head of a page, and of how many: three lines.
+    pub fn head(&self, alloc: Global, page: u32, pages: u32) -> Result<Text, PrintError> {
+        let args = [TextArg::Num(page.into()), TextArg::Num(pages.into())];
+        Text::print(alloc, &self.head, &args)
     }
 
     /// The row of a record.
@@ -53,7 +58,7 @@ impl Layout {
         Ok(Text::print(alloc, &self.row, &args)?)
     }
 
-    /// A sum of cents.
+    /// The end of a page: a sum of cents under a rule, and an empty line.
     pub fn sum(&self, alloc: Global, label: &str, cents: u64) -> Result<Text> {
         let label = Text::from_str(alloc, label)?;
         let args = [

@@ -9,13 +9,6 @@ use anyhow::{Context, Result};
 use cord::{CordError, Text, TextBuilder};
 use std::alloc::Global;
 
-const TITLE: &str = "Fruit sold";
-
-const COLUMNS: &str = "Name                 Count      Price       Amount\n";
-
-/// The line under the heads of the columns, and over a sum.
-const RULE: &str = "--------------------------------------------------\n";
-
 const ROWS_PER_PAGE: u32 = 5;
 
 /// The pages of a report, and the page that grows.
@@ -57,11 +50,10 @@ impl Report {
         ensures { OnOk result (self.new.total ≡ self.old.total + amount_of entry.now) }
     {
         if self.rows == ROWS_PER_PAGE {
-            self.turn(alloc, "Carried forward")?;
+            self.end_page(alloc, "Carried forward")?;
         }
         let total = self.total.checked_add(entry.amount());
-        let row = self.layout.row(alloc, entry)?;
-        self.page.push_text(alloc, &row)?;
+        self.page.push_text(alloc, &self.layout.row(alloc, entry)?)?;
         self.rows += 1;
         self.total = total.context("the total is too great")?;
         Ok(())
@@ -79,22 +71,12 @@ impl Report {
     }
 
     /// Ends the page with the sum so far, and begins another one.
-    fn turn(&mut self, alloc: Global, label: &str) -> Result<()>
+    fn end_page(&mut self, alloc: Global, label: &str) -> Result<()>
         ensures total { self.new.total ≡ self.old.total }
         ensures rows { OnOk result (self.new.rows ≡ 0) }
     {
         let sum = self.layout.sum(alloc, label, self.total)?;
-        self.end_page(alloc, &sum)?;
-        Ok(())
-    }
-
-    /// Ends the page with a sum under a rule, and begins another one.
-    fn end_page(&mut self, alloc: Global, sum: &Text) -> Result<(), CordError>
-        ensures total { self.new.total ≡ self.old.total }
-        ensures rows { OnOk result (self.new.rows ≡ 0) }
-    {
-        self.page.push_bytes(alloc, RULE.as_bytes())?;
-        self.page.push_text(alloc, sum)?;
+        self.page.push_text(alloc, &sum)?;
         self.pages.push(self.page.to_text(alloc)?)?;
         self.page = TextBuilder::new(alloc)?;
         self.rows = 0;
@@ -103,7 +85,7 @@ impl Report {
 
     /// The whole report: each page under its head, and then the notes.
     pub fn finish(&mut self, alloc: Global) -> Result<Text> {
-        self.turn(alloc, "Total")?;
+        self.end_page(alloc, "Total")?;
         let mut report = TextBuilder::new(alloc)?;
         self.put_all(alloc, &mut report)?;
         Ok(report.to_text(alloc)?)
@@ -113,25 +95,11 @@ impl Report {
     fn put_all(&mut self, alloc: Global, report: &mut TextBuilder) -> Result<()> {
         let pages = u32::try_from(self.pages.len())?;
         for (page, number) in self.pages.iter().zip(1..=pages) {
-            let head = self.layout.head(alloc, TITLE, number, pages)?;
-            put_page(alloc, report, &head, page)?;
+            report.push_text(alloc, &self.layout.head(alloc, number, pages)?)?;
+            report.push_text(alloc, page)?;
         }
         let notes = self.notes.to_text(alloc)?;
         report.push_text(alloc, &notes)?;
         Ok(())
     }
-}
-
-/// Adds a page under this head to a report.
-fn put_page(
-    alloc: Global,
-    report: &mut TextBuilder,
-    head: &Text,
-    page: &Text,
-) -> Result<(), CordError> {
-    report.push_text(alloc, head)?;
-    report.push_bytes(alloc, COLUMNS.as_bytes())?;
-    report.push_bytes(alloc, RULE.as_bytes())?;
-    report.push_text(alloc, page)?;
-    report.push_bytes(alloc, b"\n")
 }
