@@ -3,14 +3,13 @@ ghost use Rattle.std.specs.Prelude.{◌≡◌, ◌≤◌};
 ghost use Rattle.cord_io.specs.Table.{Lengths, length_at};
 ghost use Rattle.cord_core.specs.Cord.{CordFitsIn};
 
-use super::byte_source::ByteSource;
+use super::byte_source::six_hundred;
 use super::cases::expect_case;
 use super::made::{Part, Parts, made};
 use super::trees::{cord_of, joined};
-use Part::{Func, Leaf, Run, Twice};
-use Step::{At, Fetched, Gone, Len, Nexts, Prev};
+use Part::{Leaf, Run, Twice};
+use Step::{At, Fetched, Len, Nexts, Prev};
 use cord_core::Cord;
-use cord_io::{CordError, Source};
 use cord_pos::Position;
 use std::alloc::Global;
 use std::process::Abort;
@@ -22,12 +21,10 @@ enum Step {
     Nexts(u32),
     // A step back.
     Prev,
-    // It is at this index, where it is inside, after so many visits.
+    // It is at this index, or outside, after so many visits.
     At(Option<u64>, u64),
-    // It is outside.
-    Gone,
-    // Its byte is this over a table of so many reads, whose source 2 has 600 times a byte.
-    Fetched(u8, u64, Result<u8, CordError>),
+    // Its byte is this.
+    Fetched(u8),
     // It is in a cord of this length.
     Len(u64),
 }
@@ -39,31 +36,22 @@ const TWO_LEAVES: Parts = &[Leaf(&[120; 100]), Leaf(&[121; 100])];
 // Two leaves of 100 bytes, twice.
 const FOUR_LEAVES: Parts = &[Leaf(&[120; 100]), Leaf(&[121; 100]), Twice(1)];
 
-// The first byte of source 2.
-const SOURCE: Parts = &[Func(0, 1)];
-
 // From a place on.
 const WALKS: &[(&str, Parts, u64, &[Step])] = &[
     (
         "position_calls",
         ABC,
         1,
-        &[
-            Fetched(0, 0, Ok(98)),
-            Nexts(1),
-            Fetched(0, 0, Ok(99)),
-            At(Some(2), 1),
-            Len(3),
-        ],
+        &[Fetched(98), Nexts(1), Fetched(99), At(Some(2), 1), Len(3)],
     ),
     (
         "positions_end_on_both_sides",
         ABC,
         2,
-        &[Nexts(1), Gone, Prev, Gone],
+        &[Nexts(1), At(None, 1), Prev, At(None, 1)],
     ),
-    ("positions_end_on_both_sides", ABC, 0, &[Prev, Gone]),
-    ("positions_end_on_both_sides", ABC, 3, &[Gone]),
+    ("positions_end_on_both_sides", ABC, 0, &[Prev, At(None, 1)]),
+    ("positions_end_on_both_sides", ABC, 3, &[At(None, 0)]),
     (
         "visits_counted",
         TWO_LEAVES,
@@ -92,7 +80,7 @@ const WALKS: &[(&str, Parts, u64, &[Step])] = &[
             Nexts(199),
             At(Some(399), 7),
             Nexts(1),
-            Gone,
+            At(None, 7),
         ],
     ),
     (
@@ -100,22 +88,6 @@ const WALKS: &[(&str, Parts, u64, &[Step])] = &[
         FOUR_LEAVES,
         400,
         &[Len(400), At(None, 0)],
-    ),
-    (
-        "position_keeps_no_bytes",
-        SOURCE,
-        0,
-        &[Fetched(97, 1, Ok(97)), Fetched(98, 1, Ok(98))],
-    ),
-    (
-        "a_fault_leaves_the_position",
-        SOURCE,
-        0,
-        &[
-            Fetched(97, 0, Err(CordError::ReadFailed)),
-            At(Some(0), 1),
-            Fetched(97, 1, Ok(97)),
-        ],
     ),
     ("a_run_has_its_byte", &[Run(46, 3)], 2, &[At(Some(2), 1)]),
     ("depth_fifty", &[Leaf(&[7; 65]); 51], 0, &[At(Some(0), 51)]),
@@ -130,33 +102,13 @@ fn walk_on(position: &mut Position, steps: u32)
     }
 }
 
-fn expect_fetched(
-    rt: &impl Abort,
-    name: &str,
-    position: &mut Position,
-    byte: u8,
-    reads: u64,
-    answer: Result<u8, CordError>,
-)
+fn expect_fetched(rt: &impl Abort, name: &str, position: &mut Position, byte: u8)
     requires { (lengths : Lengths) → 600 ≤ length_at lengths 2 → CordFitsIn lengths position.old.cord }
     ensures { position.new.cord ≡ position.old.cord }
 {
-    let bytes = [byte; 600];
-    let mut source = ByteSource {
-        bytes: &bytes,
-        cut: u64::MAX,
-        reads,
-        failures: 0,
-    };
     assert!(rt; position.is_valid());
-    let fetched = position.fetch(&mut source);
-    expect_case(rt, fetched == answer, name, reads);
-    expect_case(
-        rt,
-        source.failures() == u64::from(answer.is_err()),
-        name,
-        reads,
-    );
+    let fetched = position.fetch(&mut six_hundred((0, 0)));
+    expect_case(rt, fetched == Ok(byte), name, u64::from(byte));
 }
 
 fn take_step(rt: &impl Abort, name: &str, position: &mut Position, step: Step)
@@ -171,11 +123,7 @@ fn take_step(rt: &impl Abort, name: &str, position: &mut Position, step: Step)
             expect_case(rt, position.index() == index, name, visits);
             expect_case(rt, position.visits() == visits, name, visits);
         }
-        Gone => {
-            expect_case(rt, !position.is_valid(), name, position.visits());
-            expect_case(rt, position.index() == None, name, position.visits());
-        }
-        Fetched(byte, reads, answer) => expect_fetched(rt, name, position, byte, reads, answer),
+        Fetched(byte) => expect_fetched(rt, name, position, byte),
         Len(len) => expect_case(rt, position.cord().len() == len, name, len),
     }
 }

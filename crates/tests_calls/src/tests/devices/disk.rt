@@ -16,7 +16,7 @@ use std::rt;
 const DIGITS: [u8; 10] = *b"0123456789";
 
 // How a machine fails.
-#[derive(Clone, Copy, PartialEq, Eq)]
+#[derive(Clone, Copy)]
 enum Trouble {
     Nothing,
     Missing,
@@ -93,7 +93,7 @@ impl Write for MachineFile {
 impl Seek for MachineFile {
     fn seek(&mut self, to: SeekFrom) -> io::Result<u64> {
         match to {
-            SeekFrom::End(0) if self.trouble != Trouble::NoSeek => Ok(10),
+            SeekFrom::End(0) if !matches!(self.trouble, Trouble::NoSeek) => Ok(10),
             _ => unsupported(),
         }
     }
@@ -101,10 +101,10 @@ impl Seek for MachineFile {
 
 impl OpenFile for MachineFile {
     fn metadata(&self) -> io::Result<Metadata> {
-        if self.trouble == Trouble::Directory {
-            return Ok(Metadata::of_dir());
+        match self.trouble {
+            Trouble::Directory => Ok(Metadata::of_dir()),
+            _ => Ok(Metadata::of_file(10)),
         }
-        Ok(Metadata::of_file(10))
     }
 
     fn set_len(&self, _size: u64) -> io::Result<()> {
@@ -292,14 +292,6 @@ fn cases_of_machines(rt: HostRuntime) {
     read_in_turn(&rt, &mut DiskFiles::new(machine, alloc));
 }
 
-// The files of the machine that runs the test.
-fn real<R: rt::Files + AllocGlobal + Abort + Clone>(rt: &R) -> DiskFiles<R>
-where
-    R::File: FileExt,
-{
-    DiskFiles::new(rt.clone().expect(rt, "no runtime"), rt.alloc())
-}
-
 const REAL_PATH: &str = "cord_calls_digits";
 
 // What is asked of the opened file when the machine has none there any more.
@@ -319,7 +311,7 @@ where
     R::File: FileExt,
 {
     fs::write(rt, REAL_PATH, DIGITS.as_slice()).expect(rt, "not written");
-    let mut files = real(rt);
+    let mut files = DiskFiles::new(rt.clone().expect(rt, "no runtime"), rt.alloc());
     let no = opened(rt, &mut files, REAL_PATH);
     fs::remove_file(rt, REAL_PATH).expect(rt, "not removed");
     expect_answers(rt, &mut files, no, REMOVED);
