@@ -1,5 +1,6 @@
-//! Worked examples of scripts, of their plans and of runs, through the public calls of the crates that they try. They
-//! stand in a crate of their own, since tests inside a crate have all of it proved a second time.
+//! Worked examples of scripts, of their plans and of runs, through the public calls of the crates that they try, and
+//! the calls of all crates with each allocation refused. They stand in a crate of their own, since tests inside a crate
+//! have all of it proved a second time.
 #![tactic(auto)]
 
 ghost use Rattle.std.specs.Prelude.{◌≡◌, ◌++◌, replicate, IfOk};

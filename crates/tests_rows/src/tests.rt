@@ -1,4 +1,5 @@
-//! What is read, planned and run, case by case.
+//! What is read, planned and run, case by case; and calls of all crates that are refused memory.
 mod faults;
 mod plans;
+mod refused;
 mod runs;

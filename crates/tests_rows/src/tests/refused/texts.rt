@@ -8,11 +8,15 @@ use std::alloc::Global;
 use std::process::Abort;
 use std::rc::{Rc, RcSlice};
 
-/// So many bytes of the pattern.
+/// So many bytes: at each place the place modulo 251, a prime that divides no length of a block or a leaf.
 pub fn pattern(rt: &impl Abort, alloc: Global, count: usize) -> Vec<u8>
     ensures { length result.items ≡ count }
 {
-    again!(rt, crate::pattern(alloc, count))
+    let mut text = again!(rt, Vec::from_elem(alloc, 0, count));
+    for (place, byte) in text.iter_mut().enumerate() {
+        *byte = (place % 251) as u8;
+    }
+    text
 }
 
 /// A shared slice of these bytes.
@@ -94,7 +98,12 @@ fn after<'a>(node: &Rc<Node>, text: &'a [u8]) -> Option<&'a [u8]>
         } => { text.strip_prefix(&bytes.as_slice()[*start as usize..(*start + *len) as usize]) }
         Node::Run { byte, len } => {
             let (run, rest) = text.split_at_checked(*len as usize)?;
-            run.iter().all(|each| each == byte).then_some(rest)
+            for each in run {
+                if each != byte {
+                    return None;
+                }
+            }
+            Some(rest)
         }
         Node::Func { .. } => None,
         Node::Cat { left, right, .. } => after(right, after(left, text)?),
