@@ -209,23 +209,22 @@ fn expect_shown(rt: &impl Abort, shown: Result<String, AllocError>, wanted: &str
     assert!(rt; shown.as_str() == wanted, "{shown} is not {wanted}");
 }
 
+fn expect_debug(rt: &impl Abort, alloc: Global, text: &Text, wanted: &str) {
+    expect_shown(rt, format!(in alloc; "{text:?}"), wanted);
+}
+
+// A long text is shown by its beginning.
+const LONG: &str =
+    r#"Text(33, b"\n\n\n\n\n\n\n\n\n\n\n\n\n\n\n\n\n\n\n\n\n\n\n\n\n\n\n\n\n\n\n\n"..)"#;
+
 #[test]
 fn texts_are_shown(rt: HostRuntime) {
     let alloc = rt.alloc();
     let text = greeting(&rt, alloc);
     expect_shown(&rt, text.to_string(alloc), "hello world---hello world!");
-    let shown = format!(in alloc; "{text:?}");
-    expect_shown(&rt, shown, "Text(26, b\"hello world---hello world!\")");
-}
-
-#[test]
-fn long_texts_are_shown_by_their_beginning(rt: HostRuntime) {
-    let alloc = rt.alloc();
-    let text = run_of(&rt, alloc, b'\n', 33);
-    let shown = format!(in alloc; "{text:?}");
-    let prefix = r"\n\n\n\n\n\n\n\n\n\n\n\n\n\n\n\n\n\n\n\n\n\n\n\n\n\n\n\n\n\n\n\n";
-    let wanted = format!(in alloc; "Text(33, b\"{prefix}\"..)").expect(&rt, "no memory");
-    expect_shown(&rt, shown, wanted.as_str());
+    let shown = r#"Text(26, b"hello world---hello world!")"#;
+    expect_debug(&rt, alloc, &text, shown);
+    expect_debug(&rt, alloc, &run_of(&rt, alloc, b'\n', 33), LONG);
 }
 
 // A euro sign, of which each byte stands in a part of its own, and then other bytes.
@@ -236,18 +235,18 @@ fn cut_euro(rt: &impl Abort, alloc: Global, rest: &[u8]) -> Text {
     cut.append_bytes(alloc, rest).expect(rt, "no memory")
 }
 
-#[test]
-fn characters_may_lie_in_several_parts(rt: HostRuntime) {
-    let alloc = rt.alloc();
-    let whole = cut_euro(&rt, alloc, b"\xAC and so on");
-    expect_shown(&rt, whole.to_string(alloc), "\u{20AC} and so on");
-}
+// What comes after two bytes of the sign, and what is shown: what is no character is replaced.
+const AFTER: [(&[u8], &str); 2] = [
+    (b"\xAC and so on", "\u{20AC} and so on"),
+    (b"a\xFFb\xC3", "\u{FFFD}a\u{FFFD}b\u{FFFD}"),
+];
 
 #[test]
-fn what_is_no_character_is_replaced(rt: HostRuntime) {
-    let alloc = rt.alloc();
-    let cut = cut_euro(&rt, alloc, b"a\xFFb\xC3");
-    expect_shown(&rt, cut.to_string(alloc), "\u{FFFD}a\u{FFFD}b\u{FFFD}");
+fn characters_may_lie_in_several_parts(rt: HostRuntime) {
+    for (rest, wanted) in AFTER {
+        let text = cut_euro(&rt, rt.alloc(), rest);
+        expect_shown(&rt, text.to_string(rt.alloc()), wanted);
+    }
 }
 
 #[test]
