@@ -178,22 +178,23 @@ fn put_range<const N: usize, S: Source, W: Sink>(
     let mut buffer = [0; N];
     let mut done = 0;
     while done < len {
-        let count = piece_len(len - done, most_of(done, N));
+        let count = piece_len(len - done, most_of(start, done, N));
         put_piece(id, start + done, &mut buffer[..count], src, sink)?;
         done += count as u64;
     }
     Ok(())
 }
 
-// How many bytes the next of these pieces has at most. The first one of a long range is short: it goes out before more
-// are asked for, so that a device which fails after it has given it.
-fn most_of(done: u64, most: usize) -> usize
+// How many bytes the next of these pieces has at most, in a range from `start` on. The first one of a long range is
+// short: it goes out before more are asked for, so that a device which fails after it has given it. It ends where a
+// block of a file ends, so that those after it are whole blocks, which are read where they are put from.
+fn most_of(start: u64, done: u64, most: usize) -> usize
     requires { 0 < most }
     ensures some { 0 < result }
     ensures inside { result ≤ most }
 {
     if done == 0 && most == BLOCK_LEN {
-        PIECE_LEN
+        PIECE_LEN - (start % PIECE_LEN as u64) as usize
     } else {
         most
     }
