@@ -108,12 +108,12 @@ pub record IsGathering (start longer : List Part) (all rest : ℕ) : Type 0 wher
   pub few : CAP * length longer < CAP * length start + all + CAP
 
 -- the text with one leaf more
-pub leaf_text : (longer leaf next all : List Cell) (b run rest left : List ℕ) (n : ℕ) → next ≡ longer ++ leaf → leaf ≡ map known b →
-    b ≡ run → run ≡ take n rest → left ≡ drop n rest → longer ++ map known rest ≡ all → next ++ map known left ≡ all
-leaf_text longer leaf next all b run rest left n next_is leaf_is bytes_are prefix back before =
+pub leaf_text : (longer next all : List Cell) (b run rest left : List ℕ) (n : ℕ) → next ≡ longer ++ map known b → b ≡ run →
+    run ≡ take n rest → left ≡ drop n rest → longer ++ map known rest ≡ all → next ++ map known left ≡ all
+leaf_text longer next all b run rest left n next_is bytes_are prefix back before =
     let whole : run ++ left ≡ rest =
     ap (λ (x : List ℕ). x ++ left) prefix ∙ ap (λ (x : List ℕ). take n rest ++ x) back ∙ take-append-drop n rest in
-    ap (λ (x : List Cell). x ++ map known left) (next_is ∙ ap (λ (x : List Cell). longer ++ x) (leaf_is ∙ ap (map known) bytes_are))
+    ap (λ (x : List Cell). x ++ map known left) (next_is ∙ ap (λ (x : List ℕ). longer ++ map known x) bytes_are)
     ∙ append_assoc longer (map known run) (map known left)
     ∙ ap (λ (x : List Cell). longer ++ x) (sym (map-append known run left) ∙ ap (map known) whole)
     ∙ before

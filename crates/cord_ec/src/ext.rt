@@ -266,7 +266,6 @@ fn leaf_of(alloc: Global, buffer: &RawBuf) -> Result<Cord, AllocError>
     ensures text { IfOk result (λ c. text c ≡ map known buffer.now) }
     ensures len { IfOk result (λ c. text_len c ≡ length buffer.now) }
     ensures parts { IfOk result (λ c. parts_of c ≡ leaf_parts buffer.now) }
-    ensures small { length buffer.now ≤ RawBuf.CAP }
     ensures sound { IfOk result IsCord }
 {
     if buffer.len() == 0 {
@@ -296,8 +295,7 @@ fn cat_leaves(alloc: Global, cord: Cord, bytes: &[u8]) -> Result<Cord, AllocErro
         let (run, after) = rest.split_at(rest.len().min(RawBuf::CAP as usize));
         leaf_bytes.clear();
         leaf_bytes.extend(alloc, run)?;
-        let leaf = leaf_of(alloc, &leaf_bytes)?;
-        longer = cat_within(alloc, &longer, &leaf)?;
+        longer = whole(alloc, &longer, &leaf_bytes)?;
         rest = after;
     }
     Ok(longer)
