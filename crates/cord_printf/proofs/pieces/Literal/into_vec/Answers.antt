@@ -1,0 +1,5 @@
+use Rattle.std.proofs.Common.{rules}
+use Rattle.cord_printf.proofs.pieces.Literal.into_vec.Goals as goal
+
+pub returns : goal.returns
+returns c = search rules
