@@ -6,9 +6,8 @@ use Rattle.std.proofs.lemmas.List.{take_more, get_or-reverse, get_or-take, lengt
 use Rattle.std.proofs.lemmas.Option.{unwrap_or-slice_get}
 use Rattle.cord_io.specs.Table.{Table, Lengths, HasLengths}
 use Rattle.cord_node.specs.declared.Node.{Node}
-use Rattle.cord_node.proofs.TableLemmas.{Fits-reported}
 use Rattle.cord_core.specs.Cord.{text_len, bytes_of, IsCord, CordFitsIn}
-use Rattle.cord_core.proofs.OverLemmas.{length-bytes}
+use Rattle.cord_core.proofs.OverLemmas.{length-bytes, CordFits-reported}
 use Rattle.cord_pos.specs.Position.{prev_index, IsByteAt}
 use Rattle.cord_iter.specs.Walk.{walk, WalkedPrefix}
 use Rattle.cord_iter.specs.inner.Walk.{places_up_to}
@@ -17,8 +16,7 @@ use Rattle.cord_iter.proofs.Walks.{walk_on, walk_one, walk_stop_in}
 -- a cord that fits has as long a text as it stores
 pub cord_len : (ls : Lengths) (t : Table) (c : Option Node) → HasLengths ls t → IsCord c → CordFitsIn ls c →
     length (bytes_of t c) ≡ text_len c
-cord_len ls t None reported s f = refl
-cord_len ls t (Some n) reported s f = sym (length-bytes t (Some n) s (Fits-reported ls t n reported f))
+cord_len ls t c reported s f = sym (length-bytes t c s (CordFits-reported ls t c reported f))
 
 -- the bytes from the place `i` down
 abbrev pub downward : List ℕ → ℕ → List ℕ

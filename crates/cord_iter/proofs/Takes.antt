@@ -1,25 +1,28 @@
 -- What a sink took in several calls, one after the other.
-use Rattle.std.proofs.Common.{◌≡◌, ℕ, ◌+◌, ◌-◌, ◌≤◌, List, ◌++◌, length, take, drop, Ok, Err, refl, sym, ◌∙◌, ap, arith, append_assoc}
-use Rattle.std.proofs.Common.{length-append}
+use Rattle.std.proofs.Common.{◌≡◌, ℕ, ◌+◌, ◌-◌, ◌≤◌, List, [], ◌++◌, length, take, drop, Ok, Err, refl, sym, ◌∙◌, ap, arith, append_assoc}
+use Rattle.std.proofs.Common.{length-append, append-nil}
 use Rattle.std.proofs.lemmas.Bool.{false≢true}
 use Rattle.std.specs.Prelude.{IsErr, replicate}
-use Rattle.std.proofs.lemmas.List.{take-append-drop, drop-drop, take-replicate, replicate-append-replicate}
+use Rattle.std.proofs.lemmas.List.{take-append-drop, take-replicate, replicate-append-replicate}
+use Rattle.std.proofs.lemmas.Result.{on_ok_weaker, on_err_weaker}
+use Rattle.std.specs.Result.{OnOk, OnErr, IsErrAnd}
+use Rattle.std.specs.declared.result.Result.{Result}
 use Rattle.std.specs.declared.rc.Rc.{Rc}
 use Rattle.std.specs.Global.{Global}
-use Rattle.std.specs.Result.{OnErr}
-use Rattle.std.specs.declared.result.Result.{Result}
-use Rattle.std.proofs.Math.Seq.{take-add}
 use Rattle.cord_io.specs.Device.{FileSystem, raised}
+use Rattle.cord_io.specs.Frames.{LeavesSource}
 use Rattle.cord_io.specs.Table.{Table}
-use Rattle.cord_io.specs.declared.SourceId.{SourceId}
+use Rattle.cord_io.specs.declared.faults.CordError.{CordError}
+use Rattle.cord_io.specs.declared.faults.CordError.TheVariants.{NoMemory, TooLong, ReadFailed, WriteFailed}
+use Rattle.cord_io.specs.declared.sources.Source as sources
 use Rattle.cord_io.specs.declared.writing.Sink as sinks
 use Rattle.cord_node.specs.PartsFrom.{Part}
 use Rattle.cord_node.specs.declared.Node.{Node}
-use Rattle.cord_node.specs.declared.Node.TheVariants.{Func, Cat'}
+use Rattle.cord_node.specs.declared.Node.TheVariants.{Cat'}
 use Rattle.cord_node.specs.Tree.{len_of, IsSound}
 use Rattle.cord_node.specs.Tables.{bytes_over}
-use Rattle.cord_iter.specs.Output.{IsPrefixOf, Takes, Writes}
-use Rattle.cord_iter.specs.inner.Output.{IsTextRead, IsPrefixOver}
+use Rattle.cord_iter.specs.Output.{IsPrefixOf, Takes, Writes, FailureCounts, CountsFaults, failures_of}
+use Rattle.cord_iter.specs.inner.Output.{IsTextRead, IsPrefixOver, Puts}
 
 -- bytes after bytes
 pub appends_both : (a b c x y : List ℕ) → b ≡ a ++ x → c ≡ b ++ y → c ≡ a ++ (x ++ y)
@@ -50,81 +53,105 @@ prefix_more whole first rest x h k = (k.0 ++ rest, h ∙ ap (λ (l : List ℕ). 
 pub prefix_take : (whole : List ℕ) (n : ℕ) → IsPrefixOf whole (take n whole)
 prefix_take whole n = (drop n whole, sym (take-append-drop n whole))
 
--- a range, and the one after it
-range_join : (xs : List ℕ) (s a b : ℕ) → take (a + b) (drop s xs) ≡ take a (drop s xs) ++ take b (drop (s + a) xs)
-range_join xs s a b = take-add a b (drop s xs) ∙ ap (λ (l : List ℕ). take a (drop s xs) ++ take b l) (drop-drop a s xs)
+-- no device failed before
+faults_on : {T : Type 0} (old mid new : FailureCounts) (r : Result T CordError) → (mid.source ≡ old.source) × (mid.sink ≡ old.sink) →
+    CountsFaults mid new r → CountsFaults old new r
+faults_on old mid new (Ok x) e h = (h.0 ∙ e.0, h.1 ∙ e.1)
+faults_on old mid new (Err ReadFailed) e h = (h.0 ∙ ap raised e.0, h.1 ∙ e.1)
+faults_on old mid new (Err WriteFailed) e h = (h.0 ∙ e.0, h.1 ∙ ap raised e.1)
+faults_on old mid new (Err NoMemory) e h = h
+faults_on old mid new (Err TooLong) e h = h
 
--- a range of a source and the range after it
-func_range : (xs x y : List ℕ) (s a b : ℕ) → x ≡ take a (drop s xs) → y ≡ take b (drop (s + a) xs) → x ++ y ≡ take (a + b) (drop s xs)
-func_range xs x y s a b h k = rw (h, k) (sym (range_join xs s a b))
+module _ {S W : Type 0} {s : sources.Ghosts S} {w : sinks.Ghosts W} where
+  -- of no bytes none were put
+  pub puts_none : {text : Table → List ℕ} {old : S} {a : W} → ((t : Table) → [] ≡ text t) → Puts s w 0 text old old a a (Ok tt)
+  puts_none {old} {a} is = record {
+    took = record {
+      out = [];
+      such = record { len = refl; whole = λ file_system agrees. is (s.table old file_system) };
+      taken = sym (append-nil (w.taken a));
+    };
+    prefix = tt;
+    faults = (refl, refl);
+    source = record { lengths = refl; table = refl; earlier = λ file_system agrees. agrees };
+    finished = refl;
+  }
 
-pub func_text : {before consistent : FileSystem → Type 0} (table : FileSystem → Table) (id : SourceId) (s a b : ℕ) (x y : List ℕ) →
-    ((file_system : FileSystem) → consistent file_system → before file_system) → IsTextRead before table (Func id a s) x →
-    IsTextRead consistent table (Func id b (s + a)) y → IsTextRead consistent table (Func id (a + b) s) (x ++ y)
-func_text table id s a b x y earlier h k = record {
-  len = length-append x y ∙ (let i : length x ≡ a = h.len in let j : length y ≡ b = k.len in omega arith);
-  text = λ file_system agrees. func_range (table file_system id.0) x y s a b (h.text file_system (earlier file_system agrees))
-      (k.text file_system agrees);
-}
+  module _ {n : ℕ} {text : Table → List ℕ} {old new : S} {a b : W} where
+    -- what the sink took
+    pub put_text : {r : Result (Unit {0}) CordError} → Puts s w n text old new a b r → (file_system : FileSystem) →
+        s.consistent new file_system → OnOk r (w.taken b ≡ w.taken a ++ text (s.table old file_system))
+    put_text {r = Ok x} puts file_system agrees = puts.took.taken ∙ ap (λ out. w.taken a ++ out) (puts.took.such.whole file_system agrees)
+    put_text {r = Err e} puts file_system agrees = tt
 
--- a range of a source and a prefix of the range after it
-range_prefix : (xs x y : List ℕ) (s a b n : ℕ) → a + b ≤ n → x ≡ take a (drop s xs) → IsPrefixOf (take b (drop (s + a) xs)) y →
-    IsPrefixOf (take n (drop s xs)) (x ++ y)
-range_prefix xs x y s a b n e h k =
-    let m : n ≡ (a + b) + (n - (a + b)) = omega arith in
-    let first : take n (drop s xs) ≡ take (a + b) (drop s xs) ++ take (n - (a + b)) (drop (a + b) (drop s xs)) =
-    ap (λ (l : ℕ). take l (drop s xs)) m ∙ take-add (a + b) (n - (a + b)) (drop s xs) in
-    prefix_more (take n (drop s xs)) (take (a + b) (drop s xs)) (take (n - (a + b)) (drop (a + b) (drop s xs))) (x ++ y) first
-    (rw h (prefix_join (take (a + b) (drop s xs)) (take a (drop s xs)) (take b (drop (s + a) xs)) y (range_join xs s a b) k))
+    pub put_len : {r : Result (Unit {0}) CordError} → Puts s w n text old new a b r →
+        OnOk r (Takes (λ out. length out ≡ n) (w.taken a) (w.taken b))
+    put_len {r = Ok x} puts = takes_such puts.took (λ x is. is.len)
+    put_len {r = Err e} puts = tt
 
-pub func_prefix : {before consistent : FileSystem → Type 0} (table : FileSystem → Table) (id : SourceId) (s a b n : ℕ) (x y : List ℕ) → a +
-    b ≤ n →
-    ((file_system : FileSystem) → consistent file_system → before file_system) → IsTextRead before table (Func id a s) x →
-    IsPrefixOver consistent table (Func id b (s + a)) y → IsPrefixOver consistent table (Func id n s) (x ++ y)
-func_prefix table id s a b n x y e earlier h k = record {
-  len = rw (length-append x y) (let i : length x ≡ a = h.len in let j : length y ≤ b = k.len in omega arith);
-  prefix = λ file_system agrees. range_prefix (table file_system id.0) x y s a b n e (h.text file_system (earlier file_system agrees))
-      (k.prefix file_system agrees);
-}
+    -- and where a device failed
+    pub put_prefix : {r : Result (Unit {0}) CordError} → Puts s w n text old new a b r → (file_system : FileSystem) →
+        s.consistent new file_system → OnErr r (Takes (IsPrefixOf (text (s.table old file_system))) (w.taken a) (w.taken b))
+    put_prefix {r = Ok x} puts file_system agrees = tt
+    put_prefix {r = Err e} puts file_system agrees = takes_such puts.prefix (λ x is. is.prefix file_system agrees)
 
--- the two sides of a concatenation
-pub record AreSides (l r n : Node) : Type 0 where
-  pub len : len_of n ≡ len_of l + len_of r
-  pub bytes : (t : Table) → bytes_over t n ≡ bytes_over t l ++ bytes_over t r
+    pub put_most : {r : Result (Unit {0}) CordError} → Puts s w n text old new a b r →
+        OnErr r (Takes (λ out. length out ≤ n) (w.taken a) (w.taken b))
+    put_most {r = Ok x} puts = tt
+    put_most {r = Err e} puts = takes_such puts.prefix (λ x is. is.len)
 
--- the texts of both
-pub cat_text : {before consistent : FileSystem → Type 0} (table : FileSystem → Table) (l r n : Node) (x y : List ℕ) → AreSides l r n →
-    ((file_system : FileSystem) → consistent file_system → before file_system) → IsTextRead before table l x → IsTextRead consistent table r
-    y →
-    IsTextRead consistent table n (x ++ y)
-cat_text table l r n x y e earlier h k = record {
-  len = length-append x y ∙ (let i : length x ≡ len_of l = h.len in let j : length y ≡ len_of r = k.len in
-      let m : len_of n ≡ len_of l + len_of r = e.len in omega arith);
-  text = λ file_system agrees. rw (h.text file_system (earlier file_system agrees), k.text file_system agrees)
-      (sym (e.bytes (table file_system)));
-}
+  module _ {n : ℕ} (text left right : Table → List ℕ) {old : S} (split : (file_system : FileSystem) → s.consistent old file_system →
+      text (s.table old file_system) ≡ left (s.table old file_system) ++ right (s.table old file_system)) where
+    -- the first part of a text was not put to its end
+    pub puts_some : {k : ℕ} {new : S} {a b : W} {e : CordError} {result : Result (Unit {0}) CordError} →
+        IsErrAnd result (λ fault. fault ≡ e) → k ≤ n → Puts s w k left old new a b (Err e) → Puts s w n text old new a b result
+    puts_some {result = Ok x} is most puts = absurd is
+    puts_some {result = Err fault} is most puts = rw is (record {
+      took = tt;
+      prefix = takes_such puts.prefix (λ x some. record {
+        len = omega (arith, some.len, most);
+        prefix = λ file_system agrees.
+            let t = s.table old file_system in
+            prefix_more (text t) (left t) (right t) x (split file_system (puts.source.earlier file_system agrees))
+            (some.prefix file_system agrees);
+      });
+      faults = puts.faults;
+      source = puts.source;
+      finished = puts.finished;
+    })
 
--- a prefix of the left one
-pub cat_left : {consistent : FileSystem → Type 0} (table : FileSystem → Table) (l r n : Node) (x : List ℕ) → AreSides l r n →
-    IsPrefixOver consistent table l x → IsPrefixOver consistent table n x
-cat_left table l r n x e h = record {
-  len = let i : length x ≤ len_of l = h.len in let m : len_of n ≡ len_of l + len_of r = e.len in omega arith;
-  prefix = λ file_system agrees. let t = table file_system in
-      prefix_more (bytes_over t n) (bytes_over t l) (bytes_over t r) x (e.bytes t) (h.prefix file_system agrees);
-}
-
--- the left one and a prefix of the right one
-pub cat_right : {before consistent : FileSystem → Type 0} (table : FileSystem → Table) (l r n : Node) (x y : List ℕ) → AreSides l r n →
-    ((file_system : FileSystem) → consistent file_system → before file_system) → IsTextRead before table l x → IsPrefixOver consistent table
-    r y →
-    IsPrefixOver consistent table n (x ++ y)
-cat_right table l r n x y e earlier h k = record {
-  len = rw (length-append x y) (let i : length x ≡ len_of l = h.len in let j : length y ≤ len_of r = k.len in
-      let m : len_of n ≡ len_of l + len_of r = e.len in omega arith);
-  prefix = λ file_system agrees. let t = table file_system in
-      rw (h.text file_system (earlier file_system agrees))
-      (prefix_join (bytes_over t n) (bytes_over t l) (bytes_over t r) y (e.bytes t) (k.prefix file_system agrees));
-}
+    -- it was, and then the second part
+    pub puts_both : {k l : ℕ} {mid new : S} {a m b : W} {u : Unit {0}} {result : Result (Unit {0}) CordError} → k + l ≡ n →
+        Puts s w k left old mid a m (Ok u) → Puts s w l right mid new m b result → Puts s w n text old new a b result
+    puts_both {k} {l} {mid} {new} {a} {m} {b} {result} both first second =
+        let earlier : (file_system : FileSystem) → s.consistent new file_system → s.consistent old file_system =
+        λ file_system agrees. first.source.earlier file_system (second.source.earlier file_system agrees) in
+        let took : OnOk result (Takes (IsTextRead (s.consistent new) (s.table old) l right) (w.taken m) (w.taken b)) =
+        rw first.source.table at second.took in
+        let prefix : OnErr result (Takes (IsPrefixOver (s.consistent new) (s.table old) l right) (w.taken m) (w.taken b)) =
+        rw first.source.table at second.prefix in
+        record {
+          took = on_ok_weaker result (λ rest. takes_both first.took rest (λ x y h i. record {
+            len = length-append x y ∙ omega (arith, both, h.len, i.len);
+            whole = λ file_system agrees.
+                rw (h.whole file_system (second.source.earlier file_system agrees), i.whole file_system agrees)
+                (sym (split file_system (earlier file_system agrees)));
+          })) took;
+          prefix = on_err_weaker result (λ rest. takes_both first.took rest (λ x y h i. record {
+            len = rw (length-append x y) (omega (arith, both, h.len, i.len));
+            prefix = λ file_system agrees.
+                let t = s.table old file_system in
+                rw (h.whole file_system (second.source.earlier file_system agrees))
+                (prefix_join (text t) (left t) (right t) y (split file_system (earlier file_system agrees)) (i.prefix file_system agrees));
+          })) prefix;
+          faults = faults_on (failures_of s w old a) (failures_of s w mid m) (failures_of s w new b) result first.faults second.faults;
+          source = record {
+            lengths = second.source.lengths ∙ first.source.lengths;
+            table = second.source.table ∙ first.source.table;
+            earlier = earlier;
+          };
+          finished = second.finished ∙ first.finished;
+        }
 
 -- what holds where there is an error
 pub on_err : {T E P : Type 0} (r : Result T E) → P → OnErr r P
@@ -166,9 +193,13 @@ pub run_more : (a b c : List ℕ) (byte done count n : ℕ) → count ≤ n → 
 run_more a b c byte done count n k s t = appends_both a b c (replicate done byte) (replicate count byte) s
     (rw (take-replicate count n byte k) at t) ∙ ap (λ (l : List ℕ). a ++ l) (replicate-append-replicate done count byte)
 
--- the two sides of a node that is a concatenation
+-- the two sides of a concatenation
+pub record AreSides (l r n : Node) : Type 0 where
+  pub len : len_of l + len_of r ≡ len_of n
+  pub bytes : (t : Table) → bytes_over t n ≡ bytes_over t l ++ bytes_over t r
+
 pub cat_sides : (p : Rc (Unit {0}) Global) (l : Node) (q : Rc (Unit {0}) Global) (r : Node) (len depth count : ℕ) (mark : List Part) (n : Node) →
     n ≡ Cat' mark depth len p l q r count → IsSound n → AreSides l r n
 cat_sides p l q r len depth count mark n e s =
     let sound : IsSound (Cat' mark depth len p l q r count) = rw e at s in
-    rw e (record { len = sound.2; bytes = λ t. refl })
+    rw e (record { len = sym sound.2; bytes = λ t. refl })

@@ -1,14 +1,13 @@
 // Output of cords.
-ghost use Rattle.std.specs.Prelude.{◌≡◌, ◌+◌, ◌<◌, ◌≤◌, ◌++◌, true, OnOk, OnErr, length};
+ghost use Rattle.std.specs.Prelude.{◌≡◌, ◌+◌, ◌<◌, ◌≤◌, ◌++◌, OnOk, OnErr, length, take, drop};
 ghost use Rattle.cord_io.specs.Device.{FileSystem};
 ghost use Rattle.cord_io.specs.Frames.{LeavesSource};
 ghost use Rattle.cord_io.specs.Table.{length_at};
-ghost use Rattle.cord_node.specs.Tree.{IsSound};
-ghost use Rattle.cord_node.specs.Tables.{FitsIn};
+ghost use Rattle.cord_node.specs.Tree.{len_of, IsSound};
+ghost use Rattle.cord_node.specs.Tables.{bytes_over, FitsIn};
 ghost use Rattle.cord_core.specs.Cord.{text_len, bytes_of, CordFitsIn};
-ghost use Rattle.cord_pos.specs.Spans.{is_part};
 ghost use Rattle.cord_iter.specs.Output.{IsPrefixOf, Takes, CountsFaults, failures_of};
-ghost use Rattle.cord_iter.specs.inner.Output.{IsTextRead, IsPrefixOver};
+ghost use Rattle.cord_iter.specs.inner.Output.{Puts};
 
 use crate::pieces::{piece_len, put_all, put_run};
 use crate::{BLOCK_LEN, PAGE_LEN, PIECE_LEN};
@@ -58,50 +57,18 @@ pub fn put<S: Source, W: Sink>(cord: &Cord, src: &mut S, sink: &mut W) -> Result
     ensures source { LeavesSource ⟦<S as Source>⟧ src.old src.new }
     ensures finished { W.finished sink.new ≡ W.finished sink.old }
 {
-    if let Some(root) = cord.root() {
-        put_node(root.as_ref(), src, sink)?;
+    match cord.root() {
+        Some(root) => put_node(root.as_ref(), src, sink),
+        None => Ok(()),
     }
-    Ok(())
 }
 
 // Hands a sink the text of a node.
 fn put_node<S: Source, W: Sink>(node: &Node, src: &mut S, sink: &mut W) -> Result<(), CordError>
     requires sound { IsSound node.now }
     requires fits { FitsIn (S.lengths src.old) node.now }
-    ensures text { OnOk result (Takes (IsTextRead (S.consistent src.new) (S.table src.old) node.now) (W.taken sink.old)
-        (W.taken sink.new)) }
-    ensures prefix { OnErr result (Takes (IsPrefixOver (S.consistent src.new) (S.table src.old) node.now)
-        (W.taken sink.old)
-        (W.taken sink.new)) }
-    ensures faults { CountsFaults (failures_of ⟦<S as Source>⟧ ⟦<W as Sink>⟧ src.old sink.old)
-        (failures_of ⟦<S as Source>⟧ ⟦<W as Sink>⟧ src.new sink.new) result }
-    ensures source { LeavesSource ⟦<S as Source>⟧ src.old src.new }
-    ensures finished { W.finished sink.new ≡ W.finished sink.old }
-{
-    match node {
-        Node::Cat { left, right, .. } => {
-            put_node(left.as_ref(), src, sink)?;
-            put_node(right.as_ref(), src, sink)?;
-        }
-        _ => put_part(node, src, sink)?,
-    }
-    Ok(())
-}
-
-// Hands a sink the text of a part.
-fn put_part<S: Source, W: Sink>(node: &Node, src: &mut S, sink: &mut W) -> Result<(), CordError>
-    requires part { is_part node.now ≡ true }
-    requires sound { IsSound node.now }
-    requires fits { FitsIn (S.lengths src.old) node.now }
-    ensures text { OnOk result (Takes (IsTextRead (S.consistent src.new) (S.table src.old) node.now) (W.taken sink.old)
-        (W.taken sink.new)) }
-    ensures prefix { OnErr result (Takes (IsPrefixOver (S.consistent src.new) (S.table src.old) node.now)
-        (W.taken sink.old)
-        (W.taken sink.new)) }
-    ensures faults { CountsFaults (failures_of ⟦<S as Source>⟧ ⟦<W as Sink>⟧ src.old sink.old)
-        (failures_of ⟦<S as Source>⟧ ⟦<W as Sink>⟧ src.new sink.new) result }
-    ensures source { LeavesSource ⟦<S as Source>⟧ src.old src.new }
-    ensures finished { W.finished sink.new ≡ W.finished sink.old }
+    ensures { Puts ⟦<S as Source>⟧ ⟦<W as Sink>⟧ (len_of node.now) (λ t. bytes_over t node.now) src.old src.new
+        sink.old sink.new result }
 {
     match node {
         Node::Leaf {
@@ -110,16 +77,16 @@ fn put_part<S: Source, W: Sink>(node: &Node, src: &mut S, sink: &mut W) -> Resul
             len,
             ..
         } => {
-            put_all(
-                &bytes.as_slice()[*start as usize..(*start + *len) as usize],
-                sink,
-            )?;
+            let slice = &bytes.as_slice()[*start as usize..(*start + *len) as usize];
+            Ok(put_all(slice, sink)?)
         }
-        Node::Run { byte, len } => put_run(*byte, *len, sink)?,
-        Node::Func { id, start, len } => put_func(*id, *start, *len, src, sink)?,
-        Node::Cat { .. } => unreachable!(),
+        Node::Run { byte, len } => Ok(put_run(*byte, *len, sink)?),
+        Node::Func { id, start, len } => put_func(*id, *start, *len, src, sink),
+        Node::Cat { left, right, .. } => {
+            put_node(left.as_ref(), src, sink)?;
+            put_node(right.as_ref(), src, sink)
+        }
     }
-    Ok(())
 }
 
 // Hands a sink a range of a source: a long one in blocks, so that a sink with a buffer need not keep them.
@@ -132,15 +99,8 @@ fn put_func<S: Source, W: Sink>(
 ) -> Result<(), CordError>
     requires fits { start + len ≤ length_at (S.lengths src.old) id.0 }
     requires limit { start + len ≤ MAX_LEN }
-    ensures text { OnOk result (Takes (IsTextRead (S.consistent src.new) (S.table src.old) (Node.Func id len start))
-        (W.taken sink.old) (W.taken sink.new)) }
-    ensures prefix { OnErr result (Takes (IsPrefixOver (S.consistent src.new) (S.table src.old)
-        (Node.Func id len start))
-        (W.taken sink.old) (W.taken sink.new)) }
-    ensures faults { CountsFaults (failures_of ⟦<S as Source>⟧ ⟦<W as Sink>⟧ src.old sink.old)
-        (failures_of ⟦<S as Source>⟧ ⟦<W as Sink>⟧ src.new sink.new) result }
-    ensures source { LeavesSource ⟦<S as Source>⟧ src.old src.new }
-    ensures finished { W.finished sink.new ≡ W.finished sink.old }
+    ensures { Puts ⟦<S as Source>⟧ ⟦<W as Sink>⟧ len (λ t. take len (drop start (t id.0))) src.old src.new
+        sink.old sink.new result }
 {
     if len <= PIECE_LEN as u64 {
         put_range::<PIECE_LEN, S, W>(id, start, len, src, sink)
@@ -165,15 +125,8 @@ fn put_range<const N: usize, S: Source, W: Sink>(
     requires few { N ≤ BLOCK_LEN }
     requires fits { start + len ≤ length_at (S.lengths src.old) id.0 }
     requires limit { start + len ≤ MAX_LEN }
-    ensures text { OnOk result (Takes (IsTextRead (S.consistent src.new) (S.table src.old) (Node.Func id len start))
-        (W.taken sink.old) (W.taken sink.new)) }
-    ensures prefix { OnErr result (Takes (IsPrefixOver (S.consistent src.new) (S.table src.old)
-        (Node.Func id len start))
-        (W.taken sink.old) (W.taken sink.new)) }
-    ensures faults { CountsFaults (failures_of ⟦<S as Source>⟧ ⟦<W as Sink>⟧ src.old sink.old)
-        (failures_of ⟦<S as Source>⟧ ⟦<W as Sink>⟧ src.new sink.new) result }
-    ensures source { LeavesSource ⟦<S as Source>⟧ src.old src.new }
-    ensures finished { W.finished sink.new ≡ W.finished sink.old }
+    ensures { Puts ⟦<S as Source>⟧ ⟦<W as Sink>⟧ len (λ t. take len (drop start (t id.0))) src.old src.new
+        sink.old sink.new result }
 {
     let mut buffer = [0; N];
     let mut done = 0;
@@ -210,16 +163,8 @@ fn put_piece<S: Source, W: Sink>(
 ) -> Result<(), CordError>
     requires some { 0 < length piece.old }
     requires fits { start + length piece.old ≤ length_at (S.lengths src.old) id.0 }
-    ensures text { OnOk result
-        (Takes (IsTextRead (S.consistent src.new) (S.table src.old) (Node.Func id (length piece.old) start))
-        (W.taken sink.old) (W.taken sink.new)) }
-    ensures prefix { OnErr result
-        (Takes (IsPrefixOver (S.consistent src.new) (S.table src.old) (Node.Func id (length piece.old) start))
-        (W.taken sink.old) (W.taken sink.new)) }
-    ensures faults { CountsFaults (failures_of ⟦<S as Source>⟧ ⟦<W as Sink>⟧ src.old sink.old)
-        (failures_of ⟦<S as Source>⟧ ⟦<W as Sink>⟧ src.new sink.new) result }
-    ensures source { LeavesSource ⟦<S as Source>⟧ src.old src.new }
-    ensures finished { W.finished sink.new ≡ W.finished sink.old }
+    ensures { Puts ⟦<S as Source>⟧ ⟦<W as Sink>⟧ (length piece.old) (λ t. take (length piece.old) (drop start (t id.0)))
+        src.old src.new sink.old sink.new result }
 {
     src.read(id, start, piece)?;
     put_all(piece, sink)?;

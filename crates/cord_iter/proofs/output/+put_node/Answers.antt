@@ -1,47 +1,25 @@
-use Rattle.cord_iter.specs.Output.{Takes}
-use Rattle.cord_iter.specs.inner.Output.{IsTextRead, IsPrefixOver}
-use Rattle.cord_iter.proofs.Takes.{AreSides, cat_sides, cat_text, cat_left, cat_right, takes_both, takes_such, on_err}
+use Rattle.std.proofs.Common.{◌≤◌, arith}
+use Rattle.cord_io.specs.Table.{Table}
+use Rattle.cord_node.specs.Tree.{len_of}
+use Rattle.cord_node.specs.Tables.{bytes_over}
+use Rattle.cord_iter.proofs.Takes.{cat_sides, puts_some, puts_both}
 use Rattle.cord_iter.proofs.output.+put_node.Goals as goal
 
-pub returns-in_err-put_node-in-Cat-clause-prefix : goal.returns-in_err-put_node-in-Cat-clause-prefix
-returns-in_err-put_node-in-Cat-clause-prefix g t c =
-    let table = g.S.Source.table c.args.src.now in
-    let consistent = g.S.Source.consistent in
-    let node = c.args.node.now in
+pub returns-in_err-put_node-in-Cat : goal.returns-in_err-put_node-in-Cat
+returns-in_err-put_node-in-Cat g t c =
     let left = c.in-Cat.left.value in
     let right = c.in-Cat.right.value in
-    let sides : AreSides left right node = cat_sides _ left _ right _ _ _ _ node c.in-Cat.is c.requires.sound in
-    let first : Takes (IsPrefixOver (consistent c.put_node.new.src) table left) (g.W.Sink.taken c.args.sink.now)
-    (g.W.Sink.taken c.put_node.new.sink) = rw c.as_ref.ensures at c.in_err-put_node-in-Cat.ensures.prefix in
-    on_err c.from_residual.result (takes_such first (λ x. cat_left table left right node x sides))
+    let sides = cat_sides _ left _ right _ _ _ _ c.args.node.now c.in-Cat.is c.requires.sound in
+    let less : len_of left ≤ len_of c.args.node.now = omega (arith, sides.len) in
+    puts_some _ (λ (t : Table). bytes_over t left) (λ (t : Table). bytes_over t right)
+    (λ file_system agrees. sides.bytes (g.S.Source.table c.args.src.now file_system)) c.from_residual-in_err-put_node-in-Cat.ensures.1
+    less (rw c.as_ref.ensures at c.in_err-put_node-in-Cat.ensures)
 
-pub returns-in_err-put_node-in-Cat-2-clause-prefix : goal.returns-in_err-put_node-in-Cat-2-clause-prefix
-returns-in_err-put_node-in-Cat-2-clause-prefix g t c =
-    let table = g.S.Source.table c.args.src.now in
-    let consistent = g.S.Source.consistent in
-    let node = c.args.node.now in
+pub returns-in_ok-put_node-in-Cat : goal.returns-in_ok-put_node-in-Cat
+returns-in_ok-put_node-in-Cat g t c =
     let left = c.in-Cat.left.value in
     let right = c.in-Cat.right.value in
-    let sides : AreSides left right node = cat_sides _ left _ right _ _ _ _ node c.in-Cat.is c.requires.sound in
-    let first : Takes (IsTextRead (consistent c.put_node.new.src) table left) (g.W.Sink.taken c.args.sink.now)
-    (g.W.Sink.taken c.put_node.new.sink) = rw c.as_ref.ensures at c.in_ok-put_node-in-Cat.ensures.text in
-    let second : Takes (IsPrefixOver (consistent c.put_node-in-Cat.new.src) table right) (g.W.Sink.taken c.put_node.new.sink)
-    (g.W.Sink.taken c.put_node-in-Cat.new.sink) =
-    rw (c.as_ref-in-Cat.ensures, c.put_node.ensures.source.table) at c.in_err-put_node-in-Cat-2.ensures.prefix in
-    on_err c.from_residual-in_err-put_node-in-Cat-2.result (takes_both first second
-    (λ x y. cat_right table left right node x y sides c.put_node-in-Cat.ensures.source.earlier))
-
-pub returns-in_ok-put_node-in-Cat-2-clause-text : goal.returns-in_ok-put_node-in-Cat-2-clause-text
-returns-in_ok-put_node-in-Cat-2-clause-text g t c =
-    let table = g.S.Source.table c.args.src.now in
-    let consistent = g.S.Source.consistent in
-    let node = c.args.node.now in
-    let left = c.in-Cat.left.value in
-    let right = c.in-Cat.right.value in
-    let sides : AreSides left right node = cat_sides _ left _ right _ _ _ _ node c.in-Cat.is c.requires.sound in
-    let first : Takes (IsTextRead (consistent c.put_node.new.src) table left) (g.W.Sink.taken c.args.sink.now)
-    (g.W.Sink.taken c.put_node.new.sink) = rw c.as_ref.ensures at c.in_ok-put_node-in-Cat.ensures.text in
-    let second : Takes (IsTextRead (consistent c.put_node-in-Cat.new.src) table right) (g.W.Sink.taken c.put_node.new.sink)
-    (g.W.Sink.taken c.put_node-in-Cat.new.sink) =
-    rw (c.as_ref-in-Cat.ensures, c.put_node.ensures.source.table) at c.in_ok-put_node-in-Cat-2.ensures.text in
-    takes_both first second (λ x y. cat_text table left right node x y sides c.put_node-in-Cat.ensures.source.earlier)
+    let sides = cat_sides _ left _ right _ _ _ _ c.args.node.now c.in-Cat.is c.requires.sound in
+    puts_both _ (λ (t : Table). bytes_over t left) (λ (t : Table). bytes_over t right)
+    (λ file_system agrees. sides.bytes (g.S.Source.table c.args.src.now file_system)) sides.len
+    (rw c.as_ref.ensures at c.in_ok-put_node-in-Cat.ensures) (rw c.as_ref-in-Cat.ensures at c.put_node-in-Cat.ensures)
