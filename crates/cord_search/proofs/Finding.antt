@@ -9,14 +9,13 @@ use Rattle.memchr.specs.Find.{Nowhere, NoneBefore, NoneAfter, Passes, IsFirstByt
 use Rattle.cord_io.specs.Table.{Table, Lengths, HasLengths}
 use Rattle.cord_node.specs.declared.Node.{Node}
 use Rattle.cord_core.specs.Cord.{text_len, bytes_of, IsCord, CordFitsIn, CordFits}
-use Rattle.cord_core.proofs.OverLemmas.{length-bytes}
+use Rattle.cord_core.proofs.OverLemmas.{length-bytes, CordFits-reported}
 use Rattle.cord_core.specs.Texts.{StandsAt, first, IsFirst, last, IsLast}
 use Rattle.cord_core.proofs.Places.{at_here, some_here}
 use Rattle.cord_core.proofs.Searches.{first_is_least, last_is_greatest}
 use Rattle.cord_search.specs.inner.Pieces.{IsPieceOf, StandsNot, HasNot}
 use Rattle.cord_pos.specs.Spans.{span_len, span_bytes, IsSpanOf}
 use Rattle.cord_search.specs.inner.Spans.{IsWithout}
-use Rattle.cord_search.proofs.Ranges.{cord_reported}
 use Rattle.cord_pos.specs.declared.span.Span.{Span}
 
 -- there is one first place
@@ -164,11 +163,11 @@ pub first_past : (ls : Lengths) (t : Table) (x : Option Node) (s : Span) (c from
     IsSpanOf x p s → IsWithout s c → StandsNot t x (c ∷ []) from p → StandsNot t x (c ∷ []) from (p + span_len s)
 first_past ls t x s c from p reported f sound h not none =
     λ q low to at. ⊎_elim (λ (lt : q < p). none q low lt at) (λ (le : p ≤ q).
-    not t (q - p) (in_span t x p s c q (cord_reported ls t x reported f) sound h le to (byte_there (bytes_of t x) c q at))) (cases_lt q p)
+    not t (q - p) (in_span t x p s c q (CordFits-reported ls t x reported f) sound h le to (byte_there (bytes_of t x) c q at))) (cases_lt q p)
 
 pub last_past : (ls : Lengths) (t : Table) (x : Option Node) (s : Span) (c at p end : ℕ) → HasLengths ls t → CordFitsIn ls x →
     IsCord x → p + span_len s ≡ end → IsSpanOf x p s → IsWithout s c → HasNot t x c end (at + 1) → HasNot t x c p (at + 1)
 last_past ls t x s c at p end reported f sound seam h not none =
     λ q low to here. ⊎_elim
-    (λ (lt : q < end). not t (q - p) (in_span t x p s c q (cord_reported ls t x reported f) sound h low (omega arith) here))
+    (λ (lt : q < end). not t (q - p) (in_span t x p s c q (CordFits-reported ls t x reported f) sound h low (omega arith) here))
     (λ (le : end ≤ q). none q le to here) (cases_lt q end)

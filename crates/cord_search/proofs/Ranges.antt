@@ -6,9 +6,8 @@ use Rattle.std.proofs.lemmas.List.{take_min, drop-replicate, take-replicate, len
 use Rattle.cord_io.specs.Table.{Table, Lengths, HasLengths, length_at}
 use Rattle.cord_node.specs.declared.Node.{Node}
 use Rattle.cord_node.proofs.Ranges.{range_of_range}
-use Rattle.cord_node.proofs.TableLemmas.{Fits-reported}
 use Rattle.cord_core.specs.Cord.{text_len, bytes_of, IsCord, CordFitsIn, CordFits}
-use Rattle.cord_core.proofs.OverLemmas.{length-bytes}
+use Rattle.cord_core.proofs.OverLemmas.{CordFits-reported}
 use Rattle.cord_pos.specs.Spans.{span_len, span_bytes, IsSpanOf}
 use Rattle.cord_pos.specs.declared.span.Span.{Span}
 use Rattle.cord_pos.specs.declared.span.Span.TheVariants.{Bytes, Run, Func}
@@ -66,21 +65,11 @@ of_source lengths id end some inside = at (lengths id) inside
     at None h = let none : end ≤ 0 = h in absurd (omega (arith, none, some))
     at (Some len) h = h
 
--- a cord that fits the lengths of a table fits the table
-pub cord_reported : (ls : Lengths) (t : Table) (c : Option Node) → HasLengths ls t → CordFitsIn ls c → CordFits t c
-cord_reported ls t None reported f = tt
-cord_reported ls t (Some n) reported f = Fits-reported ls t n reported f
-
--- and has as long a text there as it stores
-pub cord_len : (ls : Lengths) (t : Table) (c : Option Node) → HasLengths ls t → IsCord c → CordFitsIn ls c →
-    length (bytes_of t c) ≡ text_len c
-cord_len ls t c reported sound f = sym (length-bytes t c sound (cord_reported ls t c reported f))
-
 -- a part of a span is a piece of the text
 pub piece_within : (ls : Lengths) (t : Table) (c : Option Node) (place : ℕ) (s : Span) (i j : ℕ) (xs : List ℕ) → HasLengths ls t →
     CordFitsIn ls c → IsSpanOf c place s → i + length xs ≤ span_len s → j ≡ place + i → IsPartOf t s i xs → IsPieceOf t c j xs
 piece_within ls t c place s i j xs reported f h inside e p =
-    p ∙ ap (λ (ys : List ℕ). take (length xs) (drop i ys)) (h.text t (cord_reported ls t c reported f))
+    p ∙ ap (λ (ys : List ℕ). take (length xs) (drop i ys)) (h.text t (CordFits-reported ls t c reported f))
     ∙ range_of_range (bytes_of t c) i (length xs) place (span_len s) inside
     ∙ ap (λ (m : ℕ). take (length xs) (drop m (bytes_of t c))) (sym e)
 

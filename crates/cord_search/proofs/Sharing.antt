@@ -14,7 +14,8 @@ use Rattle.cord_search.specs.inner.SharedParts.{AreAlike}
 use Rattle.cord_search.specs.inner.Pieces.{AreSame, IsPieceOf}
 use Rattle.cord_search.specs.inner.Spans.{BeginAlike, IsPartOf}
 use Rattle.cord_pos.specs.declared.span.Span.{Span}
-use Rattle.cord_search.proofs.Ranges.{cord_reported, prefix_within, take_on}
+use Rattle.cord_core.proofs.OverLemmas.{CordFits-reported}
+use Rattle.cord_search.proofs.Ranges.{prefix_within, take_on}
 
 -- the bytes from a place of a node are those of what is within
 within_bytes : (n : Node) (place : ℕ) (m : Node) (at k : ℕ) (t : Table) → (w : IsWithin n place m at) → Fits t n → at + k ≤ len_of m →
@@ -72,4 +73,4 @@ same_on t x i y j done n next same =
 pub alike_on : (ls : Lengths) (t : Table) (x : Option Node) (i : ℕ) (y : Option Node) (j done n : ℕ) → HasLengths ls t → CordFitsIn ls x →
     CordFitsIn ls y → AreAlike x (i + done) y (j + done) n → AreSame t x i y j done → AreSame t x i y j (done + n)
 alike_on ls t x i y j done n reported f g alike same =
-    same_on t x i y j done n (alike t (cord_reported ls t x reported f) (cord_reported ls t y reported g)) same
+    same_on t x i y j done n (alike t (CordFits-reported ls t x reported f) (CordFits-reported ls t y reported g)) same

@@ -22,7 +22,8 @@ use Rattle.cord_search.specs.inner.Pieces.{IsPieceOf, HoldsText, IsOrderOf, IsSt
 use Rattle.cord_pos.specs.Spans.{span_len, span_bytes, IsSpanOf}
 use Rattle.cord_search.specs.inner.Spans.{IsMisfit, DoesNotFit}
 use Rattle.cord_pos.specs.declared.span.Span.{Span}
-use Rattle.cord_search.proofs.Ranges.{cord_reported, cord_len}
+use Rattle.cord_core.proofs.OverLemmas.{CordFits-reported}
+use Rattle.cord_iter.proofs.Backs.{cord_len}
 use Rattle.cord_search.proofs.Finding.{range_at, range_inside, first_only}
 use Rattle.cord_search.proofs.Comparing.{cmp_same, cmp_equal, piece_prefix}
 
@@ -116,7 +117,7 @@ misfit_on ls t x start place n span head reported sound fits h misfit none =
     differ : (q : ℕ) → StandsAt (bytes_of t x) head q → place ≤ q → DoesNotFit t span head (q - place) → ⊥
     differ q at le d =
         let xs = bytes_of t x in
-        let text = h.text t (cord_reported ls t x reported fits) in
+        let text = h.text t (CordFits-reported ls t x reported fits) in
         let long : length (span_bytes t span) ≡ span_len span =
         ap (λ (ys : List ℕ). length ys) text ∙ length-take-le (span_len span) (drop place xs)
         (omega (arith, h.inside, cord_len ls t x reported sound fits, length-drop place xs)) in

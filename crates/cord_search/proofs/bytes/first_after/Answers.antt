@@ -1,7 +1,7 @@
 use Rattle.std.proofs.Common.{◌≡◌, ◌∙◌, arith}
 use Rattle.cord_pos.specs.Spans.{span_len, IsSpanOf}
 use Rattle.cord_search.proofs.Reading.{not_read, read_on}
-use Rattle.cord_search.proofs.Ranges.{cord_len}
+use Rattle.cord_iter.proofs.Backs.{cord_len}
 use Rattle.cord_search.proofs.Finding.{first_on, first_past, first_found, first_none}
 use Rattle.cord_search.proofs.Moving.{set_valid}
 use Rattle.cord_search.proofs.Sharing.{block_piece}

@@ -1,7 +1,7 @@
 use Rattle.std.proofs.Common.{arith}
 use Rattle.cord_io.specs.Device.{FileSystem}
 use Rattle.cord_search.specs.inner.Pieces.{IsPieceOf}
-use Rattle.cord_search.proofs.Ranges.{cord_len}
+use Rattle.cord_iter.proofs.Backs.{cord_len}
 use Rattle.cord_search.proofs.Sharing.{block_piece}
 use Rattle.cord_search.proofs.Finding.{first_on, first_found, first_none}
 use Rattle.cord_search.proofs.bytes.first_byte.Given.{Over}

@@ -2,7 +2,7 @@ use Rattle.std.proofs.Common.{◌≡◌, ◌∙◌, ◌+◌, ◌-◌, ◌≤◌,
 use Rattle.cord_core.specs.Cord.{text_len, bytes_of}
 use Rattle.cord_core.specs.Texts.{first}
 use Rattle.cord_search.proofs.Reading.{read_on}
-use Rattle.cord_search.proofs.Ranges.{cord_len}
+use Rattle.cord_iter.proofs.Backs.{cord_len}
 use Rattle.cord_search.proofs.Lasts.{best_found, none_after, last_found}
 use Rattle.cord_search.proofs.last.last_place.Goals as goal
 

@@ -1,7 +1,7 @@
 use Rattle.std.proofs.Common.{◌∙◌, ◌+◌, ◌-◌, true, sym, arith}
 use Rattle.cord_core.specs.Cord.{text_len, bytes_of}
 use Rattle.cord_search.specs.inner.Pieces.{IsStanding}
-use Rattle.cord_search.proofs.Ranges.{cord_len}
+use Rattle.cord_iter.proofs.Backs.{cord_len}
 use Rattle.cord_search.proofs.Standing.{nothing_stands}
 use Rattle.cord_search.proofs.Lasts.{last_none, last_empty, last_from, ends_before}
 use Rattle.cord_search.proofs.last.rstr.Goals as goal

@@ -1,4 +1,4 @@
-use Rattle.cord_search.proofs.Ranges.{cord_len}
+use Rattle.cord_iter.proofs.Backs.{cord_len}
 use Rattle.cord_search.proofs.Comparing.{sign_whole}
 use Rattle.cord_search.proofs.order.cmp.Goals as goal
 

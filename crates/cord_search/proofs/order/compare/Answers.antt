@@ -5,7 +5,8 @@ use Rattle.cord_io.specs.Device.{FileSystem}
 use Rattle.cord_pos.specs.Spans.{span_len}
 use Rattle.cord_search.specs.inner.Pieces.{IsOrderOf}
 use Rattle.cord_search.proofs.Reading.{read_on, read_all}
-use Rattle.cord_search.proofs.Ranges.{cord_len, cord_reported}
+use Rattle.cord_core.proofs.OverLemmas.{CordFits-reported}
+use Rattle.cord_iter.proofs.Backs.{cord_len}
 use Rattle.cord_search.proofs.Sharing.{alike_on, same_on}
 use Rattle.cord_search.proofs.Comparing.{cmp_equal, order_of_ranges, different, no_different, range_len, cord_limit}
 use Rattle.cord_search.proofs.order.compare.Given.{Over}
@@ -23,8 +24,8 @@ ranges_are g c file_system agrees =
     let before = c.in_ok-ordering-in-Apart.ensures.read.earlier file_system agrees in
     let reported = g.met.S.Source.lengths_of_table c.args.src.now file_system (c.loop-done.invariant.read.earlier file_system before) in
     order_of_ranges t c.args.x.now (c.args.i + c.loop-done.done) c.args.y.now (c.args.j + c.loop-done.done) c.in-Apart.span c.in-Apart.other
-    c.in_ok-ordering-in-Apart.ordering (cord_reported lengths t c.args.x.now reported c.requires.left_fits)
-    (cord_reported lengths t c.args.y.now reported c.requires.right_fits) c.in-Apart.ensures.ahead.0 c.in-Apart.ensures.ahead.1
+    c.in_ok-ordering-in-Apart.ordering (CordFits-reported lengths t c.args.x.now reported c.requires.left_fits)
+    (CordFits-reported lengths t c.args.y.now reported c.requires.right_fits) c.in-Apart.ensures.ahead.0 c.in-Apart.ensures.ahead.1
     c.in-Apart.ensures.ahead.2 (rw c.loop-done.invariant.read.table at c.in_ok-ordering-in-Apart.ensures.order file_system agrees)
 
 pub overflow_add-i : goal.overflow_add-i

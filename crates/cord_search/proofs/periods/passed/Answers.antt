@@ -1,7 +1,7 @@
 use Rattle.std.proofs.Common.{◌+◌, ◌-◌, arith}
 use Rattle.cord_core.specs.Cord.{text_len, bytes_of}
 use Rattle.cord_search.specs.inner.Periods.{IsCommon}
-use Rattle.cord_search.proofs.Ranges.{cord_len}
+use Rattle.cord_iter.proofs.Backs.{cord_len}
 use Rattle.cord_search.proofs.Repeating.{passed_short, passed_long, passed_none}
 use Rattle.cord_search.proofs.periods.passed.Goals as goal
 

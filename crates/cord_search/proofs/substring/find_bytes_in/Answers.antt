@@ -1,7 +1,7 @@
 use Rattle.std.proofs.Common.{ℕ, ◌∙◌, List, length, ap, arith}
 use Rattle.cord_core.specs.Cord.{text_len}
 use Rattle.cord_core.specs.Texts.{first}
-use Rattle.cord_search.proofs.Ranges.{cord_len}
+use Rattle.cord_iter.proofs.Backs.{cord_len}
 use Rattle.cord_search.proofs.Cuts.{take_limit, ends_within}
 use Rattle.cord_search.proofs.substring.find_bytes_in.Goals as goal
 

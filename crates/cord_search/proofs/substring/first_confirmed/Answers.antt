@@ -5,7 +5,7 @@ use Rattle.cord_io.specs.Table.{Table}
 use Rattle.cord_core.specs.Cord.{bytes_of}
 use Rattle.cord_core.specs.Texts.{first}
 use Rattle.cord_search.proofs.Reading.{read_on}
-use Rattle.cord_search.proofs.Ranges.{cord_len}
+use Rattle.cord_iter.proofs.Backs.{cord_len}
 use Rattle.cord_search.specs.inner.Pieces.{IsPieceOf, IsStanding, StandsNot}
 use Rattle.cord_search.specs.inner.Periods.{HasPeriods}
 use Rattle.cord_search.proofs.Standing.{prefix_on, stands_on, stands_first}

@@ -3,7 +3,7 @@ use Rattle.std.specs.Prelude.{replicate}
 use Rattle.std.proofs.lemmas.List.{length-take-le, length-replicate}
 use Rattle.cord_core.specs.Cord.{text_len, bytes_of}
 use Rattle.cord_core.specs.Texts.{first}
-use Rattle.cord_search.proofs.Ranges.{cord_len}
+use Rattle.cord_iter.proofs.Backs.{cord_len}
 use Rattle.cord_search.specs.inner.Pieces.{IsPieceOf}
 use Rattle.cord_search.proofs.Standing.{whole_text}
 use Rattle.cord_search.proofs.substring.place_of_short.Goals as goal

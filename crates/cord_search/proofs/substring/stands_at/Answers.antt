@@ -1,4 +1,4 @@
-use Rattle.cord_search.proofs.Ranges.{cord_len}
+use Rattle.cord_iter.proofs.Backs.{cord_len}
 use Rattle.cord_search.proofs.Standing.{order_tells}
 use Rattle.cord_search.proofs.substring.stands_at.Goals as goal
 

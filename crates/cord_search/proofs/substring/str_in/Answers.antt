@@ -2,7 +2,7 @@ use Rattle.std.proofs.Common.{ℕ, ◌+◌, ◌≤◌, ◌∙◌, List, ap, true
 use Rattle.cord_core.specs.Cord.{text_len, bytes_of}
 use Rattle.cord_core.specs.Texts.{first}
 use Rattle.cord_search.specs.inner.Pieces.{IsStanding}
-use Rattle.cord_search.proofs.Ranges.{cord_len}
+use Rattle.cord_iter.proofs.Backs.{cord_len}
 use Rattle.cord_search.proofs.Standing.{stands_first, stands_start, nothing_stands}
 use Rattle.cord_search.proofs.Cuts.{first_within, none_within, take_limit, ends_within}
 use Rattle.cord_search.proofs.substring.str_in.Goals as goal
