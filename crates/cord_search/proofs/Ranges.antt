@@ -6,7 +6,7 @@ use Rattle.std.proofs.lemmas.List.{take_min, drop-replicate, take-replicate, len
 use Rattle.cord_io.specs.Table.{Table, Lengths, HasLengths, length_at}
 use Rattle.cord_node.specs.declared.Node.{Node}
 use Rattle.cord_node.proofs.Ranges.{range_of_range}
-use Rattle.cord_core.specs.Cord.{text_len, bytes_of, IsCord, CordFitsIn, CordFits}
+use Rattle.cord_core.specs.Cord.{bytes_of, CordFitsIn}
 use Rattle.cord_core.proofs.OverLemmas.{CordFits-reported}
 use Rattle.cord_pos.specs.Spans.{span_len, span_bytes, IsSpanOf}
 use Rattle.cord_pos.specs.declared.span.Span.{Span}

@@ -11,7 +11,23 @@ use Rattle.cord_search.specs.inner.Periods.{HasPeriods}
 use Rattle.cord_search.proofs.Standing.{prefix_on, stands_on, stands_first}
 use Rattle.cord_search.proofs.Cuts.{first_within, first_whole, none_within, prefix_none}
 use Rattle.cord_search.proofs.Repeating.{passed_on}
+use Rattle.cord_search.proofs.substring.first_confirmed.Given.{Over}
+use Rattle.cord_search.proofs.substring.first_confirmed.Goals.{In-Some}
 use Rattle.cord_search.proofs.substring.first_confirmed.Goals as goal
+
+-- the text stands nowhere before the place where its prefix was found
+none_before : (g : Over) (c : In-Some g) (file_system : FileSystem) → g.S.Source.consistent c.first_of.new.src file_system →
+    StandsNot (g.S.Source.table c.args.src.now file_system) c.args.x.now
+    (bytes_of (g.S.Source.table c.args.src.now file_system) c.args.s.now) c.args.start c.in-Some.found
+none_before g c file_system agrees =
+    let t = g.S.Source.table c.args.src.now file_system in
+    let before = c.in_ok-found.ensures.read.earlier file_system agrees in
+    let hit : Some c.in-Some.found ≡ first (bytes_of t c.args.x.now) c.loop-place.place c.args.prefix.now =
+    first_whole (bytes_of t c.args.x.now) c.args.prefix.now c.args.end c.loop-place.place c.in-Some.found
+    (◌∙◌ {c = first (take c.args.end (bytes_of t c.args.x.now)) c.loop-place.place c.args.prefix.now} (sym c.in-Some.is)
+    (rw c.loop-place.invariant.read.table at c.in_ok-found.ensures.first file_system agrees)) in
+    prefix_on t c.args.x.now c.args.s.now c.args.start c.loop-place.place c.in-Some.found c.args.prefix.now hit
+    (c.requires.prefix file_system (c.loop-place.invariant.read.earlier file_system before)) (c.loop-place.invariant.none file_system before)
 
 pub passed-requires-clause-repeats : goal.passed-requires-clause-repeats
 passed-requires-clause-repeats g c = λ file_system agrees.
@@ -28,14 +44,7 @@ loop-place-preserved g c = record {
       let t = g.S.Source.table c.args.src.now file_system in
       let stood = c.in_ok-count.ensures.read.earlier file_system agrees in
       let after = c.in_ok-stands_at.ensures.read.earlier file_system stood in
-      let before = c.in_ok-found.ensures.read.earlier file_system after in
-      let prefix : IsPieceOf t c.args.s.now 0 c.args.prefix.now = c.requires.prefix file_system
-      (c.loop-place.invariant.read.earlier file_system before) in
-      let hit : Some c.in-Some.found ≡ first (bytes_of t c.args.x.now) c.loop-place.place c.args.prefix.now =
-      first_whole (bytes_of t c.args.x.now) c.args.prefix.now c.args.end c.loop-place.place c.in-Some.found
-      (sym c.in-Some.is ∙ (rw c.loop-place.invariant.read.table at c.in_ok-found.ensures.first file_system after)) in
-      let none = prefix_on t c.args.x.now c.args.s.now c.args.start c.loop-place.place c.in-Some.found c.args.prefix.now hit prefix
-      (c.loop-place.invariant.none file_system before) in
+      let none = none_before g (goal.at.loop-place-preserved g c).In-Some file_system after in
       let here : IsStanding t c.args.x.now c.in-Some.found c.args.s.now false =
       rw (c.first_of.ensures.read.table, c.loop-place.invariant.read.table, c.if-branch.false) at c.in_ok-stands_at.ensures.stands
       file_system stood in
@@ -66,38 +75,27 @@ returns-then-last-found-clause-first g c = λ file_system agrees.
     let before = c.in_ok-found.ensures.read.earlier file_system agrees in
     let first_agrees = c.loop-place.invariant.read.earlier file_system before in
     let reported = g.met.S.Source.lengths_of_table c.args.src.now file_system first_agrees in
-    let hit : Some c.in-Some.found ≡ first (bytes_of t c.args.x.now) c.loop-place.place c.args.prefix.now =
-    first_whole (bytes_of t c.args.x.now) c.args.prefix.now c.args.end c.loop-place.place c.in-Some.found
-    (◌∙◌ {c = first (take c.args.end (bytes_of t c.args.x.now)) c.loop-place.place c.args.prefix.now} (sym c.in-Some.is)
-    (rw c.loop-place.invariant.read.table at c.in_ok-found.ensures.first file_system agrees)) in
-    let none = prefix_on t c.args.x.now c.args.s.now c.args.start c.loop-place.place c.in-Some.found c.args.prefix.now hit
-    (c.requires.prefix file_system first_agrees) (c.loop-place.invariant.none file_system before) in
     let len = cord_len lengths t c.args.s.now reported c.requires.pattern_sound c.requires.pattern_fits in
     none_within t c.args.x.now (bytes_of t c.args.s.now) c.args.start c.in-Some.found c.args.end
-    (omega (arith, len, c.if-last-found.true, c.len.ensures.stored)) none
+    (omega (arith, len, c.if-last-found.true, c.len.ensures.stored))
+    (none_before g (goal.at.returns-then-last-found-clause-first g c).In-Some file_system agrees)
 
 pub returns-then-branch-clause-first : goal.returns-then-branch-clause-first
 returns-then-branch-clause-first g c = λ file_system agrees.
     let t = g.S.Source.table c.args.src.now file_system in
     let after = c.in_ok-stands_at.ensures.read.earlier file_system agrees in
     let before = c.in_ok-found.ensures.read.earlier file_system after in
-    let prefix : IsPieceOf t c.args.s.now 0 c.args.prefix.now = c.requires.prefix file_system
-    (c.loop-place.invariant.read.earlier file_system before) in
     let lengths = g.S.Source.lengths c.args.src.now in
     let first_agrees = c.loop-place.invariant.read.earlier file_system before in
     let reported = g.met.S.Source.lengths_of_table c.args.src.now file_system first_agrees in
     let len = cord_len lengths t c.args.s.now reported c.requires.pattern_sound c.requires.pattern_fits in
-    let hit : Some c.in-Some.found ≡ first (bytes_of t c.args.x.now) c.loop-place.place c.args.prefix.now =
-    first_whole (bytes_of t c.args.x.now) c.args.prefix.now c.args.end c.loop-place.place c.in-Some.found
-    (sym c.in-Some.is ∙ (rw c.loop-place.invariant.read.table at c.in_ok-found.ensures.first file_system after)) in
-    let none = prefix_on t c.args.x.now c.args.s.now c.args.start c.loop-place.place c.in-Some.found c.args.prefix.now hit prefix
-    (c.loop-place.invariant.none file_system before) in
     let here : IsStanding t c.args.x.now c.in-Some.found c.args.s.now true =
     rw (c.first_of.ensures.read.table, c.loop-place.invariant.read.table, c.if-branch.true)
     at c.in_ok-stands_at.ensures.stands file_system agrees in
     first_within (bytes_of t c.args.x.now) (bytes_of t c.args.s.now) c.args.end c.args.start c.in-Some.found
     (omega (arith, len, c.if-last-found.false, c.len.ensures.stored, c.requires.inside))
-    (stands_first t c.args.x.now c.args.s.now c.args.start c.in-Some.found (search rules) here none)
+    (stands_first t c.args.x.now c.args.s.now c.args.start c.in-Some.found (search rules) here
+    (none_before g (goal.at.returns-then-branch-clause-first g c).In-Some file_system after))
 
 pub returns-clause-first : goal.returns-clause-first
 returns-clause-first g c = λ file_system agrees.
