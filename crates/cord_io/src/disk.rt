@@ -22,7 +22,7 @@ use std::rt;
 /// was interrupted, a directory, and out of memory in `open` too, where it was refused twice. A file that is read on is
 /// read ahead, by 4 KiB and then by twice as much each time up to 64 KiB, and one that is read elsewhere by as much as
 /// was read in order before, into memory that it does without where none is found: what fails there is met when its
-/// bytes are asked for. A read gives at most 64 KiB.
+/// bytes are asked for. A read gives at most 128 KiB.
 #[derive(Drop)]
 pub struct DiskFiles<R: rt::Files> {
     answers: Answers<R, R::File>,

@@ -15,7 +15,7 @@ use std::os::unix::fs::FileExt;
 
 // How many bytes the machine is asked for at once at most, where they are many: so few that the processor still has
 // them at hand where they are used next.
-const MAX_READ: usize = 65_536;
+const MAX_READ: usize = 131_072;
 
 // A file of the machine that was opened, with its length, and the span of it that is read. The first `count` of `bytes`
 // are those that the machine gave of it ahead, from `start` on.

@@ -25,4 +25,4 @@ pub(crate) const PAGE_LEN: usize = 4_096;
 
 /// The most bytes of a long run or function part that are put at once: a buffer that has room for no more is passed
 /// over.
-pub(crate) const BLOCK_LEN: usize = 65_536;
+pub(crate) const BLOCK_LEN: usize = 131_072;

@@ -16,7 +16,7 @@ use cord_io::{CordError, MAX_LEN, Sink, Source, SourceId};
 
 /// Hands a sink the text of a cord over a source, after `CORD_put` of `cord.h`: each leaf's slice is offered whole,
 /// after a short `put` the rest, a run in pieces of at most 512 bytes, a function part of more than 512 bytes in pieces
-/// of at most 4,096, and either by 65,536 bytes where it is that long, a function part after its first 512. Refused
+/// of at most 4,096, and either by 131,072 bytes where it is that long, a function part after its first 512. Refused
 /// with `ReadFailed` where a read failed and with `WriteFailed` where a `put` failed: then the sink has taken a prefix
 /// of the text. The text is that over the table of each file system that is consistent with `src` after the call, and
 /// as many bytes are taken whatever it answers. It doesn't finish the sink.

@@ -23,7 +23,7 @@
 //!   one node, whatever the length of the file.
 //! - A text that stands n times is made by doubling and shares itself: at most two nodes for each bit of n. So the text
 //!   of 560 gigabytes is about fifty nodes.
-//! - A range of it is cut by going down from the root once, and `put` writes it in pieces of at most 64 KiB, so memory
+//! - A range of it is cut by going down from the root once, and `put` writes it in pieces of at most 128 KiB, so memory
 //!   stays the same whether a line is written or all.
 //! - The contract of `write_range` says what is written, over any files: that range of the meaning of the template's
 //!   segments.
