@@ -1,5 +1,5 @@
 use Rattle.std.proofs.Common.{sym}
-use Rattle.tests_lines.proofs.edit.Goals as goal
+use Rattle.tests_calls.proofs.edit.Goals as goal
 
 pub returns-clause-index : goal.returns-clause-index
 returns-clause-index c = c.in_ok-edited.ensures.index c.args.text.now c.requires.index (record {

@@ -1,14 +1,13 @@
+// Worked examples of line indices.
 ghost use Rattle.std.specs.Prelude.{◌<◌};
 ghost use Rattle.cord_lines.specs.Index.{IsIndexOf};
 
+use super::cases::expect_case;
+use super::texts::text_of;
 use cord::Text;
 use cord_lines::{LineEditor, LineIndex};
 use std::alloc::Global;
 use std::process::Abort;
-
-fn text_of(rt: &impl Abort, alloc: Global, bytes: &[u8]) -> Text {
-    Text::from_bytes(alloc, bytes).expect(rt, "memory")
-}
 
 fn index_of(rt: &impl Abort, alloc: Global, text: &Text) -> LineIndex
     ensures { IsIndexOf result text.now }
@@ -52,16 +51,29 @@ fn short_lines(rt: HostRuntime) {
     }
 }
 
+// A place in these lines, or after them, its line and its column.
+const PLACES: [(u64, u64, u64); 5] = [(0, 0, 0), (3, 0, 3), (4, 1, 0), (12, 3, 3), (99, 3, 4)];
+
 #[test]
 fn lines_of_places(rt: HostRuntime) {
     let alloc = rt.alloc();
     let text = text_of(&rt, alloc, b"one\n\ntwo\nlast");
     let index = index_of(&rt, alloc, &text);
-    assert!(rt; index.lines() == 4 && index.line_of(&text, 0) == 0);
-    assert!(rt; index.line_of(&text, 3) == 0 && index.line_of(&text, 4) == 1);
-    assert!(rt; index.line_of(&text, 12) == 3 && index.line_of(&text, 99) == 3);
-    assert!(rt; index.column(&text, 3) == 3 && index.column(&text, 4) == 0);
-    assert!(rt; index.column(&text, 12) == 3 && index.column(&text, 99) == 4);
+    assert!(rt; index.lines() == 4);
+    for (place, line, column) in PLACES {
+        expect_case(
+            &rt,
+            index.line_of(&text, place) == line,
+            "the line of",
+            place,
+        );
+        expect_case(
+            &rt,
+            index.column(&text, place) == column,
+            "the column of",
+            place,
+        );
+    }
 }
 
 #[test]
@@ -126,19 +138,21 @@ fn expect_answers(rt: &impl Abort, alloc: Global, editor: &LineEditor, place: u6
         Some(end) => end.wrapping_add(1),
         None => 0,
     };
-    assert!(rt; editor.line_of(place) == line, "the line of {place}");
-    assert!(rt;
-        editor.line_start(line) == start,
-        "the start of line {line}"
-    );
-    assert!(rt;
-        editor.column(place) == place.wrapping_sub(start),
-        "the column of {place}"
-    );
+    let column = place.wrapping_sub(start);
     let chars = place.wrapping_sub(before.count_of(0xA9));
-    assert!(rt;
+    expect_case(rt, editor.line_of(place) == line, "the line of", place);
+    expect_case(
+        rt,
+        editor.line_start(line) == start,
+        "the start of line",
+        line,
+    );
+    expect_case(rt, editor.column(place) == column, "the column of", place);
+    expect_case(
+        rt,
         editor.utf8_len(0, place) == chars,
-        "the characters before {place}"
+        "the characters before",
+        place,
     );
 }
 
@@ -186,36 +200,54 @@ macro_rules! again {
     };
 }
 
-#[test]
-fn refused_edit_of_lines(rt: HostRuntime) {
-    let alloc = rt.alloc();
-    let line = again!(&rt, Text::from_bytes(alloc, b"a line\n"));
-    let text = again!(&rt, line.repeated(alloc, 5_000));
-    let mut editor = again!(&rt, LineEditor::of(alloc, &text));
-    if editor.replace_range(alloc, 3, 20_000, &line).is_err() {
+fn a_line(rt: &impl Abort, alloc: Global) -> Text {
+    again!(rt, Text::from_bytes(alloc, b"a line\n"))
+}
+
+// A line 5,000 times.
+fn many_lines(rt: &impl Abort, alloc: Global, line: &Text) -> Text {
+    again!(rt, line.repeated(alloc, 5_000))
+}
+
+// Puts a line in the place of 20,000 bytes. Where that was refused nothing has changed, and it is done again.
+fn replace_lines(rt: &impl Abort, alloc: Global, editor: &mut LineEditor, line: &Text) {
+    if editor.replace_range(alloc, 3, 20_000, line).is_err() {
         assert!(rt; editor.text().len() == 35_000 && editor.lines() == 5_000);
         assert!(rt; editor.line_of(20_003) == 2_857 && editor.line_start(4_999) == 34_993);
         editor
-            .replace_range(alloc, 3, 20_000, &line)
-            .expect(&rt, "memory");
+            .replace_range(alloc, 3, 20_000, line)
+            .expect(rt, "memory");
     }
+}
+
+#[test]
+fn refused_edit_of_lines(rt: HostRuntime) {
+    let alloc = rt.alloc();
+    let line = a_line(&rt, alloc);
+    let text = many_lines(&rt, alloc, &line);
+    let mut editor = again!(&rt, LineEditor::of(alloc, &text));
+    replace_lines(&rt, alloc, &mut editor, &line);
     assert!(rt; editor.text().len() == 15_007 && editor.lines() == 2_144);
     let second = again!(&rt, editor.line(alloc, 1));
     expect_bytes(&rt, second, Some(b"ne"));
 }
 
+// Tells an index of 21,000 bytes that are gone. Where that was refused nothing has changed, and it is told again.
+fn remove_lines(rt: &impl Abort, alloc: Global, index: &mut LineIndex, text: &Text, after: &Text) {
+    if index.edited(alloc, after, 0, 21_000, 0).is_err() {
+        assert!(rt; index.lines() == 5_000 && index.line_start(text, 4_999) == 34_993);
+        index
+            .edited(alloc, after, 0, 21_000, 0)
+            .expect(rt, "memory");
+    }
+}
+
 #[test]
 fn refused_index_of_lines(rt: HostRuntime) {
     let alloc = rt.alloc();
-    let line = again!(&rt, Text::from_bytes(alloc, b"a line\n"));
-    let text = again!(&rt, line.repeated(alloc, 5_000));
+    let text = many_lines(&rt, alloc, &a_line(&rt, alloc));
     let mut index = again!(&rt, LineIndex::of(alloc, &text));
     let after = again!(&rt, text.remove(alloc, 0, 21_000));
-    if index.edited(alloc, &after, 0, 21_000, 0).is_err() {
-        assert!(rt; index.lines() == 5_000 && index.line_start(&text, 4_999) == 34_993);
-        index
-            .edited(alloc, &after, 0, 21_000, 0)
-            .expect(&rt, "memory");
-    }
+    remove_lines(&rt, alloc, &mut index, &text, &after);
     assert!(rt; index.lines() == 2_000 && index.line_start(&after, 1_999) == 13_993);
 }

@@ -1,4 +1,4 @@
-// Worked examples. The functions that make texts and look at them promise nothing, so that tests have little to prove.
+// Worked examples of texts. What makes texts and looks at them promises nothing, so that tests have little to prove.
 use cord::{Format, Text, TextArg, TextBuilder, TextEditor};
 use std::alloc::{AllocError, Global};
 use std::fmt::Debug;
@@ -6,7 +6,7 @@ use std::io::Read;
 use std::process::Abort;
 
 // A text of these bytes.
-fn text_of(rt: &impl Abort, alloc: Global, bytes: &[u8]) -> Text {
+pub(super) fn text_of(rt: &impl Abort, alloc: Global, bytes: &[u8]) -> Text {
     crate::text_of(alloc, bytes).expect(rt, "no memory")
 }
 
