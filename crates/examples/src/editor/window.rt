@@ -9,27 +9,20 @@ const BESIDE: u64 = 2;
 /// The line that holds the byte at a place, and those beside it, each after its number; `>` marks the line itself.
 pub fn window_of(alloc: Global, text: &Text, place: u64) -> Result<Text, CordError> {
     let index = LineIndex::of(alloc, text)?;
-    let mut window = TextBuilder::new(alloc)?;
-    push_lines(alloc, &mut window, text, &index, index.line_of(text, place))?;
-    Ok(window.to_text(alloc)?)
+    lines_around(alloc, text, &index, index.line_of(text, place))
 }
 
-/// Adds a line and those beside it to a window.
-fn push_lines(
-    alloc: Global,
-    window: &mut TextBuilder,
-    text: &Text,
-    index: &LineIndex,
-    at: u64,
-) -> Result<(), CordError> {
+/// A line and those beside it, each after its number.
+fn lines_around(alloc: Global, text: &Text, index: &LineIndex, at: u64) -> Result<Text, CordError> {
+    let mut window = TextBuilder::new(alloc)?;
     for number in at.saturating_sub(BESIDE)..at.saturating_add(BESIDE + 1) {
         let Some(line) = index.line(alloc, text, number)? else {
             break;
         };
         let mark = if number == at { '>' } else { ' ' };
-        push_line(alloc, window, number, mark, &line)?;
+        push_line(alloc, &mut window, number, mark, &line)?;
     }
-    Ok(())
+    Ok(window.to_text(alloc)?)
 }
 
 /// Adds a line after its number and its mark to a window.
@@ -40,8 +33,7 @@ fn push_line(
     mark: char,
     line: &Text,
 ) -> Result<(), CordError> {
-    let head = format!(in alloc; "{number}{mark}")?;
-    window.push_bytes(alloc, head.as_bytes())?;
+    window.push_bytes(alloc, format!(in alloc; "{number}{mark}")?.as_bytes())?;
     window.push_text(alloc, line)?;
     window.push(alloc, b'\n')?;
     Ok(())
