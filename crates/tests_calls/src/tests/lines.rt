@@ -209,11 +209,16 @@ fn many_lines(rt: &impl Abort, alloc: Global, line: &Text) -> Text {
     again!(rt, line.repeated(alloc, 5_000))
 }
 
+// That an editor still has its 5,000 lines.
+fn expect_unchanged(rt: &impl Abort, editor: &LineEditor) {
+    assert!(rt; editor.text().len() == 35_000 && editor.lines() == 5_000);
+    assert!(rt; editor.line_of(20_003) == 2_857 && editor.line_start(4_999) == 34_993);
+}
+
 // Puts a line in the place of 20,000 bytes. Where that was refused nothing has changed, and it is done again.
 fn replace_lines(rt: &impl Abort, alloc: Global, editor: &mut LineEditor, line: &Text) {
     if editor.replace_range(alloc, 3, 20_000, line).is_err() {
-        assert!(rt; editor.text().len() == 35_000 && editor.lines() == 5_000);
-        assert!(rt; editor.line_of(20_003) == 2_857 && editor.line_start(4_999) == 34_993);
+        expect_unchanged(rt, editor);
         editor
             .replace_range(alloc, 3, 20_000, line)
             .expect(rt, "memory");
@@ -232,10 +237,16 @@ fn refused_edit_of_lines(rt: HostRuntime) {
     expect_bytes(&rt, second, Some(b"ne"));
 }
 
-// Tells an index of 21,000 bytes that are gone. Where that was refused nothing has changed, and it is told again.
+// That an index has so many lines, and the last one begins there.
+fn expect_lines(rt: &impl Abort, index: &LineIndex, text: &Text, (lines, start): (u64, u64)) {
+    assert!(rt; index.lines() == lines);
+    assert!(rt; index.line_start(text, lines.saturating_sub(1)) == start);
+}
+
+// Takes 21,000 bytes out of an index. Where that was refused nothing has changed, and it is done again.
 fn remove_lines(rt: &impl Abort, alloc: Global, index: &mut LineIndex, text: &Text, after: &Text) {
     if index.edited(alloc, after, 0, 21_000, 0).is_err() {
-        assert!(rt; index.lines() == 5_000 && index.line_start(text, 4_999) == 34_993);
+        expect_lines(rt, index, text, (5_000, 34_993));
         index
             .edited(alloc, after, 0, 21_000, 0)
             .expect(rt, "memory");
@@ -249,5 +260,5 @@ fn refused_index_of_lines(rt: HostRuntime) {
     let mut index = again!(&rt, LineIndex::of(alloc, &text));
     let after = again!(&rt, text.remove(alloc, 0, 21_000));
     remove_lines(&rt, alloc, &mut index, &text, &after);
-    assert!(rt; index.lines() == 2_000 && index.line_start(&after, 1_999) == 13_993);
+    expect_lines(&rt, &index, &after, (2_000, 13_993));
 }
