@@ -1,5 +1,5 @@
 // What a word says that is a path, a function or a relation.
-ghost use Rattle.std.specs.Prelude.{◌≡◌, true, false, is_some, IfSome, ℕ, List};
+ghost use Rattle.std.specs.Prelude.{◌≡◌, ◌&&◌, true, false, is_some, IfSome, ℕ, List};
 ghost use Rattle.std.specs.Str.{is_utf8};
 ghost use Rattle.cord_script.specs.Tests.{each, is_path, begins_numeral, function_word, relation_word};
 ghost use Rattle.cord_script.specs.FirstErrors.{unless, function_misfit, relation_misfit};
@@ -8,6 +8,7 @@ ghost use Rattle.cord_script.specs.inner.Fields.{is_no_zero};
 use crate::numerals::is_digit;
 use crate::words::Word;
 use crate::{Function, MAX_PATH, Path, RefusalKind, Relation, Text};
+use memchr::memchr;
 
 /// Whether a word begins as a numeral: with a digit or `-`.
 pub fn begins_numeral(word: &[u8]) -> bool
@@ -23,12 +24,7 @@ pub fn begins_numeral(word: &[u8]) -> bool
 fn has_no_zero(bytes: &[u8]) -> bool
     ensures { result ≡ each is_no_zero bytes.now }
 {
-    for byte in bytes {
-        if *byte == 0 {
-            return false;
-        }
-    }
-    true
+    memchr(0, bytes).is_none()
 }
 
 // Whether bytes are UTF-8.
@@ -38,18 +34,26 @@ fn is_utf8(bytes: &[u8]) -> bool
     str::from_utf8(bytes).is_ok()
 }
 
+// Whether bytes are a path, if they are UTF-8.
+fn is_path_text(path: &[u8]) -> bool
+    ensures { is_path path.now ≡ (result && is_utf8 path.now) }
+{
+    !path.is_empty() && path.len() <= MAX_PATH && has_no_zero(path)
+}
+
 /// Whether bytes are a path.
 pub fn is_path(path: &[u8]) -> bool
     ensures { result ≡ is_path path.now }
 {
-    !path.is_empty() && path.len() <= MAX_PATH && has_no_zero(path) && is_utf8(path)
+    is_path_text(path) && is_utf8(path)
 }
 
 /// The path of a text, where it is one.
+#[tactic(auto, using(crate::proofs::Checked::string_is_utf8))]
 pub fn path_of(text: Text) -> Option<Path>
     ensures { IfSome result (λ path. (path ≡ text) × (is_path path ≡ true)) }
 {
-    if !is_path(text.as_slice()) {
+    if !is_path_text(text.as_slice()) {
         return None;
     }
     match String::from_utf8(text.into_vec()) {
