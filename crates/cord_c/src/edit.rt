@@ -70,10 +70,10 @@ pub extern "C" fn zc_insert(
     if any_missing(x, y, out) {
         return NULL_POINTER;
     }
-    let made = x
+    let inserted = x
         .text(&Text::empty())
         .insert(alloc, start, y.text(&Text::empty()));
-    out.hold(alloc, made)
+    out.hold(alloc, inserted)
 }
 
 /// `x` without at most `count` of its bytes from `start` on.

@@ -91,11 +91,7 @@ pub extern "C" fn zc_cat_char(alloc: Global, x: &mut Handle, byte: u8, out: &mut
     ensures code { MayBeTooLong result }
     ensures x { x.new.text ≡ x.old.text }
 {
-    if either_missing(x, out) {
-        return NULL_POINTER;
-    }
-    let made = x.text(&Text::empty()).append_bytes(alloc, &[byte]);
-    out.hold(alloc, made)
+    zc_cat_bytes(alloc, x, &[byte], out)
 }
 
 /// Adds the bytes of `y` at the end of `x`.
