@@ -16,23 +16,15 @@ joined : AreJoined text ended
 joined = record { nil = refl; cons = λ o os. sym (append_assoc (operation (operation_view o)) (10 ∷ []) (text os)) }
 
 pub returns-in_err-put_operation : goal.returns-in_err-put_operation
-returns-in_err-put_operation g c =
-    let item = c.operation-item.result in
-    writes_failed c.from_residual.ensures.0 (writes_broken text ended joined c.args.operations.now c.loop-operation.operation-index item
-    c.loop-operation-test.true c.loop-operation.invariant
+returns-in_err-put_operation g c = writes_failed c.from_residual.ensures.0
+    (writes_broken text ended joined c.args.operations.now _ _ c.loop-operation-test.true c.loop-operation.invariant
     (writes_same (ap ended c.operation-item.is) (writes_stopped (10 ∷ []) c.in_err-put_operation.ensures)))
 
 pub returns-in_err-put_text : goal.returns-in_err-put_text
-returns-in_err-put_text g c =
-    let item = c.operation-item.result in
-    writes_failed c.from_residual-in_err-put_text.ensures.0
-    (writes_broken text ended joined c.args.operations.now c.loop-operation.operation-index item c.loop-operation-test.true
-    c.loop-operation.invariant
+returns-in_err-put_text g c = writes_failed c.from_residual-in_err-put_text.ensures.0
+    (writes_broken text ended joined c.args.operations.now _ _ c.loop-operation-test.true c.loop-operation.invariant
     (writes_same (ap ended c.operation-item.is) (writes_then c.in_ok-put_operation.ensures c.in_err-put_text.ensures)))
 
 pub loop-operation-preserved : goal.loop-operation-preserved
-loop-operation-preserved g c =
-    let item = c.operation-item.result in
-    writes_next text ended joined c.args.operations.now c.loop-operation.operation-index item c.loop-operation-test.true
-    c.loop-operation.invariant
+loop-operation-preserved g c = writes_next text ended joined c.args.operations.now _ _ c.loop-operation-test.true c.loop-operation.invariant
     (writes_same (ap ended c.operation-item.is) (writes_then c.in_ok-put_operation.ensures c.in_ok-put_text.ensures))

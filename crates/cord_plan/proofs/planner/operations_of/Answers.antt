@@ -18,6 +18,7 @@ loop-place-preserved c =
     let l = c.index-statements-place.result in
     let items = c.loop-place.expressions in
     let x = c.index-expressions-place.result in
+    let push = c.push_reserved.ensures in
     let below : b < length items = omega (arith, c.loop-place-test.true, c.loop-place.invariant.size) in
     let next : NextLeft s later b l items x = next_left s later b l items x c.loop-place-test.true c.index-statements-place.is
     c.requires.expressions.long below c.index-expressions-place.is c.loop-place.invariant.left in
@@ -33,13 +34,7 @@ loop-place-preserved c =
           (c.is_reported-paired.ensures ∙ c.requires.expressions.is b c.loop-place-test.true) c.loop-place.invariant.so_far);
       left = left_then s later b items _ next.are_left;
       size = rw (length-set items b _) c.loop-place.invariant.size;
-      room = omega (
-        arith,
-        c.loop-place-test.true,
-        c.loop-place.invariant.room,
-        c.push_reserved.ensures.len,
-        c.push_reserved.ensures.capacity,
-      );
+      room = omega (arith, c.loop-place-test.true, c.loop-place.invariant.room, push.len, push.capacity);
     }
 
 pub loop-place-init : goal.loop-place-init

@@ -7,20 +7,16 @@ use Rattle.cord_plan.proofs.flow.liveness.is_read_in.Goals as goal
 
 pub returns-then-reads : goal.returns-then-reads
 returns-then-reads c = sym (c.loop-statement.invariant
-    ∙ read_here c.args.statements.now c.loop-statement.statement-index c.statement-item.result c.args.name.now c.loop-statement-test.true
-    c.statement-item.is (sym c.reads.ensures ∙ c.if-reads.true))
+    ∙ read_here _ _ _ _ c.loop-statement-test.true c.statement-item.is (sym c.reads.ensures ∙ c.if-reads.true))
 
 pub returns-then-assigns : goal.returns-then-assigns
-returns-then-assigns c = sym (c.loop-statement.invariant
-    ∙ assigned_here c.args.statements.now c.loop-statement.statement-index c.statement-item.result c.args.name.now c.loop-statement-test.true
-    c.statement-item.is (sym c.reads.ensures ∙ c.if-reads.false) (sym c.assigns.ensures ∙ c.if-assigns.true))
+returns-then-assigns c = sym (c.loop-statement.invariant ∙ assigned_here _ _ _ _ c.loop-statement-test.true c.statement-item.is
+    (sym c.reads.ensures ∙ c.if-reads.false) (sym c.assigns.ensures ∙ c.if-assigns.true))
 
 pub loop-statement-preserved : goal.loop-statement-preserved
-loop-statement-preserved c = c.loop-statement.invariant
-    ∙ passed_here c.args.statements.now c.loop-statement.statement-index c.statement-item.result c.args.name.now c.loop-statement-test.true
-    c.statement-item.is (sym c.reads.ensures ∙ c.if-reads.false) (sym c.assigns.ensures ∙ c.if-assigns.false)
+loop-statement-preserved c = c.loop-statement.invariant ∙ passed_here _ _ _ _ c.loop-statement-test.true c.statement-item.is
+    (sym c.reads.ensures ∙ c.if-reads.false) (sym c.assigns.ensures ∙ c.if-assigns.false)
 
 pub returns : goal.returns
 returns c = sym (c.loop-statement.invariant
-    ∙ at_drop_all (λ (ls : List Statement). later_in ls c.args.name.now) c.args.statements.now c.loop-statement.statement-index
-    c.loop-statement-test.false)
+    ∙ at_drop_all (λ (ls : List Statement). later_in ls c.args.name.now) _ _ c.loop-statement-test.false)

@@ -5,15 +5,10 @@ use Rattle.cord_plan.proofs.Pushed.{made_more}
 use Rattle.cord_plan.proofs.flow.successors.shapes_of.Goals as goal
 
 pub loop-statement-preserved : goal.loop-statement-preserved
-loop-statement-preserved c = record {
-  so_far = made_more shape_view shape_of c.args.statements.now c.loop-statement.shapes.items c.push_reserved.new.self.items
-      c.shape_of.result c.loop-statement.statement-index c.statement-item.result c.loop-statement-test.true c.statement-item.is
-      c.loop-statement.invariant.so_far c.push_reserved.ensures.items c.shape_of.ensures;
-  room = omega (
-    arith,
-    c.loop-statement-test.true,
-    c.loop-statement.invariant.room,
-    c.push_reserved.ensures.len,
-    c.push_reserved.ensures.capacity,
-  );
-}
+loop-statement-preserved c =
+    let before = c.loop-statement.invariant in
+    let push = c.push_reserved.ensures in
+    record {
+      so_far = made_more shape_view shape_of _ _ _ _ _ _ c.loop-statement-test.true c.statement-item.is before.so_far push.items c.shape_of.ensures;
+      room = omega (arith, c.loop-statement-test.true, before.room, push.len, push.capacity);
+    }

@@ -12,23 +12,15 @@ joined : AreJoined printed_arguments word
 joined = record { nil = refl; cons = λ a rest. refl }
 
 pub returns-in_err-put_text : goal.returns-in_err-put_text
-returns-in_err-put_text g c =
-    let item = c.argument-item.result in
-    writes_failed c.from_residual.ensures.0 (writes_broken printed_arguments word joined c.args.arguments.now c.loop-argument.argument-index
-    item c.loop-argument-test.true c.loop-argument.invariant
-    (writes_same (ap word c.argument-item.is) (writes_stopped (argument item) c.in_err-put_text.ensures)))
+returns-in_err-put_text g c = writes_failed c.from_residual.ensures.0
+    (writes_broken printed_arguments word joined _ _ _ c.loop-argument-test.true c.loop-argument.invariant
+    (writes_same (ap word c.argument-item.is) (writes_stopped (argument c.argument-item.result) c.in_err-put_text.ensures)))
 
 pub returns-in_err-put_argument : goal.returns-in_err-put_argument
-returns-in_err-put_argument g c =
-    let item = c.argument-item.result in
-    writes_failed c.from_residual-in_err-put_argument.ensures.0
-    (writes_broken printed_arguments word joined c.args.arguments.now c.loop-argument.argument-index item c.loop-argument-test.true
-    c.loop-argument.invariant
+returns-in_err-put_argument g c = writes_failed c.from_residual-in_err-put_argument.ensures.0
+    (writes_broken printed_arguments word joined _ _ _ c.loop-argument-test.true c.loop-argument.invariant
     (writes_same (ap word c.argument-item.is) (writes_then c.in_ok-put_text.ensures c.in_err-put_argument.ensures)))
 
 pub loop-argument-preserved : goal.loop-argument-preserved
-loop-argument-preserved g c =
-    let item = c.argument-item.result in
-    writes_next printed_arguments word joined c.args.arguments.now c.loop-argument.argument-index item c.loop-argument-test.true
-    c.loop-argument.invariant
+loop-argument-preserved g c = writes_next printed_arguments word joined _ _ _ c.loop-argument-test.true c.loop-argument.invariant
     (writes_same (ap word c.argument-item.is) (writes_then c.in_ok-put_text.ensures c.in_ok-put_argument.ensures))

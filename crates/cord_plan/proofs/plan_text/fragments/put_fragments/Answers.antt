@@ -7,11 +7,9 @@ joined : AreJoined fragments_text fragment_text
 joined = record { nil = refl; cons = λ f fs. refl }
 
 pub returns-in_err-put_fragment : goal.returns-in_err-put_fragment
-returns-in_err-put_fragment g c = writes_failed c.from_residual.ensures.0
-    (writes_broken fragments_text fragment_text joined c.args.fragments.now c.loop-fragment.fragment-index c.fragment-item.result
+returns-in_err-put_fragment g c = writes_failed c.from_residual.ensures.0 (writes_broken fragments_text fragment_text joined _ _ _
     c.loop-fragment-test.true c.loop-fragment.invariant (writes_same (ap fragment_text c.fragment-item.is) c.in_err-put_fragment.ensures))
 
 pub loop-fragment-preserved : goal.loop-fragment-preserved
-loop-fragment-preserved g c = writes_next fragments_text fragment_text joined c.args.fragments.now c.loop-fragment.fragment-index
-    c.fragment-item.result c.loop-fragment-test.true c.loop-fragment.invariant
+loop-fragment-preserved g c = writes_next fragments_text fragment_text joined _ _ _ c.loop-fragment-test.true c.loop-fragment.invariant
     (writes_same (ap fragment_text c.fragment-item.is) c.in_ok-put_fragment.ensures)

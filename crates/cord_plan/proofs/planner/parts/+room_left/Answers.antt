@@ -13,11 +13,10 @@ use Rattle.cord_plan.proofs.planner.parts.+room_left.Goals.{room_left_all-in-Nam
 
 pub room_left_all-room_left-after-requires : goal.room_left_all-room_left-after-requires
 room_left_all-room_left-after-requires t c =
-    let there : weight (shared_view c.member-item.result) < weights (members_of (map shared_view c.args.members.now)) =
-    member_there c.args.members.now c.loop-member.member-index c.member-item.result c.loop-member-test.true c.member-item.is in
+    let there = member_there _ _ _ c.loop-member-test.true c.member-item.is in
     let below : weight (expr_view c.as_ref-expression.result.now) < weights (members_of (map shared_view c.args.members.now)) =
-    subst (λ (e : Expr). weight (expr_view e) < weights (members_of (map shared_view c.args.members.now)))
-    (sym c.as_ref-expression.ensures) there in
+    subst (λ (e : Expr). weight (expr_view e) < weights (members_of (map shared_view c.args.members.now))) (sym c.as_ref-expression.ensures)
+    there in
     search (rules, below)
 
 pub room_left_all-returns-in-None : goal.room_left_all-returns-in-None
@@ -29,12 +28,10 @@ room_left_all-returns-in-None t c =
       | room_left_all-in_default w ↦ w.after-is ∙ (w.room_left-after.ensures
           ∙ ap (λ (e : Expr). room_left (parts (expr_view e)) c.loop-member.rest) c.as_ref-expression.ensures)
     ] in
-    let rest = parts_of (members_of (map shared_view (drop (c.loop-member.member-index + 1) c.args.members.now))) in
-    let first : room_left (parts_of (members_of (map shared_view c.args.members.now))) c.args.room
-    ≡ room_left (parts (shared_view c.member-item.result) + rest) c.loop-member.rest =
-    c.loop-member.invariant ∙ ap (λ (n : ℕ). room_left n c.loop-member.rest)
-    (parts_member c.args.members.now c.loop-member.member-index c.member-item.result c.loop-member-test.true c.member-item.is) in
-    none_for_more (parts (shared_view c.member-item.result)) rest c.loop-member.rest (sym c.in-None.is ∙ reported) ∙ sym first
+    none_for_more _ (parts_of (members_of (map shared_view (drop (c.loop-member.member-index + 1) c.args.members.now)))) _
+    (sym c.in-None.is ∙ reported)
+    ∙ sym (c.loop-member.invariant
+    ∙ ap (λ (n : ℕ). room_left n c.loop-member.rest) (parts_member _ _ _ c.loop-member-test.true c.member-item.is))
 
 pub room_left_all-loop-member-preserved : goal.room_left_all-loop-member-preserved
 room_left_all-loop-member-preserved t c =
@@ -45,12 +42,10 @@ room_left_all-loop-member-preserved t c =
       | room_left_all-in_default w ↦ w.after-is ∙ (w.room_left-after.ensures
           ∙ ap (λ (e : Expr). room_left (parts (expr_view e)) c.loop-member.rest) c.as_ref-expression.ensures)
     ] in
-    let rest = parts_of (members_of (map shared_view (drop (c.loop-member.member-index + 1) c.args.members.now))) in
-    let first : room_left (parts_of (members_of (map shared_view c.args.members.now))) c.args.room
-    ≡ room_left (parts (shared_view c.member-item.result) + rest) c.loop-member.rest =
-    c.loop-member.invariant ∙ ap (λ (n : ℕ). room_left n c.loop-member.rest)
-    (parts_member c.args.members.now c.loop-member.member-index c.member-item.result c.loop-member-test.true c.member-item.is) in
-    first ∙ room_for_more (parts (shared_view c.member-item.result)) rest c.loop-member.rest c.in-Some.less (sym c.in-Some.is ∙ reported)
+    c.loop-member.invariant
+    ∙ (ap (λ (n : ℕ). room_left n c.loop-member.rest) (parts_member _ _ _ c.loop-member-test.true c.member-item.is)
+    ∙ room_for_more _ (parts_of (members_of (map shared_view (drop (c.loop-member.member-index + 1) c.args.members.now)))) _ _
+    (sym c.in-Some.is ∙ reported))
 
 pub room_left_members-room_left_all-requires : goal.room_left_members-room_left_all-requires
 room_left_members-room_left_all-requires t c =
@@ -58,11 +53,7 @@ room_left_members-room_left_all-requires t c =
 
 pub room_left_members-room_left_members-requires : goal.room_left_members-room_left_members-requires
 room_left_members-room_left_members-requires t c =
-    search (
-      rules,
-      prefix_falls (members_view c.args.members.now) c.halves.result.0 c.halves.result.1.now c.halves.ensures.members
-          c.halves.ensures.after c.in-Some.prefix c.in-Some.is,
-    )
+    search (rules, prefix_falls (members_view c.args.members.now) _ _ c.halves.ensures.members c.halves.ensures.after c.in-Some.prefix c.in-Some.is)
 
 pub room_left_members-room_left_all-requires-in-Some-room_left_members :
     goal.room_left_members-room_left_all-requires-in-Some-room_left_members
@@ -71,26 +62,19 @@ room_left_members-room_left_all-requires-in-Some-room_left_members t c =
 
 pub room_left_members-returns-in-None : goal.room_left_members-returns-in-None
 room_left_members-returns-in-None t c =
-    c.room_left_all.ensures
-    ∙ ap (λ (es : plain.Exprs). room_left (parts_of es) c.args.room)
-    (sym (halves_None (members_view c.args.members.now) c.halves.result.0 c.halves.result.1.now c.halves.ensures.members c.in-None.is))
+    c.room_left_all.ensures ∙ ap (λ (es : plain.Exprs). room_left (parts_of es) c.args.room)
+    (sym (halves_None (members_view c.args.members.now) _ _ c.halves.ensures.members c.in-None.is))
 
 pub room_left_members-returns-in-Some-room_left_members : goal.room_left_members-returns-in-Some-room_left_members
 room_left_members-returns-in-Some-room_left_members t c =
-    let prefix = members_view c.in-Some.prefix.now in
-    let rest = members_of (map shared_view c.halves.result.1.now) in
+    let all = members_view c.args.members.now in
     c.room_left_all-in-Some-room_left_members.ensures
-    ∙ sym (parts_both (members_view c.args.members.now) prefix rest c.args.room
-    (halves_Some (members_view c.args.members.now) c.halves.result.0 c.halves.result.1.now c.halves.ensures.members
-    c.in-Some.prefix c.in-Some.is)
-    ∙ room_for_more (parts_of prefix) (parts_of rest) c.args.room c.in-Some-room_left_members.less
-    (sym c.in-Some-room_left_members.is ∙ c.room_left_members.ensures))
+    ∙ sym (parts_both all _ _ _ (halves_Some all _ _ c.halves.ensures.members c.in-Some.prefix c.in-Some.is)
+    ∙ room_for_more _ _ _ _ (sym c.in-Some-room_left_members.is ∙ c.room_left_members.ensures))
 
 pub room_left_members-returns-in-None-room_left_members : goal.room_left_members-returns-in-None-room_left_members
 room_left_members-returns-in-None-room_left_members t c =
-    let prefix = members_view c.in-Some.prefix.now in
+    let all = members_view c.args.members.now in
     let rest = members_of (map shared_view c.halves.result.1.now) in
-    none_for_more (parts_of prefix) (parts_of rest) c.args.room (sym c.in-None-room_left_members.is ∙ c.room_left_members.ensures)
-    ∙ sym (parts_both (members_view c.args.members.now) prefix rest c.args.room
-    (halves_Some (members_view c.args.members.now) c.halves.result.0 c.halves.result.1.now c.halves.ensures.members
-    c.in-Some.prefix c.in-Some.is))
+    none_for_more _ (parts_of rest) _ (sym c.in-None-room_left_members.is ∙ c.room_left_members.ensures)
+    ∙ sym (parts_both all _ rest _ (halves_Some all _ _ c.halves.ensures.members c.in-Some.prefix c.in-Some.is))

@@ -14,37 +14,23 @@ use Rattle.cord_plan.proofs.flow.liveness.Flow.words.Goals as goal
 pub loop-place-preserved : goal.loop-place-preserved
 loop-place-preserved c =
     let s = c.args.self.now.statements.now in
-    let k = c.loop-place.place in
     let t = c.args.self.now.numbering.now in
-    let there = line_there t s c.requires k c.loop-place-test.true in
+    let before = c.loop-place.invariant in
+    let test = c.loop-place-test.true in
+    let one = c.push_reserved.ensures in
+    let two = c.push_reserved-in-loop-place.ensures in
+    let there = line_there t s c.requires c.loop-place.place test in
     let l = there.0 in
-    let is : l ≡ get_or s k l = sym (get_or_from_slice_get s k l l there.1) in
+    let is : l ≡ get_or s c.loop-place.place l = sym (get_or_from_slice_get s c.loop-place.place l l there.1) in
     let numbered : IsNumbered t l c.line-numbers.result = c.line-numbers.ensures l there.2 in
     record {
-      readers = size_more c.loop-place.read.items c.push_reserved.new.self.items c.mark_all.result k c.push_reserved.ensures.items
-          c.loop-place.invariant.readers;
-      setters = size_more c.loop-place.assigned.items c.push_reserved-in-loop-place.new.self.items c.mark_target.result k
-          c.push_reserved-in-loop-place.ensures.items c.loop-place.invariant.setters;
-      room_read = omega (
-        arith,
-        c.loop-place-test.true,
-        c.loop-place.invariant.room_read,
-        c.push_reserved.ensures.len,
-        c.push_reserved.ensures.capacity,
-      );
-      room_assigned = omega (
-        arith,
-        c.loop-place-test.true,
-        c.loop-place.invariant.room_assigned,
-        c.push_reserved-in-loop-place.ensures.len,
-        c.push_reserved-in-loop-place.ensures.capacity,
-      );
-      read = λ x i b. made_more (λ v. bit v i) (λ m. reads m x) s c.loop-place.read.items c.push_reserved.new.self.items c.mark_all.result
-          k l c.loop-place-test.true is (c.loop-place.invariant.read x i b) c.push_reserved.ensures.items
+      readers = size_more _ _ _ _ one.items before.readers;
+      setters = size_more _ _ _ _ two.items before.setters;
+      room_read = omega (arith, test, before.room_read, one.len, one.capacity);
+      room_assigned = omega (arith, test, before.room_assigned, two.len, two.capacity);
+      read = λ x i b. made_more (λ v. bit v i) (λ m. reads m x) s _ _ _ _ l test is (before.read x i b) one.items
           (c.mark_all.ensures t (read_by l) numbered.read x i b);
-      assigned = λ x i b. made_more (λ v. bit v i) (λ m. assigns m x) s c.loop-place.assigned.items
-          c.push_reserved-in-loop-place.new.self.items c.mark_target.result k l c.loop-place-test.true is
-          (c.loop-place.invariant.assigned x i b) c.push_reserved-in-loop-place.ensures.items
+      assigned = λ x i b. made_more (λ v. bit v i) (λ m. assigns m x) s _ _ _ _ l test is (before.assigned x i b) two.items
           (c.mark_target.ensures t (target_of l) (number_reported t (target_of l) _ numbered.target) x i b);
     }
 
