@@ -16,7 +16,7 @@ ghost use Rattle.cord_run.specs.inner.Entries.{HasNoEntry, HasNumber, IsEntryAt,
 
 use crate::store::appends::append_at;
 use crate::store::contents::{set_content, set_extensible, set_length, set_number, splice_content};
-use crate::store::slots::{entry_by, slot_by, slot_for};
+use crate::store::slots::{entry_by, hinted, slot_by, slot_for};
 use cord_core::Cord;
 use cord_ec::ExtCord;
 use cord_io::{CordError, MAX_LEN};
@@ -212,6 +212,21 @@ impl Store {
     /// Gives a name of a number its number.
     #[inline(always)]
     pub(crate) fn assign_number(&mut self, name: &Name, number: i64) -> Result<(), AllocError>
+        ensures { IfOk result (λ _. HasNumber name.now number self.old.entries.items self.new.entries.items) }
+    {
+        match hinted(&self.entries, name) {
+            Some(place) => {
+                set_number(&mut self.entries, place, number);
+                Ok(())
+            }
+            None => self.assign_number_apart(name, number),
+        }
+    }
+
+    // The same of a name that isn't where its hint says.
+    #[cold]
+    #[inline(never)]
+    fn assign_number_apart(&mut self, name: &Name, number: i64) -> Result<(), AllocError>
         ensures { IfOk result (λ _. HasNumber name.now number self.old.entries.items self.new.entries.items) }
     {
         let place = slot_for(&mut self.entries, name)?;

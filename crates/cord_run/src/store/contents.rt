@@ -93,6 +93,7 @@ fn splice_within(
 }
 
 /// Puts another number into the entry at a place.
+#[inline(always)]
 pub(crate) fn set_number(entries: &mut [Entry], place: usize, number: i64)
     requires { place < length entries.old }
     ensures set { (name : List ℕ) → IsEntryAt entries.old name place → HasNumber name number entries.old entries.new }

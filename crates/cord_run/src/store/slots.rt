@@ -7,18 +7,23 @@ use cord_core::Cord;
 use cord_script::Name;
 use std::alloc::AllocError;
 
-// Whether this is the name of a slot.
+/// The slot of the hint of a name, where the name stands there.
 #[inline(always)]
-fn is_at(entries: &[Entry], place: usize, name: &Name) -> bool
+pub(crate) fn hinted(entries: &[Entry], name: &Name) -> Option<usize>
     requires { are_distinct (names_in entries.now) ≡ true }
-    ensures within { result ≡ true → place < length entries.now }
-    ensures place { result ≡ true → IsEntryAt entries.now name.now place }
+    ensures within { IfSome result (λ place. place < length entries.now) }
+    ensures place { IfSome result (IsEntryAt entries.now name.now) }
 {
+    let place = name.hint();
     if place >= entries.len() {
-        return false;
+        return None;
     }
     let entry = &entries[place];
-    name.is(&entry.name)
+    if name.is(&entry.name) {
+        Some(place)
+    } else {
+        None
+    }
 }
 
 /// The entry of a name: the one of its hint, where it stands there.
@@ -28,11 +33,10 @@ pub(crate) fn entry_by<'a>(entries: &'a [Entry], name: &Name) -> Option<&'a Entr
     ensures some { IfSome result (λ entry. IsFirstEntry entries.now name.now entry.now) }
     ensures none { IfNone result (HasNoEntry entries.now name.now) }
 {
-    let hint = name.hint();
-    if !is_at(entries, hint, name) {
-        return entry_of(entries, name);
+    match hinted(entries, name) {
+        Some(place) => Some(&entries[place]),
+        None => entry_of(entries, name),
     }
-    Some(&entries[hint])
 }
 
 // The entry of a name, which is looked for.
@@ -54,11 +58,10 @@ pub(crate) fn slot_by(entries: &[Entry], name: &Name) -> Option<usize>
     ensures some { IfSome result (IsEntryAt entries.now name.now) }
     ensures none { IfNone result (HasNoEntry entries.now name.now) }
 {
-    let hint = name.hint();
-    if is_at(entries, hint, name) {
-        return Some(hint);
+    match hinted(entries, name) {
+        Some(place) => Some(place),
+        None => find_slot(entries, name),
     }
-    find_slot(entries, name)
 }
 
 // The slot of a name, which is looked for.
