@@ -1,12 +1,6 @@
 -- A run that is computed for as many steps as it takes.
-use Rattle.std.proofs.Common.{◌≡◌, ℕ, List, Some, ap, ◌∙◌}
-use Rattle.cord_io.specs.Device.{FileSystem}
-use Rattle.cord_syntax.specs.declared.statements.Statement.{Statement}
-use Rattle.cord_meaning.specs.declared.ends.End.{End}
-use Rattle.cord_meaning.specs.Machine.{Event, output}
-use Rattle.cord_meaning.specs.State.{State, start_state}
-use Rattle.cord_meaning.specs.Statements.{rules}
-use Rattle.cord_meaning.specs.Meaning.{run_within, MeansWithin}
+use Rattle.cord_meaning.proofs.Common.{◌≡◌, ℕ, List, Some, ap, ◌∙◌, FileSystem, Statement, End, Event, output, State, start_state, rules}
+use Rattle.cord_meaning.proofs.Common.{run_within, MeansWithin}
 use Rattle.cord_meaning.proofs.Runs.{trace_when_ended, end_when_ended}
 
 -- where k steps end the run, what they put is its output, and how they end it is its end

@@ -1,12 +1,8 @@
 -- A runner's end is faithful: what is to be proved of each way in which a run stops.
-use Rattle.std.proofs.Common.{◌≡◌, ℕ, suc, ◌<◌, List, [], ◌++◌, Some, refl, sym, ap, ◌∙◌, inl, inr, append_assoc, append-nil}
-use Rattle.std.specs.Prelude.{slice_get}
-use Rattle.cord_meaning.specs.declared.ends.End.{End}
-use Rattle.cord_meaning.specs.declared.ends.End.TheVariants.{Done, Fault, NoMemory, ReadFailed, WriteFailed}
-use Rattle.cord_meaning.specs.Blocks.{Straight, Loop, Branch}
-use Rattle.cord_meaning.specs.Machine.{Rules, Event, Block, Config, step, after, run_trace, run_end, output}
-use Rattle.cord_meaning.specs.Ends.{IsMeant, IsComplete, StopsAt, FaithfulEnd, FaithfulOutput}
-use Rattle.cord_meaning.specs.inner.Running.{Ran, puts_of}
+use Rattle.cord_meaning.proofs.Common.{◌≡◌, ℕ, suc, ◌<◌, List, [], ◌++◌, Some, refl, sym, ap, ◌∙◌, inl, inr, append_assoc, append-nil}
+use Rattle.cord_meaning.proofs.Common.{slice_get, End, Done, Fault, NoMemory, ReadFailed, WriteFailed, Straight, Loop, Branch, Rules, Event}
+use Rattle.cord_meaning.proofs.Common.{Block, Config, step, after, run_trace, run_end, output, IsMeant, IsComplete, StopsAt, FaithfulEnd}
+use Rattle.cord_meaning.proofs.Common.{FaithfulOutput, Ran, puts_of}
 use Rattle.cord_meaning.proofs.Runs.{GoesOn, EndsIn, stands_first, acts_seen, chooses_seen, counts_seen, trace_when_ended, end_when_ended}
 use Rattle.cord_meaning.proofs.Runs.{stops_inside, stops_within}
 

@@ -1,17 +1,11 @@
 -- A run follows paths.
-use Rattle.std.proofs.Common.{◌≡◌, ℕ, zero, suc, ◌+◌, ◌<◌, ◌≤◌, ℤ, pos, negsuc, Bool, true, false, List, [], ◌∷◌, ◌++◌, length, map, drop}
-use Rattle.std.proofs.Common.{Option, Some, None, Result, Ok, Err, refl, sym, ap, ◌∙◌, subst, inl, inr, nat_lt, arith}
-use Rattle.std.specs.Prelude.{slice_get, if◌then◌else◌}
-use Rattle.cord_meaning.specs.declared.ends.End.{End}
-use Rattle.cord_meaning.specs.declared.ends.FaultKind.{FaultKind}
-use Rattle.cord_meaning.specs.declared.ends.FaultKind.TheVariants.{TooManyTurns}
-use Rattle.cord_meaning.specs.Blocks.{Shape, Straight, Loop, Branch, Otherwise, Close, IsNested, to_end, to_else, jump_at, jump_of}
-use Rattle.cord_meaning.specs.Paths.{opened, open_at, NextOf, NextOfClose, Next}
-use Rattle.cord_meaning.specs.Machine.{Rules, Block, Turns, Chosen, Config, acted, begins, turned, faults, notes, repeats, chooses, closes}
-use Rattle.cord_meaning.specs.Machine.{if_running, jump_from, runs_shape, runs, after}
-use Rattle.std.proofs.lemmas.Option.{slice_get_within, slice_get-map}
-use Rattle.std.specs.Option.{option_map}
-use Rattle.cord_core.proofs.Places.{at_here, next_here, some_here}
+use Rattle.cord_meaning.proofs.Common.{◌≡◌, ℕ, zero, suc, ◌+◌, ◌<◌, ◌≤◌, ℤ, pos, negsuc, Bool, true, false, List, [], ◌∷◌, ◌++◌, length}
+use Rattle.cord_meaning.proofs.Common.{map, drop, Option, Some, None, Result, Ok, Err, refl, sym, ap, ◌∙◌, subst, inl, inr, nat_lt, arith}
+use Rattle.cord_meaning.proofs.Common.{slice_get, if◌then◌else◌, End, FaultKind, TooManyTurns, Shape, Straight, Loop, Branch, Otherwise}
+use Rattle.cord_meaning.proofs.Common.{Close, IsNested, to_end, to_else, jump_at, jump_of, opened, open_at, NextOf, NextOfClose, Next}
+use Rattle.cord_meaning.proofs.Common.{Rules, Block, Turns, Chosen, Config, acted, begins, turned, faults, notes, repeats, chooses, closes}
+use Rattle.cord_meaning.proofs.Common.{goes_to, if_running, jump_from, runs_shape, runs, after, slice_get_within, slice_get-map, option_map}
+use Rattle.cord_meaning.proofs.Common.{at_here, next_here, some_here}
 
 -- what a block of a run is to paths
 abbrev block_place : Block → Option ℕ
@@ -23,9 +17,8 @@ block_places bs = map block_place bs
 
 -- the place of the first block, if it is a `repeat`
 abbrev first_place : List (Option ℕ) → ℕ
-first_place [] = 0
-first_place (None ∷ blocks) = 0
 first_place (Some r ∷ blocks) = r
+first_place _ = 0
 
 abbrev outer : List (Option ℕ) → List (Option ℕ)
 outer [] = []
@@ -81,12 +74,10 @@ module _ (shapes : List Shape) where
         opened p (open_at shapes p) o ≡ xs ++ (Some r ∷ rest) →
         ((ys : List (Option ℕ)) → open_at shapes p ≡ ys ++ (Some r ∷ rest) → open_at shapes (r + 1) ≡ Some r ∷ rest) →
         open_at shapes (r + 1) ≡ Some r ∷ rest
-    after_one p xs None s e ih = ih xs e
-    after_one p xs (Some Straight) s e ih = ih xs e
-    after_one p xs (Some Otherwise) s e ih = ih xs e
     after_one p xs (Some Loop) s e ih = after_loop p xs s e ih
     after_one p xs (Some Branch) s e ih = after_branch p xs e ih
     after_one p xs (Some Close) s e ih = after_close p xs (open_at shapes p) refl e ih
+    after_one p xs _ s e ih = ih xs e
 
     -- the blocks that are open inside an open `repeat`, at its first place
     open_after : (p : ℕ) (xs : List (Option ℕ)) → open_at shapes p ≡ xs ++ (Some r ∷ rest) → open_at shapes (r + 1) ≡ Some r ∷ rest
@@ -94,8 +85,8 @@ module _ (shapes : List Shape) where
     open_after (suc p) xs e = after_one p xs (slice_get shapes p) refl e (λ ys k. open_after p ys k)
 
   -- what stands at q is passed over, with the blocks that it opens
-  abbrev Passed : ℕ → List Shape → ℕ → ℕ → Type 0
-  Passed q ls d n = open_at shapes (q + n) ≡ drop d (open_at shapes q)
+  abbrev Passed : ℕ → ℕ → ℕ → Type 0
+  Passed q d n = open_at shapes (q + n) ≡ drop d (open_at shapes q)
 
   passed_on : (q n d e : ℕ) (x : Shape) (ls : List Shape) → drop q shapes ≡ x ∷ ls →
       drop e (opened q (open_at shapes q) (Some x)) ≡ drop d (open_at shapes q) →
@@ -108,49 +99,36 @@ module _ (shapes : List Shape) where
   still : (q : ℕ) → open_at shapes (q + 0) ≡ open_at shapes q
   still q = let same : q + 0 ≡ q = omega arith in ap (λ (n : ℕ). open_at shapes n) same
 
-  -- up to the `end` that closes d blocks and one more
-  end_comes : (ls : List Shape) (q d : ℕ) (st : List Bool) → drop q shapes ≡ ls → IsNested st ls → d < length st →
-      Passed q ls d (to_end d ls)
+  -- what stands at q is passed over up to the `end` that closes d blocks and one more
+  abbrev Ends : ℕ → ℕ → ℕ → Type 0
+  Ends q d n = Passed q d n × (slice_get shapes (q + n) ≡ Some Close)
+
+  ends_on : (q n d e : ℕ) (x : Shape) (ls : List Shape) → drop q shapes ≡ x ∷ ls →
+      drop e (opened q (open_at shapes q) (Some x)) ≡ drop d (open_at shapes q) → Ends (q + 1) e n → Ends q d (suc n)
+  ends_on q n d e x ls here same ih = let one : q + suc n ≡ q + 1 + n = omega arith in
+      (passed_on q n d e x ls here same ih.0, ap (λ (m : ℕ). slice_get shapes m) one ∙ ih.1)
+
+  end_comes : (ls : List Shape) (q d : ℕ) (st : List Bool) → drop q shapes ≡ ls → IsNested st ls → d < length st → Ends q d (to_end d ls)
   end_comes [] q d [] here n lt = absurd (omega arith)
   end_comes [] q d (b ∷ st) here n lt = absurd n
-  end_comes (Straight ∷ ls) q d st here n lt = passed_on q (to_end d ls) d d Straight ls here refl
+  end_comes (Straight ∷ ls) q d st here n lt = ends_on q (to_end d ls) d d Straight ls here refl
       (end_comes ls (q + 1) d st (next_here shapes q Straight ls here) n lt)
-  end_comes (Loop ∷ ls) q d st here n lt = passed_on q (to_end (suc d) ls) d (suc d) Loop ls here refl
+  end_comes (Loop ∷ ls) q d st here n lt = ends_on q (to_end (suc d) ls) d (suc d) Loop ls here refl
       (end_comes ls (q + 1) (suc d) (false ∷ st) (next_here shapes q Loop ls here) n (omega arith))
-  end_comes (Branch ∷ ls) q d st here n lt = passed_on q (to_end (suc d) ls) d (suc d) Branch ls here refl
+  end_comes (Branch ∷ ls) q d st here n lt = ends_on q (to_end (suc d) ls) d (suc d) Branch ls here refl
       (end_comes ls (q + 1) (suc d) (true ∷ st) (next_here shapes q Branch ls here) n (omega arith))
-  end_comes (Otherwise ∷ ls) q d (true ∷ st) here n lt = passed_on q (to_end d ls) d d Otherwise ls here refl
+  end_comes (Otherwise ∷ ls) q d (true ∷ st) here n lt = ends_on q (to_end d ls) d d Otherwise ls here refl
       (end_comes ls (q + 1) d (false ∷ st) (next_here shapes q Otherwise ls here) n lt)
   end_comes (Otherwise ∷ ls) q d _ here n lt = absurd n
-  end_comes (Close ∷ ls) q zero st here n lt = still q
+  end_comes (Close ∷ ls) q zero st here n lt = let same : q + 0 ≡ q = omega arith in
+      (still q, ap (λ (m : ℕ). slice_get shapes m) same ∙ at_here shapes q Close ls here)
   end_comes (Close ∷ ls) q (suc d) [] here n lt = absurd n
-  end_comes (Close ∷ ls) q (suc d) (b ∷ st) here n lt =
-      passed_on q (to_end d ls) (suc d) d Close ls here (ap (λ (bs : List (Option ℕ)). drop d bs) (opened-close q (open_at shapes q))
-      ∙ drop-outer d (open_at shapes q)) (end_comes ls (q + 1) d st (next_here shapes q Close ls here) n (omega arith))
-
-  -- that `end` is there
-  end_stands : (ls : List Shape) (q d : ℕ) (st : List Bool) → drop q shapes ≡ ls → IsNested st ls → d < length st →
-      slice_get shapes (q + to_end d ls) ≡ Some Close
-  end_stands [] q d [] here n lt = absurd (omega arith)
-  end_stands [] q d (b ∷ st) here n lt = absurd n
-  end_stands (Straight ∷ ls) q d st here n lt = let one : q + suc (to_end d ls) ≡ q + 1 + to_end d ls = omega arith in
-      ap (λ (m : ℕ). slice_get shapes m) one ∙ end_stands ls (q + 1) d st (next_here shapes q Straight ls here) n lt
-  end_stands (Loop ∷ ls) q d st here n lt = let one : q + suc (to_end (suc d) ls) ≡ q + 1 + to_end (suc d) ls = omega arith in
-      ap (λ (m : ℕ). slice_get shapes m) one ∙ end_stands ls (q + 1) (suc d) (false ∷ st) (next_here shapes q Loop ls here) n (omega arith)
-  end_stands (Branch ∷ ls) q d st here n lt = let one : q + suc (to_end (suc d) ls) ≡ q + 1 + to_end (suc d) ls = omega arith in
-      ap (λ (m : ℕ). slice_get shapes m) one ∙ end_stands ls (q + 1) (suc d) (true ∷ st) (next_here shapes q Branch ls here) n (omega arith)
-  end_stands (Otherwise ∷ ls) q d (true ∷ st) here n lt = let one : q + suc (to_end d ls) ≡ q + 1 + to_end d ls = omega arith in
-      ap (λ (m : ℕ). slice_get shapes m) one ∙ end_stands ls (q + 1) d (false ∷ st) (next_here shapes q Otherwise ls here) n lt
-  end_stands (Otherwise ∷ ls) q d _ here n lt = absurd n
-  end_stands (Close ∷ ls) q zero st here n lt = let same : q + 0 ≡ q = omega arith in
-      ap (λ (m : ℕ). slice_get shapes m) same ∙ at_here shapes q Close ls here
-  end_stands (Close ∷ ls) q (suc d) [] here n lt = absurd n
-  end_stands (Close ∷ ls) q (suc d) (b ∷ st) here n lt = let one : q + suc (to_end d ls) ≡ q + 1 + to_end d ls = omega arith in
-      ap (λ (m : ℕ). slice_get shapes m) one ∙ end_stands ls (q + 1) d st (next_here shapes q Close ls here) n (omega arith)
+  end_comes (Close ∷ ls) q (suc d) (b ∷ st) here n lt = ends_on q (to_end d ls) (suc d) d Close ls here
+      (ap (λ (bs : List (Option ℕ)). drop d bs) (opened-close q (open_at shapes q)) ∙ drop-outer d (open_at shapes q))
+      (end_comes ls (q + 1) d st (next_here shapes q Close ls here) n (omega arith))
 
   -- after the `else`, or up to the `end`, of an `if`
-  else_comes : (ls : List Shape) (q d : ℕ) (st : List Bool) → drop q shapes ≡ ls → IsNested st ls → d < length st →
-      Passed q ls d (to_else d ls)
+  else_comes : (ls : List Shape) (q d : ℕ) (st : List Bool) → drop q shapes ≡ ls → IsNested st ls → d < length st → Passed q d (to_else d ls)
   else_comes [] q d [] here n lt = absurd (omega arith)
   else_comes [] q d (b ∷ st) here n lt = absurd n
   else_comes (Straight ∷ ls) q d st here n lt = passed_on q (to_else d ls) d d Straight ls here refl
@@ -215,10 +193,8 @@ module _ (shapes : List Shape) where
     open_after_loop s =
         let w = one_open Loop (open_at shapes p) (Some p) s refl in
         let e : ℕ = p + 1 + to_end 0 (drop (p + 1) shapes) in
-        let comes : open_at shapes e ≡ Some p ∷ open_at shapes p =
-        end_comes (drop (p + 1) shapes) (p + 1) 0 w.0 refl w.1 w.2 ∙ open_next p (Some Loop) s in
-        let stands : slice_get shapes e ≡ Some Close = end_stands (drop (p + 1) shapes) (p + 1) 0 w.0 refl w.1 w.2 in
-        open_next e (Some Close) stands ∙ ap (λ (bs : List (Option ℕ)). opened e bs (Some Close)) comes
+        let end = end_comes (drop (p + 1) shapes) (p + 1) 0 w.0 refl w.1 w.2 in
+        open_next e (Some Close) end.1 ∙ ap (λ (bs : List (Option ℕ)). opened e bs (Some Close)) (end.0 ∙ open_next p (Some Loop) s)
 
     -- where an `if` doesn't hold it is open
     open_after_else : slice_get shapes p ≡ Some Branch → open_at shapes (jump_of Branch p (drop (p + 1) shapes)) ≡ None ∷ open_at shapes p
@@ -237,7 +213,7 @@ module _ (shapes : List Shape) where
         let beyond = nested_at nested (p + 1) (omega (arith, inside)) in
         let same : length (open_at shapes (p + 1)) ≡ length (open_at shapes p) =
         ap (λ (bs : List (Option ℕ)). length bs) (open_next p (Some Otherwise) s) in
-        end_comes (drop (p + 1) shapes) (p + 1) 0 beyond.0 refl beyond.1 (omega (arith, some, same, beyond.2, before.2))
+        (end_comes (drop (p + 1) shapes) (p + 1) 0 beyond.0 refl beyond.1 (omega (arith, some, same, beyond.2, before.2))).0
         ∙ open_next p (Some Otherwise) s
       where
         some_block : (st : List Bool) (x : Shape) (rest : List Shape) → Some x ≡ Some Otherwise → IsNested st (x ∷ rest) → 0 < length st
@@ -323,23 +299,21 @@ module _ {L S : Type 0} (rules : Rules L S) (most : ℕ) (statements : List L) w
           ∙ ap (λ (q : ℕ). open_at shapes_of q) (sym (jump_is Branch is)),
     )
 
+    -- an `end` where these blocks were open and those are left
+    closes_on : rules.shape l ≡ Close → (bs rest : List Block) → c.blocks ≡ bs →
+        block_places rest ≡ opened c.place (block_places bs) (Some Close) → NextOfClose c.place (block_places bs) (c.place + 1) →
+        Follows c (goes_to c (c.place + 1) rest)
+    closes_on is bs rest k e next = (
+      next_by Close is (c.place + 1) (subst (λ (os : List (Option ℕ)). NextOfClose c.place os (c.place + 1))
+          (ap block_places (sym k) ∙ fits) next),
+      fits_next Close is rest (e ∙ ap (λ (xs : List Block). opened c.place (block_places xs) (Some Close)) (sym k)),
+    )
+
     closes_follows : rules.shape l ≡ Close → (bs : List Block) → c.blocks ≡ bs → (closes most c bs).ended ≡ None →
         Follows c (closes most c bs)
-    closes_follows is [] k e =
-        let opens : [] ≡ open_at shapes_of c.place = ap block_places (sym k) ∙ fits in (
-          next_by Close is (c.place + 1) (subst (λ (os : List (Option ℕ)). NextOfClose c.place os (c.place + 1)) opens refl),
-          fits_next Close is [] (ap (λ (xs : List Block). opened c.place (block_places xs) (Some Close)) (sym k)),
-        )
-    closes_follows is (Chosen ∷ bs) k e =
-        let opens : None ∷ block_places bs ≡ open_at shapes_of c.place = ap block_places (sym k) ∙ fits in (
-          next_by Close is (c.place + 1) (subst (λ (os : List (Option ℕ)). NextOfClose c.place os (c.place + 1)) opens refl),
-          fits_next Close is bs (ap (λ (xs : List Block). opened c.place (block_places xs) (Some Close)) (sym k)),
-        )
-    closes_follows is (Turns place line zero ∷ bs) k e =
-        let opens : Some place ∷ block_places bs ≡ open_at shapes_of c.place = ap block_places (sym k) ∙ fits in (
-          next_by Close is (c.place + 1) (subst (λ (os : List (Option ℕ)). NextOfClose c.place os (c.place + 1)) opens (inr refl)),
-          fits_next Close is bs (ap (λ (xs : List Block). opened c.place (block_places xs) (Some Close)) (sym k)),
-        )
+    closes_follows is [] k e = closes_on is [] [] k refl refl
+    closes_follows is (Chosen ∷ bs) k e = closes_on is (Chosen ∷ bs) bs k refl refl
+    closes_follows is (Turns place line zero ∷ bs) k e = closes_on is (Turns place line zero ∷ bs) bs k refl (inr refl)
     closes_follows is (Turns place line (suc n) ∷ bs) k e =
         let opens : Some place ∷ block_places bs ≡ open_at shapes_of c.place = ap block_places (sym k) ∙ fits in
         begins_follows c place line n bs

@@ -1,48 +1,25 @@
 -- The places that may come next after a statement are those that its blocks give.
-use Rattle.std.proofs.Common.{◌≡◌, ℕ, zero, suc, ◌+◌, ◌≤◌, ◌⊎◌, pos, true, List, [], ◌∷◌, ◌++◌, length, map, drop, Option, Some, None, Ok}
-use Rattle.std.proofs.Common.{refl, sym, ap, ◌∙◌, subst, inl, inr, arith, append_assoc, append-nil}
-use Rattle.std.specs.Prelude.{slice_get, unwrap_or}
-use Rattle.std.proofs.lemmas.List.{drop-map, length-append, length-map}
-use Rattle.std.proofs.lemmas.Option.{slice_get_past}
-use Rattle.cord_meaning.specs.Blocks.{Shape, Straight, Loop, Branch, Otherwise, Close, jump, jump_of}
-use Rattle.cord_meaning.specs.Paths.{opened, open_at, NextOf, NextOfClose, Next}
-use Rattle.cord_meaning.specs.Machine.{Rules}
-use Rattle.cord_meaning.specs.Unrolled.{Parts, Nothing, Then, Repeats, Chooses, ChoosesElse, flat, IsWell}
+use Rattle.cord_meaning.proofs.Common.{◌≡◌, ℕ, zero, suc, ◌+◌, ◌≤◌, ◌⊎◌, pos, true, List, [], ◌∷◌, ◌++◌, length, map, drop, Option, Some}
+use Rattle.cord_meaning.proofs.Common.{None, Ok, refl, sym, ap, ◌∙◌, subst, inl, inr, arith, append_assoc, append-nil, slice_get, unwrap_or}
+use Rattle.cord_meaning.proofs.Common.{drop-map, length-append, length-map, slice_get_past, Shape, Straight, Loop, Branch, Otherwise, Close}
+use Rattle.cord_meaning.proofs.Common.{jump, jump_of, opened, open_at, NextOf, NextOfClose, Next, Rules, Parts, Nothing, Then, Repeats}
+use Rattle.cord_meaning.proofs.Common.{Chooses, ChoosesElse, flat, IsWell, at_here, next_here}
 use Rattle.cord_meaning.specs.Leads.{leads, IsAmong}
-use Rattle.cord_core.proofs.Places.{at_here, next_here}
 use Rattle.cord_meaning.proofs.Follows.{open_next}
-use Rattle.cord_meaning.proofs.Unrolls.{inner_here, closing_here, rest_here, all_here, end_after, else_after, no_else_after}
-use Rattle.cord_meaning.proofs.Unrolls.{jump_here}
+use Rattle.cord_meaning.proofs.Unrolls.{inner_here, closing_here, rest_here, all_here, end_after, else_after, no_else_after, jump_here}
 
 -- as many statements lead as there are
 length-leads : {L : Type 0} (parts : Parts L) (p : ℕ) → length (leads p parts) ≡ length (flat parts)
 length-leads Nothing p = refl
 length-leads (Then l rest) p = ap suc (length-leads rest (p + 1))
 length-leads (Repeats l e body rest) p =
-    let q : ℕ = p + 1 + length (flat body) in
-    let a = length-append (leads (p + 1) body) (((p + 1) ∷ (q + 1) ∷ []) ∷ leads (q + 1) rest) in
-    let b = length-append (flat body) (e ∷ flat rest) in
-    let c = length-leads body (p + 1) in
-    let d = length-leads rest (q + 1) in
-    omega (arith, a, b, c, d)
+    simp (length-append, length-leads body (p + 1), length-leads rest (p + 1 + length (flat body) + 1)) (omega arith)
 length-leads (Chooses l e branch rest) p =
-    let q : ℕ = p + 1 + length (flat branch) in
-    let a = length-append (leads (p + 1) branch) (((q + 1) ∷ []) ∷ leads (q + 1) rest) in
-    let b = length-append (flat branch) (e ∷ flat rest) in
-    let c = length-leads branch (p + 1) in
-    let d = length-leads rest (q + 1) in
-    omega (arith, a, b, c, d)
+    simp (length-append, length-leads branch (p + 1), length-leads rest (p + 1 + length (flat branch) + 1)) (omega arith)
 length-leads (ChoosesElse l m e branch other rest) p =
     let k : ℕ = p + 1 + length (flat branch) in
-    let q : ℕ = k + 1 + length (flat other) in
-    let a = length-append (leads (p + 1) branch) ((q ∷ []) ∷ (leads (k + 1) other ++ (((q + 1) ∷ []) ∷ leads (q + 1) rest))) in
-    let b = length-append (flat branch) (m ∷ (flat other ++ (e ∷ flat rest))) in
-    let c = length-append (leads (k + 1) other) (((q + 1) ∷ []) ∷ leads (q + 1) rest) in
-    let d = length-append (flat other) (e ∷ flat rest) in
-    let f = length-leads branch (p + 1) in
-    let g = length-leads other (k + 1) in
-    let h = length-leads rest (q + 1) in
-    omega (arith, a, b, c, d, f, g, h)
+    simp (length-append, length-leads branch (p + 1), length-leads other (k + 1), length-leads rest (k + 1 + length (flat other) + 1))
+    (omega arith)
 
 module _ {L : Type 0} (shape : L → Shape) (statements : List L) where
   abbrev shapes : List Shape

@@ -1,3 +1,4 @@
+pub mod Common
 pub mod Terminates
 pub mod Grows
 pub mod Runs

@@ -1,23 +1,15 @@
 -- A greater limit changes nothing but where a text is too long for the smaller one.
-use Rattle.std.proofs.Common.{◌≡◌, ℕ, zero, suc, ◌≤◌, ◌⊎◌, ◌++◌, ℤ, Bool, true, false, List, [], ◌∷◌, Option, Some, None, Result, Ok, Err}
-use Rattle.std.proofs.Common.{refl, sym, ap, subst, inl, inr, ⊎_elim, arith, length}
-use Rattle.std.specs.Prelude.{slice_get, if◌then◌else◌, unwrap_or, nat_le, take, drop, replicate, flat_map}
-use Rattle.std.proofs.lemmas.Bool.{le-leb, leb-true}
-use Rattle.cord_io.specs.Device.{FileSystem}
-use Rattle.cord_syntax.specs.declared.statements.Statement.{Statement}
+use Rattle.cord_meaning.proofs.Common.{◌≡◌, ℕ, zero, suc, ◌≤◌, ◌⊎◌, ◌++◌, ℤ, Bool, true, false, List, [], ◌∷◌, Option, Some, None, Result}
+use Rattle.cord_meaning.proofs.Common.{Ok, Err, refl, sym, ap, subst, inl, inr, ⊎_elim, arith, length, slice_get, if◌then◌else◌, unwrap_or}
+use Rattle.cord_meaning.proofs.Common.{nat_le, take, drop, replicate, flat_map, le-leb, leb-true, FileSystem, Statement, Done, Fault}
+use Rattle.cord_meaning.proofs.Common.{FaultKind, TooLong, Shape, Straight, Config, acted, if_running, runs_shape, runs, step, enough}
+use Rattle.cord_meaning.proofs.Common.{State, Outcome, number_value, and_then, as_index, as_byte, as_length, sets_text, sets_extensible}
+use Rattle.cord_meaning.proofs.Common.{start_state, rules, act, line_of, shape_of, function_text, file_text, sets_copies, run_within}
+use Rattle.cord_meaning.proofs.Common.{end_within, trace_within}
 use Rattle.cord_syntax.specs.declared.statements.Statement.TheVariants.{Let, File, Eager, Lazy, Chars, Nul, FromFn, Cat, Catn, Catc, Substr}
-use Rattle.cord_syntax.specs.declared.statements.Statement.TheVariants.{Balance, EcToCord, Sprintf}
-use Rattle.cord_syntax.specs.declared.statements.Statement.TheVariants.{EcInit, EcPut, EcCat, EcStr}
-use Rattle.cord_meaning.specs.declared.ends.End.TheVariants.{Done, Fault}
-use Rattle.cord_meaning.specs.declared.ends.FaultKind.{FaultKind}
-use Rattle.cord_meaning.specs.declared.ends.FaultKind.TheVariants.{TooLong}
-use Rattle.cord_meaning.specs.Blocks.{Shape, Straight}
-use Rattle.cord_meaning.specs.Machine.{Config, acted, if_running, runs_shape, runs, step, enough, whole}
-use Rattle.cord_meaning.specs.State.{State, Outcome, number_value, and_then, as_index, as_byte, as_length, sets_text, sets_extensible}
-use Rattle.cord_meaning.specs.State.{start_state}
-use Rattle.cord_meaning.specs.Statements.{rules, act, line_of, shape_of, function_text, file_text, sets_copies}
+use Rattle.cord_syntax.specs.declared.statements.Statement.TheVariants.{Balance, EcToCord, Sprintf, EcInit, EcPut, EcCat, EcStr}
+use Rattle.cord_meaning.specs.Machine.{whole}
 use Rattle.cord_meaning.specs.Formats.{format_text}
-use Rattle.cord_meaning.specs.Meaning.{run_within, end_within, trace_within}
 
 module _ {B : Type 0} where
   -- the first is too long, or both are the same

@@ -1,14 +1,10 @@
 -- A run ends by itself only as Done or by a fault.
-use Rattle.std.proofs.Common.{ℕ, zero, suc, Bool, true, false, List, [], ◌∷◌, Option, Some, None, Result, Ok, Err, nat_lt, ℤ, pos, negsuc}
-use Rattle.std.specs.Prelude.{slice_get, if◌then◌else◌, unwrap_or}
-use Rattle.cord_meaning.specs.declared.ends.End.{End}
-use Rattle.cord_meaning.specs.declared.ends.End.TheVariants.{Done}
-use Rattle.cord_meaning.specs.declared.ends.FaultKind.{FaultKind}
-use Rattle.cord_meaning.specs.declared.ends.FaultKind.TheVariants.{TooManyTurns}
-use Rattle.cord_meaning.specs.Blocks.{Shape, Straight, Loop, Branch, Otherwise, Close}
-use Rattle.cord_meaning.specs.Machine.{Rules, Block, Turns, Config, notes, faults, acted, turned, begins, repeats, chooses, closes}
-use Rattle.cord_meaning.specs.Machine.{if_running, jump_from, runs_shape, runs, step, after, whole, enough, run_end}
-use Rattle.cord_meaning.specs.Ends.{IsMeant}
+use Rattle.cord_meaning.proofs.Common.{ℕ, zero, suc, Bool, true, false, List, [], ◌∷◌, Option, Some, None, Result, Ok, Err, nat_lt, ℤ, pos}
+use Rattle.cord_meaning.proofs.Common.{negsuc, slice_get, if◌then◌else◌, unwrap_or, End, Done, FaultKind, TooManyTurns, Shape, Straight}
+use Rattle.cord_meaning.proofs.Common.{Loop, Branch, Otherwise, Close, Rules, Block, Turns, Config, notes, faults, acted, turned, begins}
+use Rattle.cord_meaning.proofs.Common.{repeats, chooses, closes, if_running, jump_from, runs_shape, runs, step, after, enough, run_end}
+use Rattle.cord_meaning.proofs.Common.{IsMeant}
+use Rattle.cord_meaning.specs.Machine.{whole}
 
 -- it goes on, or has ended as Done or by a fault
 abbrev pub MeantSoFar : Option End → Type 0

@@ -1,8 +1,7 @@
 -- Statements whose blocks are closed are parts, one after the other.
-use Rattle.std.proofs.Common.{◌≡◌, ℕ, zero, suc, ◌<◌, ◌≤◌, ◌⊎◌, Bool, true, false, List, [], ◌∷◌, ◌++◌, length, map, refl, sym, ap, ◌∙◌}
-use Rattle.std.proofs.Common.{inl, inr, ⊎_elim, arith, append_assoc}
-use Rattle.cord_meaning.specs.Blocks.{Shape, Straight, Loop, Branch, Otherwise, Close, IsNested}
-use Rattle.cord_meaning.specs.Unrolled.{Parts, Nothing, Then, Repeats, Chooses, ChoosesElse, flat, IsWell}
+use Rattle.cord_meaning.proofs.Common.{◌≡◌, ℕ, zero, suc, ◌<◌, ◌≤◌, ◌⊎◌, Bool, true, false, List, [], ◌∷◌, ◌++◌, length, map, refl, sym, ap}
+use Rattle.cord_meaning.proofs.Common.{◌∙◌, inl, inr, ⊎_elim, arith, append_assoc, Shape, Straight, Loop, Branch, Otherwise, Close}
+use Rattle.cord_meaning.proofs.Common.{IsNested, Parts, Nothing, Then, Repeats, Chooses, ChoosesElse, flat, IsWell}
 
 module _ {L : Type 0} (shape : L → Shape) where
   abbrev shapes : List L → List Shape
@@ -124,8 +123,6 @@ module _ {L : Type 0} (shape : L → Shape) where
   whole_one n ih x xs le Straight is h =
       let r = ih xs le h in
       record { parts = Then x r.parts; well = (is, r.well); is = ap (λ (ls : List L). x ∷ ls) r.is }
-  whole_one n ih x xs le Close is h = absurd h
-  whole_one n ih x xs le Otherwise is h = absurd h
   whole_one n ih x xs le Loop is h =
       let s = split n xs le false [] h in
       ⊎_elim
@@ -162,6 +159,7 @@ module _ {L : Type 0} (shape : L → Shape) where
       (λ k. absurd (differ k.1))
       o.closes)
       s.closes
+  whole_one n ih x xs le _ is h = absurd h
 
   whole_of : (n : ℕ) → Wholes n
   whole_of n [] le h = record { parts = Nothing; well = tt; is = refl }

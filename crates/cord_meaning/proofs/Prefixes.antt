@@ -1,5 +1,5 @@
 -- The prefix of a source.
-use Rattle.std.proofs.Common.{◌≡◌, ◌≤◌, ℕ, take, sym, arith}
+use Rattle.cord_meaning.proofs.Common.{◌≡◌, ◌≤◌, ℕ, take, sym, arith}
 use Rattle.cord_io.specs.FunctionTexts.{text_of}
 use Rattle.cord_io.proofs.FunctionRanges.{range-text_of}
 

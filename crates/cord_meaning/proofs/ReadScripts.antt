@@ -1,20 +1,16 @@
 -- A script that is read has closed blocks, and its lines are numbered from 1.
-use Rattle.std.proofs.Common.{◌≡◌, ◌≢◌, ◌<◌, ◌+◌, ℕ, Bool, true, false, List, [], ◌∷◌, map, refl, sym, subst, inl, inr, arith}
-use Rattle.std.specs.Prelude.{All}
+use Rattle.cord_meaning.proofs.Common.{◌≡◌, ◌≢◌, ◌<◌, ◌+◌, ℕ, Bool, true, false, List, [], ◌∷◌, map, refl, sym, subst, inl, inr, arith, All}
+use Rattle.cord_meaning.proofs.Common.{Statement, Shape, Otherwise, Close, IsNested, line_of, shape_of}
 use Rattle.std.proofs.lemmas.List.Elements.{All-nil, All-cons}
-use Rattle.cord_syntax.specs.declared.statements.Statement.{Statement}
 use Rattle.cord_syntax.specs.declared.statements.Statement.TheVariants.{Repeat, If, Else, End}
 use Rattle.cord_script.specs.Forms.{Grammar, effect_of}
 use Rattle.cord_script.specs.Script as scripts
 use Rattle.cord_script.specs.Script.{Scope, LinesSay, ReadsBy, FitsBlocks, blocks_after, after_all}
-use Rattle.cord_meaning.specs.Blocks.{Shape, Otherwise, Close, IsNested}
-use Rattle.cord_meaning.specs.Statements.{line_of, shape_of}
 
 -- an open block that may have an `else` yet
 abbrev may_turn : scripts.Block → Bool
-may_turn (scripts.Block.InRepeat line) = false
 may_turn (scripts.Block.InIf line) = true
-may_turn (scripts.Block.InElse line) = false
+may_turn _ = false
 
 abbrev may_turn_each : List scripts.Block → List Bool
 may_turn_each blocks = map may_turn blocks

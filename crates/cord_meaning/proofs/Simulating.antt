@@ -1,19 +1,10 @@
 -- Two runs of one shape go together, where states stay related.
-use Rattle.std.proofs.Common.{◌≡◌, ℕ, zero, suc, ◌+◌, ℤ, pos, negsuc, Bool, true, false, List, [], ◌∷◌, ◌++◌, map, Option, Some, None}
-use Rattle.std.proofs.Common.{Result, Ok, Err, refl, sym, ap, ◌∙◌, subst, nat_lt}
-use Rattle.std.specs.Prelude.{slice_get, if◌then◌else◌, IsSome, unwrap_or}
-use Rattle.std.specs.Option.{option_map}
-use Rattle.std.proofs.lemmas.List.{map-append}
-use Rattle.std.proofs.lemmas.Option.{slice_get-map}
-use Rattle.cord_meaning.specs.declared.ends.End.{End}
-use Rattle.cord_meaning.specs.declared.ends.End.TheVariants.{Done}
-use Rattle.cord_meaning.specs.declared.ends.FaultKind.{FaultKind}
-use Rattle.cord_meaning.specs.declared.ends.FaultKind.TheVariants.{TooManyTurns}
-use Rattle.cord_meaning.specs.Blocks.{Shape, Straight, Loop, Branch, Otherwise, Close, IsNested, jump}
-use Rattle.cord_meaning.specs.Paths.{Next}
-use Rattle.cord_meaning.specs.Machine.{Rules, Event, Block, Turns, Config, notes, goes_to, faults, acted, turned, begins, repeats}
-use Rattle.cord_meaning.specs.Machine.{chooses, closes, if_running, jump_from, runs_shape, runs, step, after, enough, run_trace, run_end}
-use Rattle.cord_meaning.specs.Machine.{reported}
+use Rattle.cord_meaning.proofs.Common.{◌≡◌, ℕ, zero, suc, ◌+◌, ℤ, pos, negsuc, Bool, true, false, List, [], ◌∷◌, ◌++◌, map, Option, Some}
+use Rattle.cord_meaning.proofs.Common.{None, Result, Ok, Err, refl, sym, ap, ◌∙◌, subst, nat_lt, slice_get, if◌then◌else◌, IsSome}
+use Rattle.cord_meaning.proofs.Common.{unwrap_or, option_map, map-append, slice_get-map, End, Done, FaultKind, TooManyTurns, Shape}
+use Rattle.cord_meaning.proofs.Common.{Straight, Loop, Branch, Otherwise, Close, IsNested, jump, Next, Rules, Event, Block, Turns, Config}
+use Rattle.cord_meaning.proofs.Common.{notes, goes_to, faults, acted, turned, begins, repeats, chooses, closes, if_running, jump_from}
+use Rattle.cord_meaning.proofs.Common.{runs_shape, runs, step, after, enough, run_trace, run_end, reported}
 use Rattle.cord_meaning.specs.inner.Simulation.{Agree, IsControl, Simulates}
 use Rattle.cord_meaning.proofs.Terminates.{ends}
 use Rattle.cord_meaning.proofs.Runs.{trace_when_ended, end_when_ended}
@@ -152,33 +143,19 @@ module _ {L M S T : Type 0} (rules : Rules L S) (others : Rules M T) (most : ℕ
         shape_alike : (x : Shape) → rules.shape l ≡ x → Alike c.place (runs_shape rules most statements c l x)
             (runs_shape others most operations beside m x)
         shape_alike Straight is =
-            subst (λ (n : ℕ). Alike c.place (acted c (rules.line l) (rules.act c.place l c.state)) (acted beside n (others.act c.place m t)))
-            (sym line)
-            (straight_alike (rules.act c.place l c.state) (others.act c.place m t) (sim.acts c.place l m here there is c.state t rel))
+            rw line (straight_alike (rules.act c.place l c.state) (others.act c.place m t) (sim.acts c.place l m here there is c.state t rel))
         shape_alike Loop is =
             let count : rules.count l c.state ≡ others.count m t = sim.counts c.place l m here there is c.state t rel in
-            let same_step : repeats most beside (rules.line l) (jump_from rules most statements c.place) (rules.count l c.state)
-            ≡ repeats most beside (others.line m) (jump_from others most operations c.place) (others.count m t) =
-            ap (λ (n : ℕ). repeats most beside n (jump_from rules most statements c.place) (rules.count l c.state)) (sym line)
-            ∙ ap (λ (q : ℕ). repeats most beside (others.line m) q (rules.count l c.state)) (sym (same_jump c.place))
-            ∙ ap (λ (z : ℤ). repeats most beside (others.line m) (jump_from others most operations c.place) z) count in
-            subst (λ (d : Config T). Alike c.place (runs_shape rules most statements c l Loop) d) same_step
+            rw (line, same_jump c.place, ← count)
             (control_alike Loop is tt (repeats most beside (rules.line l) (jump_from rules most statements c.place) (rules.count l c.state))
             (repeats_beside most c seen t same (rules.line l) (jump_from rules most statements c.place) (rules.count l c.state)))
         shape_alike Branch is =
             let holds : rules.holds l c.state ≡ others.holds m t = sim.compares c.place l m here there is c.state t rel in
-            let same_step : chooses beside (rules.line l) (jump_from rules most statements c.place) (rules.holds l c.state)
-            ≡ chooses beside (others.line m) (jump_from others most operations c.place) (others.holds m t) =
-            ap (λ (n : ℕ). chooses beside n (jump_from rules most statements c.place) (rules.holds l c.state)) (sym line)
-            ∙ ap (λ (q : ℕ). chooses beside (others.line m) q (rules.holds l c.state)) (sym (same_jump c.place))
-            ∙ ap (λ (v : Bool). chooses beside (others.line m) (jump_from others most operations c.place) v) holds in
-            subst (λ (d : Config T). Alike c.place (runs_shape rules most statements c l Branch) d) same_step
+            rw (line, same_jump c.place, ← holds)
             (control_alike Branch is tt (chooses beside (rules.line l) (jump_from rules most statements c.place) (rules.holds l c.state))
             (chooses_beside most c seen t same (rules.line l) (jump_from rules most statements c.place) (rules.holds l c.state)))
         shape_alike Otherwise is =
-            subst (λ (d : Config T). Alike c.place (runs_shape rules most statements c l Otherwise) d)
-            (ap (λ (q : ℕ). goes_to beside q c.blocks) (sym (same_jump c.place)))
-            (control_alike Otherwise is tt (goes_to beside (jump_from rules most statements c.place) c.blocks)
+            rw (same_jump c.place) (control_alike Otherwise is tt (goes_to beside (jump_from rules most statements c.place) c.blocks)
             (record { other = seen; is = refl; reports = same; state_is = refl }))
         shape_alike Close is = control_alike Close is tt (closes most beside c.blocks) (closes_beside most c seen t same c.blocks)
 

@@ -1,20 +1,14 @@
 -- The machine runs a script as its unrolled run says.
-use Rattle.std.proofs.Common.{◌≡◌, ℕ, zero, suc, ◌+◌, ℤ, pos, negsuc, Bool, true, false, List, [], ◌∷◌, ◌++◌, length, map, drop, Option}
-use Rattle.std.proofs.Common.{Some, None, Result, Ok, Err, refl, sym, ap, ◌∙◌, subst, nat_lt, arith, append_assoc, append-nil}
-use Rattle.std.specs.Prelude.{slice_get, if◌then◌else◌, unwrap_or}
+use Rattle.cord_meaning.proofs.Common.{◌≡◌, ℕ, zero, suc, ◌+◌, ℤ, pos, negsuc, Bool, true, false, List, [], ◌∷◌, ◌++◌, length, map, drop}
+use Rattle.cord_meaning.proofs.Common.{Option, Some, None, Result, Ok, Err, refl, sym, ap, ◌∙◌, subst, nat_lt, arith, append_assoc}
+use Rattle.cord_meaning.proofs.Common.{append-nil, slice_get, if◌then◌else◌, unwrap_or, drop-map, length-append, End, Done, Fault}
+use Rattle.cord_meaning.proofs.Common.{FaultKind, TooManyTurns, Shape, Straight, Loop, Branch, Otherwise, Close, to_end, to_else, jump_at}
+use Rattle.cord_meaning.proofs.Common.{jump_of, Rules, Event, Block, Turns, Chosen, Config, acted, begins, turned, faults, repeats, chooses}
+use Rattle.cord_meaning.proofs.Common.{jump_from, runs_shape, runs, step, after_from, after, run_trace, run_end, at_here, next_here, beyond}
+use Rattle.cord_meaning.proofs.Common.{none_after, Parts, Nothing, Then, Repeats, Chooses, ChoosesElse, flat, Unrolled, joined, then_on}
+use Rattle.cord_meaning.proofs.Common.{member, acted_once, all_turns, repeated, chosen, unrolled, IsWell}
 use Rattle.std.proofs.Math.Seq.{drop-length}
-use Rattle.std.proofs.lemmas.List.{drop-map, length-append}
-use Rattle.cord_meaning.specs.declared.ends.End.{End}
-use Rattle.cord_meaning.specs.declared.ends.End.TheVariants.{Done, Fault}
-use Rattle.cord_meaning.specs.declared.ends.FaultKind.{FaultKind}
-use Rattle.cord_meaning.specs.declared.ends.FaultKind.TheVariants.{TooManyTurns}
-use Rattle.cord_meaning.specs.Blocks.{Shape, Straight, Loop, Branch, Otherwise, Close, to_end, to_else, jump_at, jump_of}
-use Rattle.cord_meaning.specs.Machine.{Rules, Event, Block, Turns, Chosen, Config, acted, begins, turned, faults, repeats, chooses}
-use Rattle.cord_meaning.specs.Machine.{jump_from, runs_shape, runs, step, after_from, after, run_trace, run_end}
-use Rattle.cord_core.proofs.Places.{at_here, next_here, beyond, none_after}
 use Rattle.cord_meaning.proofs.Runs.{trace_when_ended, end_when_ended}
-use Rattle.cord_meaning.specs.Unrolled.{Parts, Nothing, Then, Repeats, Chooses, ChoosesElse, flat, Unrolled, joined, then_on, member}
-use Rattle.cord_meaning.specs.Unrolled.{acted_once, all_turns, repeated, chosen, unrolled, IsWell}
 
 -- where the parts of a block stand
 module _ {L : Type 0} (statements : List L) (p : ℕ) (l e : L) (inner rest more : List L)

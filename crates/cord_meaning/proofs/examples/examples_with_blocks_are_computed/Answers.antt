@@ -1,4 +1,4 @@
-use Rattle.std.proofs.Common.{refl}
+use Rattle.cord_meaning.proofs.Common.{refl}
 use Rattle.cord_meaning.proofs.Computed.{means_after}
 use Rattle.cord_meaning.proofs.examples.examples_with_blocks_are_computed.Goals as goal
 

@@ -1,12 +1,5 @@
-use Rattle.std.proofs.Common.{[], ◌∷◌, arith, inl, inr, refl, sym}
-use Rattle.std.specs.Prelude.{codes}
-use Rattle.cord_io.specs.declared.TheConstants.{MAX_LEN}
-use Rattle.cord_meaning.specs.declared.TheConstants.{MAX_TURNS}
-use Rattle.cord_meaning.specs.declared.ends.End.TheVariants.{Done}
+use Rattle.cord_meaning.proofs.Common.{[], ◌∷◌, arith, inl, inr, refl, sym, codes, MAX_LEN, MAX_TURNS, Done, Means, start_state, rules}
 use Rattle.cord_meaning.specs.Examples
-use Rattle.cord_meaning.specs.Meaning.{Means}
-use Rattle.cord_meaning.specs.State.{start_state}
-use Rattle.cord_meaning.specs.Statements.{rules}
 use Rattle.cord_meaning.proofs.Computed.{means_after}
 use Rattle.cord_meaning.proofs.Runs.{trace_when_ended}
 use Rattle.cord_meaning.proofs.examples.right_ends_are_faithful.Goals as goal

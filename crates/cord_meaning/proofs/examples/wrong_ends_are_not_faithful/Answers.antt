@@ -1,14 +1,6 @@
-use Rattle.std.proofs.Common.{◌≡◌, ⊎_elim, ℕ, List, [], ◌∷◌, ◌++◌, arith, refl, ◌∙◌}
-use Rattle.std.specs.Prelude.{codes}
-use Rattle.cord_io.specs.declared.TheConstants.{MAX_LEN}
-use Rattle.cord_meaning.specs.declared.TheConstants.{MAX_TURNS}
-use Rattle.cord_meaning.specs.declared.ends.End.TheVariants.{Done, Fault}
-use Rattle.cord_meaning.specs.declared.ends.FaultKind.TheVariants.{OutOfRange, Negative}
-use Rattle.cord_meaning.specs.Meaning.{Means, trace}
-use Rattle.cord_meaning.specs.Machine.{Event, output}
+use Rattle.cord_meaning.proofs.Common.{◌≡◌, ⊎_elim, ℕ, List, [], ◌∷◌, ◌++◌, arith, refl, ◌∙◌, codes, MAX_LEN, MAX_TURNS, Done, Fault}
+use Rattle.cord_meaning.proofs.Common.{OutOfRange, Negative, Means, trace, Event, output, State, start_state, rules}
 use Rattle.cord_meaning.specs.Examples
-use Rattle.cord_meaning.specs.State.{State, start_state}
-use Rattle.cord_meaning.specs.Statements.{rules}
 use Rattle.cord_meaning.proofs.Computed.{means_after}
 use Rattle.cord_meaning.proofs.Runs.{trace_when_ended}
 use Rattle.cord_meaning.proofs.examples.wrong_ends_are_not_faithful.Goals as goal

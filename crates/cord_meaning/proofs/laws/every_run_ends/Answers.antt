@@ -1,5 +1,4 @@
-use Rattle.cord_meaning.specs.State.{start_state}
-use Rattle.cord_meaning.specs.Statements.{rules}
+use Rattle.cord_meaning.proofs.Common.{start_state, rules}
 use Rattle.cord_meaning.proofs.Terminates.{ends}
 use Rattle.cord_meaning.proofs.Meant.{end_meant}
 use Rattle.cord_meaning.proofs.laws.every_run_ends.Goals as goal

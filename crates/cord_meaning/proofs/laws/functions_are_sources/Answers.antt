@@ -1,4 +1,4 @@
-use Rattle.cord_io.specs.declared.TheConstants.{MAX_LEN}
+use Rattle.cord_meaning.proofs.Common.{MAX_LEN}
 use Rattle.cord_io.specs.FunctionTexts.{digit_at, byte_value_at}
 use Rattle.cord_meaning.proofs.Prefixes.{prefix_of_text}
 use Rattle.cord_meaning.proofs.laws.functions_are_sources.Goals as goal

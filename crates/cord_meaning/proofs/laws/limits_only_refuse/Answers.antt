@@ -1,8 +1,4 @@
-use Rattle.std.proofs.Common.{◌≤◌, ◌^◌, ◌-◌, List, ap, lit≤}
-use Rattle.cord_io.specs.declared.TheConstants.{MAX_LEN}
-use Rattle.cord_meaning.specs.declared.TheConstants.{MAX_TURNS}
-use Rattle.cord_meaning.specs.Machine.{Event}
-use Rattle.cord_meaning.specs.State.{State}
+use Rattle.cord_meaning.proofs.Common.{◌≤◌, ◌^◌, ◌-◌, List, ap, lit≤, MAX_LEN, MAX_TURNS, Event, State}
 use Rattle.cord_meaning.specs.Meaning.{output}
 use Rattle.cord_meaning.proofs.Limit.{traces_agree, end_agrees}
 use Rattle.cord_meaning.proofs.laws.limits_only_refuse.Goals as goal

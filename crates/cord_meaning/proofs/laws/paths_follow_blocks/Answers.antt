@@ -1,4 +1,4 @@
-use Rattle.cord_meaning.specs.Statements.{shape_of}
+use Rattle.cord_meaning.proofs.Common.{shape_of}
 use Rattle.cord_meaning.proofs.Leading.{leading}
 use Rattle.cord_meaning.proofs.laws.paths_follow_blocks.Goals as goal
 

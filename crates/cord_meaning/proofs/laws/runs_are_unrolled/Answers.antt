@@ -1,6 +1,4 @@
-use Rattle.std.proofs.Common.{refl, sym}
-use Rattle.cord_meaning.specs.State.{start_state}
-use Rattle.cord_meaning.specs.Statements.{rules, shape_of}
+use Rattle.cord_meaning.proofs.Common.{refl, sym, start_state, rules, shape_of}
 use Rattle.cord_meaning.proofs.Nesting.{are_parts}
 use Rattle.cord_meaning.proofs.Unrolls.{trace_unrolled, end_unrolled}
 use Rattle.cord_meaning.proofs.laws.runs_are_unrolled.Goals as goal

@@ -1,5 +1,4 @@
-use Rattle.cord_meaning.specs.State.{start_state}
-use Rattle.cord_meaning.specs.Statements.{rules}
+use Rattle.cord_meaning.proofs.Common.{start_state, rules}
 use Rattle.cord_meaning.proofs.Follows.{follows}
 use Rattle.cord_meaning.proofs.laws.runs_follow_paths.Goals as goal
 

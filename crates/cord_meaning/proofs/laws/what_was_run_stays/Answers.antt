@@ -1,5 +1,4 @@
-use Rattle.cord_meaning.specs.State.{start_state}
-use Rattle.cord_meaning.specs.Statements.{rules}
+use Rattle.cord_meaning.proofs.Common.{start_state, rules}
 use Rattle.cord_meaning.proofs.Grows.{grows, begins_whole}
 use Rattle.cord_meaning.proofs.laws.what_was_run_stays.Goals as goal
 
