@@ -80,8 +80,7 @@ module _ (entries : List Entry) (e : Expr) (ls : Lengths) (over : IsOver ls entr
   pub wrote_nothing : (stop : Stop) → IsUnbuilt entries e stop → b ≡ a → Wrote meant a b (Err stop)
   wrote_nothing (stops.Fault kind) h same = (h t (over_reported ls t reported entries over) there, same)
   wrote_nothing stops.NoMemory h same = same
-  wrote_nothing stops.ReadFailed h same = absurd h
-  wrote_nothing stops.WriteFailed h same = absurd h
+  wrote_nothing _ h same = absurd h
 
   -- that was put
   pub wrote_whole : (ps : List (Option Node)) → AreWhole entries e ps → b ≡ a ++ all_bytes t ps → Wrote meant a b (Ok tt)
@@ -98,40 +97,32 @@ module _ (entries : List Entry) (e : Expr) (ls : Lengths) (over : IsOver ls entr
 -- a failure of a device was counted as such
 pub stop_counts : (error : CordError) (n m : FailureCounts) → CountsFaults {T = Unit {0}} n m (Err error) →
     CountsStops n m (Err (stop_of_failure error))
-stop_counts NoMemory n m h = absurd h
-stop_counts TooLong n m h = absurd h
 stop_counts ReadFailed n m h = h
 stop_counts WriteFailed n m h = h
+stop_counts _ n m h = absurd h
 
 -- what was refused counted nothing
 pub unbuilt_counts : (entries : List Entry) (e : Expr) (stop : Stop) (n m : FailureCounts) → IsUnbuilt entries e stop → m.source ≡ n.source →
     m.sink ≡ n.sink → CountsStops n m (Err stop)
-unbuilt_counts entries e (stops.Fault kind) n m h source sink = (source, sink)
-unbuilt_counts entries e stops.NoMemory n m h source sink = (source, sink)
 unbuilt_counts entries e stops.ReadFailed n m h source sink = absurd h
 unbuilt_counts entries e stops.WriteFailed n m h source sink = absurd h
+unbuilt_counts entries e _ n m h source sink = (source, sink)
 
 -- ---- bytes that were handed over as the text of an expression
 module _ {S : Type 0} (s : sinks.Ghosts S) (entries : List Entry) (e : Expr) (old new : S) where
   pub short_wrote : (r : Result (Unit {0}) Stop) → PutsText s entries e old new r → (t : Table) →
       all_texts (holding_of t entries) (cords e) ≡ true → Wrote (text_in MAX_LEN (plain_of t entries) e) (s.taken old) (s.taken new) r
   short_wrote (Ok x) h t there = (h.0, h.1 t there, h.2.0)
-  short_wrote (Err (stops.Fault kind)) h t there = absurd h.2
-  short_wrote (Err stops.NoMemory) h t there = absurd h.2
-  short_wrote (Err stops.ReadFailed) h t there = absurd h.2
   short_wrote (Err stops.WriteFailed) h t there = (h.0, h.1 t there, h.2.0)
+  short_wrote _ h t there = absurd h.2
 
   pub short_counts : (r : Result (Unit {0}) Stop) → PutsText s entries e old new r → (n : ℕ) →
       CountsStops (record { source = n; sink = s.failures old }) (record { source = n; sink = s.failures new }) r
   short_counts (Ok x) h n = (refl, h.2.1)
-  short_counts (Err (stops.Fault kind)) h n = absurd h.2
-  short_counts (Err stops.NoMemory) h n = absurd h.2
-  short_counts (Err stops.ReadFailed) h n = absurd h.2
   short_counts (Err stops.WriteFailed) h n = (refl, h.2.1)
+  short_counts _ h n = absurd h.2
 
   pub short_finished : (r : Result (Unit {0}) Stop) → PutsText s entries e old new r → s.finished new ≡ s.finished old
   short_finished (Ok x) h = h.2.2
-  short_finished (Err (stops.Fault kind)) h = absurd h.2
-  short_finished (Err stops.NoMemory) h = absurd h.2
-  short_finished (Err stops.ReadFailed) h = absurd h.2
   short_finished (Err stops.WriteFailed) h = h.2.2
+  short_finished _ h = absurd h.2

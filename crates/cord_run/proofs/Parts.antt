@@ -248,8 +248,7 @@ module _ (entries : List Entry) (d e : Expr) where
     pub pair_refused : (error : CordError) → IsRefusal error → ReportsTooLong (Err error) → IsUnbuilt entries both (stop_of_cord error)
     pair_refused errors.NoMemory refused above = tt
     pair_refused errors.TooLong refused above = pair_too_long (above refl)
-    pair_refused errors.ReadFailed refused above = refused
-    pair_refused errors.WriteFailed refused above = refused
+    pair_refused _ refused above = refused
 
   -- the first has a fault, or no memory
   pub first_unbuilt : (stop : Stop) → IsUnbuilt entries d stop → IsUnbuilt entries both stop

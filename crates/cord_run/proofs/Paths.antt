@@ -11,10 +11,8 @@ use Rattle.cord_script.specs.Forms.{Grammar, argument_term, terms_of}
 use Rattle.cord_script.specs.Forms.Term.{Operand}
 use Rattle.cord_script.specs.Script.{AreAllowed, Scope, LinesSay, ReadsBy, after, after_all, is_among, paths_after, start, with_path}
 use Rattle.cord_syntax.specs.declared.statements.Statement.{Statement}
-use Rattle.cord_syntax.specs.declared.statements.Statement.TheVariants.{Let, File, Eager, Lazy, Chars, Nul, FromFn, Cat, Catn, Catc, Substr}
-use Rattle.cord_syntax.specs.declared.statements.Statement.TheVariants.{Balance, EcToCord, Sprintf, Len, Fetch, Cmp, Ncmp, Str, Chr, Rchr}
-use Rattle.cord_syntax.specs.declared.statements.Statement.TheVariants.{Assign, Add, Sub, EcInit, EcPut, EcCat, EcStr, Put, Repeat, If}
-use Rattle.cord_syntax.specs.declared.statements.Statement.TheVariants.{Else, End}
+use Rattle.cord_syntax.specs.declared.statements.Statement.TheVariants.{File, Eager, Lazy, Catn}
+use Rattle.cord_syntax.specs.declared.statements.Statement.TheVariants.{Sprintf}
 
 -- names of cords and arguments of a format have no path
 names_leave : (names : List (List ℕ)) (paths : List (List ℕ)) → paths_after (map (Operand kinds.Cord) names) paths ≡ paths
@@ -39,41 +37,14 @@ path_few paths path (inr h) few = by_test (is_among paths path)
 -- the paths after a statement
 few_after : (s : Statement) (scope : Scope) → AreAllowed scope (terms_of s) → length scope.paths ≤ MAX_PATHS →
     length (paths_after (terms_of s) scope.paths) ≤ MAX_PATHS
-few_after (Let line target text) scope allowed few = few
 few_after (File line target path) scope allowed few = path_few scope.paths path allowed.1.0 few
 few_after (Eager line target path) scope allowed few = path_few scope.paths path allowed.1.0 few
 few_after (Lazy line target path) scope allowed few = path_few scope.paths path allowed.1.0 few
-few_after (Chars line target byte count) scope allowed few = few
-few_after (Nul line target count) scope allowed few = few
-few_after (FromFn line target function count) scope allowed few = few
-few_after (Cat line target left right) scope allowed few = few
 few_after (Catn line target parts) scope allowed few = subst (λ (paths : List (List ℕ)). length paths ≤ MAX_PATHS)
     (sym (names_leave parts scope.paths)) few
-few_after (Catc line target operand byte) scope allowed few = few
-few_after (Substr line target operand start count) scope allowed few = few
-few_after (Balance line target operand) scope allowed few = few
-few_after (EcToCord line target extensible) scope allowed few = few
 few_after (Sprintf line target text format args) scope allowed few = subst (λ (paths : List (List ℕ)). length paths ≤ MAX_PATHS)
     (sym (arguments_leave args scope.paths)) few
-few_after (Len line target operand) scope allowed few = few
-few_after (Fetch line target operand index) scope allowed few = few
-few_after (Cmp line target left right) scope allowed few = few
-few_after (Ncmp line target left left_start right right_start count) scope allowed few = few
-few_after (Str line target operand start pattern) scope allowed few = few
-few_after (Chr line target operand start byte) scope allowed few = few
-few_after (Rchr line target operand start byte) scope allowed few = few
-few_after (Assign line target value) scope allowed few = few
-few_after (Add line target left right) scope allowed few = few
-few_after (Sub line target left right) scope allowed few = few
-few_after (EcInit line target) scope allowed few = few
-few_after (EcPut line extensible byte) scope allowed few = few
-few_after (EcCat line extensible operand) scope allowed few = few
-few_after (EcStr line extensible text) scope allowed few = few
-few_after (Put line operand) scope allowed few = few
-few_after (Repeat line count) scope allowed few = few
-few_after (If line left relation right) scope allowed few = few
-few_after (Else line) scope allowed few = few
-few_after (End line) scope allowed few = few
+few_after _ scope allowed few = few
 
 -- and after the lines of a script
 few_said : (g : Grammar) (n : ℕ) (scope : Scope) (lines : List (List ℕ)) (ss : List Statement) → LinesSay g n scope lines ss →

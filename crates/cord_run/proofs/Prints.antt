@@ -151,13 +151,11 @@ module _ (entries : List Entry) (format : List Piece) (list : List Argument) whe
         ap (λ (r : Result (List ℕ) FaultKind). and_then r (λ text. within MAX_LEN text))
         (accepted t over (subst (λ (some : List Arg). first_refusal 0 format (arguments_of some) ≡ None) same h.1))
         ∙ ap (λ (r : Result ℕ FaultKind). and_then r (λ _. Ok meant)) (length_above MAX_LEN (length meant) long)
-    unprinted refusals.WrongArgs h = tt
-    unprinted refusals.NoMemory h = tt
+    unprinted _ h = tt
 
     pub unprinted_unless : (e : PrintError) → (e ≢ refusals.NoMemory → IsRefusedFor MAX_LEN format (arguments_of all) e) →
         IsFaultOver entries (λ s. and_then (format_text s format list) (λ text. within MAX_LEN text)) (stop_of_print e)
     unprinted_unless (refusals.Negative k) h = unprinted (refusals.Negative k) (h (λ same. cc))
     unprinted_unless (refusals.BadByte k) h = unprinted (refusals.BadByte k) (h (λ same. cc))
     unprinted_unless refusals.TooLong h = unprinted refusals.TooLong (h (λ same. cc))
-    unprinted_unless refusals.WrongArgs h = tt
-    unprinted_unless refusals.NoMemory h = tt
+    unprinted_unless _ h = tt

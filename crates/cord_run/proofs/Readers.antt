@@ -2,9 +2,8 @@
 use Rattle.std.proofs.Common.{◌≡◌, ℕ, ◌+◌, List, [], ◌∷◌, Bool, true, false, ◌||◌, refl, sym, ◌∙◌, subst, inl, inr}
 use Rattle.cord_syntax.specs.declared.statements.Statement.{Statement}
 use Rattle.cord_syntax.specs.declared.statements.Statement.TheVariants.{Let, File, Eager, Lazy, Chars, Nul, FromFn, Cat, Catn, Catc, Substr}
-use Rattle.cord_syntax.specs.declared.statements.Statement.TheVariants.{Balance, EcToCord, Sprintf, Len, Fetch, Cmp, Ncmp, Str, Chr, Rchr}
-use Rattle.cord_syntax.specs.declared.statements.Statement.TheVariants.{Assign, Add, Sub, EcInit, EcPut, EcCat, EcStr, Put, Repeat, If}
-use Rattle.cord_syntax.specs.declared.statements.Statement.TheVariants.{Else, End}
+use Rattle.cord_syntax.specs.declared.statements.Statement.TheVariants.{Balance, EcToCord, Sprintf}
+use Rattle.cord_syntax.specs.declared.statements.Statement.TheVariants.{Put}
 use Rattle.cord_meaning.specs.Ends.{IsPut, IsReading}
 use Rattle.cord_meaning.specs.Statements.{line_of}
 use Rattle.cord_plan.specs.Exprs.{Expr}
@@ -67,24 +66,7 @@ alike (Balance line target operand) e d p = of_other (Balance line target operan
 alike (EcToCord line target extensible) e d p = of_other (EcToCord line target extensible) d target (OfExtensible extensible) (λ h. h)
 alike (Sprintf line target text format arguments) e d p = of_other (Sprintf line target text format arguments) d target
     (Printed text format arguments) (λ h. h)
-alike (Len line target operand) e d p = record { line = refl; reads = λ h. h; writes = λ h. absurd h }
-alike (Fetch line target operand index) e d p = record { line = refl; reads = λ h. h; writes = λ h. absurd h }
-alike (Cmp line target left right) e d p = record { line = refl; reads = λ h. h; writes = λ h. absurd h }
-alike (Ncmp line target left left_start right right_start count) e d p = record { line = refl; reads = λ h. h; writes = λ h. absurd h }
-alike (Str line target operand start pattern) e d p = record { line = refl; reads = λ h. h; writes = λ h. absurd h }
-alike (Chr line target operand start byte) e d p = record { line = refl; reads = λ h. h; writes = λ h. absurd h }
-alike (Rchr line target operand start byte) e d p = record { line = refl; reads = λ h. h; writes = λ h. absurd h }
-alike (Assign line target value) e d p = record { line = refl; reads = λ h. h; writes = λ h. absurd h }
-alike (Add line target left right) e d p = record { line = refl; reads = λ h. h; writes = λ h. absurd h }
-alike (Sub line target left right) e d p = record { line = refl; reads = λ h. h; writes = λ h. absurd h }
-alike (EcInit line target) e d p = record { line = refl; reads = λ h. h; writes = λ h. absurd h }
-alike (EcPut line extensible byte) e d p = record { line = refl; reads = λ h. h; writes = λ h. absurd h }
-alike (EcCat line extensible operand) e d p = record { line = refl; reads = λ h. h; writes = λ h. absurd h }
-alike (EcStr line extensible text) e d p = record { line = refl; reads = λ h. h; writes = λ h. absurd h }
-alike (Repeat line count) e d p = record { line = refl; reads = λ h. h; writes = λ h. absurd h }
-alike (If line left relation right) e d p = record { line = refl; reads = λ h. h; writes = λ h. absurd h }
-alike (Else line) e d p = record { line = refl; reads = λ h. h; writes = λ h. absurd h }
-alike (End line) e d p = record { line = refl; reads = λ h. h; writes = λ h. absurd h }
+alike _ e d p = record { line = refl; reads = λ h. h; writes = λ h. absurd h }
 
 -- the first one, and the others
 with_first : (l : Statement) (o : Operation) (rest : List Statement) (os : List Operation) → IsAlike l o → FailsNowhereElse rest os →

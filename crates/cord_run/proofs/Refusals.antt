@@ -21,11 +21,9 @@ module _ (P Q : FaultKind → Type 0) (says : (kind : FaultKind) → P kind → 
   pub stop_by : (stop : Stop) → IsStopBy P stop → IsStopBy Q stop
   stop_by (stops.Fault kind) h = says kind h
   stop_by stops.NoMemory h = tt
-  stop_by stops.ReadFailed h = h
-  stop_by stops.WriteFailed h = h
+  stop_by _ h = h
 
   pub stop_over : (stop : Stop) → IsStopBy P stop → IsStopOver Q stop
   stop_over (stops.Fault kind) h = says kind h
-  stop_over stops.NoMemory h = tt
-  stop_over stops.ReadFailed h = tt
   stop_over stops.WriteFailed h = h
+  stop_over _ h = tt

@@ -7,7 +7,6 @@ use Rattle.cord_meaning.specs.declared.ends.FaultKind.{FaultKind}
 use Rattle.cord_meaning.specs.State.{and_then}
 use Rattle.cord_plan.specs.Exprs as plain
 use Rattle.cord_plan.specs.Meaning.{all_texts, cords, cords_of}
-use Rattle.cord_plan.specs.Values.{within}
 use Rattle.cord_plan.specs.Views.{Shared, shared_view}
 use Rattle.cord_run.specs.declared.store.Entry.{Entry}
 use Rattle.cord_run.specs.inner.Extents.{members_seen}
@@ -15,7 +14,6 @@ use Rattle.cord_run.specs.inner.Holdings.{holding_of, plain_of}
 use Rattle.cord_run.specs.inner.Slices.{AreTextsIn, IsTextIn, texts_in}
 use Rattle.cord_run.proofs.Prefixes.{joined, joined_both, names_both}
 use Rattle.cord_run.proofs.Members.{members_left}
-use Rattle.cord_run.proofs.Files.{short_text}
 use Rattle.cord_run.proofs.Lengths.{texts_split}
 
 module _ (entries : List Entry) where
@@ -64,9 +62,3 @@ module _ (entries : List Entry) where
       let none : AreTextsIn entries (members_seen (drop i ms)) [] =
       subst (λ (xs : List Shared). AreTextsIn entries (members_seen xs) []) (sym (drop_all i ms past)) (λ t there. refl) in
       subst (λ (u : List ℕ). AreTextsIn entries (plain.append earlier (members_seen ms)) u) (append-nil text) (so_far earlier are [] none)
-
-  -- members that are short together, joined
-  pub cat_text : (es : plain.Exprs) (text : List ℕ) → AreTextsIn entries es text → length text ≤ MAX_LEN →
-      IsTextIn entries (plain.cat es) text
-  cat_text es text are short = λ t there. ap (λ (r : Result (List ℕ) FaultKind). and_then r (λ u. within MAX_LEN u)) (are t there)
-      ∙ short_text text short
