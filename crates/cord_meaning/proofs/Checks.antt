@@ -1,6 +1,6 @@
 -- The checks of numbers, as a runner makes them.
-use Rattle.cord_meaning.proofs.Common.{◌≡◌, ◌<◌, ℕ, Bool, Ok, Err, ap, if◌then◌else◌, lt-leb, TooLong}
-use Rattle.cord_meaning.proofs.Common.{as_length}
+use Rattle.std.specs.Prelude.{◌≡◌, ◌<◌, if◌then◌else◌}
+use Rattle.cord_meaning.proofs.Common.{ℕ, Bool, Ok, Err, ap, lt-leb, TooLong, as_length}
 
 -- a length above the limit
 pub length_above : (limit n : ℕ) → limit < n → as_length limit n ≡ Err TooLong

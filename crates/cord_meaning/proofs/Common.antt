@@ -5,8 +5,8 @@ pub use Rattle.std.proofs.lemmas.List.{drop-map, length-append, length-map, map-
 pub use Rattle.std.proofs.lemmas.Option.{slice_get-map, slice_get_past, slice_get_within}
 pub use Rattle.std.specs.Option.{option_map}
 pub use Rattle.std.specs.Prelude.{All, Bool, Err, IsSome, List, None, Ok, Option, Result, Some, [], codes, drop, false, flat_map}
-pub use Rattle.std.specs.Prelude.{if◌then◌else◌, length, map, nat_le, nat_lt, negsuc, pos, replicate, slice_get, suc, take, true, unwrap_or}
-pub use Rattle.std.specs.Prelude.{zero, ℕ, ℤ, ◌*◌, ◌++◌, ◌+◌, ◌-◌, ◌<◌, ◌^◌, ◌∷◌, ◌≡◌, ◌≢◌, ◌≤◌, ◌⊎◌}
+pub use Rattle.std.specs.Prelude.{length, map, nat_le, nat_lt, negsuc, pos, replicate, slice_get, suc, take, true, unwrap_or}
+pub use Rattle.std.specs.Prelude.{zero, ℕ, ℤ}
 pub use Rattle.cord_io.specs.Device.{FileSystem}
 pub use Rattle.cord_io.specs.declared.TheConstants.{MAX_LEN}
 pub use Rattle.cord_core.proofs.Places.{at_here, beyond, next_here, none_after, some_here}

@@ -1,5 +1,6 @@
 -- A run that is computed for as many steps as it takes.
-use Rattle.cord_meaning.proofs.Common.{◌≡◌, ℕ, List, Some, ap, ◌∙◌, FileSystem, Statement, End, Event, output, State, start_state, rules}
+use Rattle.std.specs.Prelude.{◌≡◌}
+use Rattle.cord_meaning.proofs.Common.{ℕ, List, Some, ap, ◌∙◌, FileSystem, Statement, End, Event, output, State, start_state, rules}
 use Rattle.cord_meaning.proofs.Common.{run_within, MeansWithin}
 use Rattle.cord_meaning.proofs.Runs.{trace_when_ended, end_when_ended}
 

@@ -1,8 +1,9 @@
 -- A runner's end is faithful: what is to be proved of each way in which a run stops.
-use Rattle.cord_meaning.proofs.Common.{◌≡◌, ℕ, suc, ◌<◌, List, [], ◌++◌, Some, refl, sym, ap, ◌∙◌, inl, inr, append_assoc, append-nil}
-use Rattle.cord_meaning.proofs.Common.{slice_get, End, Done, Fault, NoMemory, ReadFailed, WriteFailed, Straight, Loop, Branch, Rules, Event}
-use Rattle.cord_meaning.proofs.Common.{Block, Config, step, after, run_trace, run_end, output, IsMeant, IsComplete, StopsAt, FaithfulEnd}
-use Rattle.cord_meaning.proofs.Common.{FaithfulOutput, Ran, puts_of}
+use Rattle.std.specs.Prelude.{◌≡◌, ◌<◌, ◌++◌}
+use Rattle.cord_meaning.proofs.Common.{ℕ, suc, List, [], Some, refl, sym, ap, ◌∙◌, inl, inr, append_assoc, append-nil, slice_get, End, Done}
+use Rattle.cord_meaning.proofs.Common.{Fault, NoMemory, ReadFailed, WriteFailed, Straight, Loop, Branch, Rules, Event, Block, Config, step}
+use Rattle.cord_meaning.proofs.Common.{after, run_trace, run_end, output, IsMeant, IsComplete, StopsAt, FaithfulEnd, FaithfulOutput, Ran}
+use Rattle.cord_meaning.proofs.Common.{puts_of}
 use Rattle.cord_meaning.proofs.Runs.{GoesOn, EndsIn, stands_first, acts_seen, chooses_seen, counts_seen, trace_when_ended, end_when_ended}
 use Rattle.cord_meaning.proofs.Runs.{stops_inside, stops_within}
 

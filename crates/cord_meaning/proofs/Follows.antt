@@ -1,11 +1,11 @@
 -- A run follows paths.
-use Rattle.cord_meaning.proofs.Common.{◌≡◌, ℕ, zero, suc, ◌+◌, ◌<◌, ◌≤◌, ℤ, pos, negsuc, Bool, true, false, List, [], ◌∷◌, ◌++◌, length}
-use Rattle.cord_meaning.proofs.Common.{map, drop, Option, Some, None, Result, Ok, Err, refl, sym, ap, ◌∙◌, subst, inl, inr, nat_lt, arith}
-use Rattle.cord_meaning.proofs.Common.{slice_get, if◌then◌else◌, End, FaultKind, TooManyTurns, Shape, Straight, Loop, Branch, Otherwise}
-use Rattle.cord_meaning.proofs.Common.{Close, IsNested, to_end, to_else, jump_at, jump_of, opened, open_at, NextOf, NextOfClose, Next}
-use Rattle.cord_meaning.proofs.Common.{Rules, Block, Turns, Chosen, Config, acted, begins, turned, faults, notes, repeats, chooses, closes}
-use Rattle.cord_meaning.proofs.Common.{goes_to, if_running, jump_from, runs_shape, runs, after, slice_get_within, slice_get-map, option_map}
-use Rattle.cord_meaning.proofs.Common.{at_here, next_here, some_here}
+use Rattle.std.specs.Prelude.{◌≡◌, ◌+◌, ◌<◌, ◌≤◌, ◌∷◌, ◌++◌, if◌then◌else◌}
+use Rattle.cord_meaning.proofs.Common.{ℕ, zero, suc, ℤ, pos, negsuc, Bool, true, false, List, [], length, map, drop, Option, Some, None}
+use Rattle.cord_meaning.proofs.Common.{Result, Ok, Err, refl, sym, ap, ◌∙◌, subst, inl, inr, nat_lt, arith, slice_get, End, FaultKind}
+use Rattle.cord_meaning.proofs.Common.{TooManyTurns, Shape, Straight, Loop, Branch, Otherwise, Close, IsNested, to_end, to_else, jump_at}
+use Rattle.cord_meaning.proofs.Common.{jump_of, opened, open_at, NextOf, NextOfClose, Next, Rules, Block, Turns, Chosen, Config, acted}
+use Rattle.cord_meaning.proofs.Common.{begins, turned, faults, notes, repeats, chooses, closes, goes_to, if_running, jump_from, runs_shape}
+use Rattle.cord_meaning.proofs.Common.{runs, after, slice_get_within, slice_get-map, option_map, at_here, next_here, some_here}
 
 -- what a block of a run is to paths
 abbrev block_place : Block → Option ℕ

@@ -1,9 +1,10 @@
 -- The places that may come next after a statement are those that its blocks give.
-use Rattle.cord_meaning.proofs.Common.{◌≡◌, ℕ, zero, suc, ◌+◌, ◌≤◌, ◌⊎◌, pos, true, List, [], ◌∷◌, ◌++◌, length, map, drop, Option, Some}
-use Rattle.cord_meaning.proofs.Common.{None, Ok, refl, sym, ap, ◌∙◌, subst, inl, inr, arith, append_assoc, append-nil, slice_get, unwrap_or}
-use Rattle.cord_meaning.proofs.Common.{drop-map, length-append, length-map, slice_get_past, Shape, Straight, Loop, Branch, Otherwise, Close}
-use Rattle.cord_meaning.proofs.Common.{jump, jump_of, opened, open_at, NextOf, NextOfClose, Next, Rules, Parts, Nothing, Then, Repeats}
-use Rattle.cord_meaning.proofs.Common.{Chooses, ChoosesElse, flat, IsWell, at_here, next_here}
+use Rattle.std.specs.Prelude.{◌≡◌, ◌+◌, ◌≤◌, ◌⊎◌, ◌∷◌, ◌++◌}
+use Rattle.cord_meaning.proofs.Common.{ℕ, zero, suc, pos, true, List, [], length, map, drop, Option, Some, None, Ok, refl, sym, ap, ◌∙◌}
+use Rattle.cord_meaning.proofs.Common.{subst, inl, inr, arith, append_assoc, append-nil, slice_get, unwrap_or, drop-map, length-append}
+use Rattle.cord_meaning.proofs.Common.{length-map, slice_get_past, Shape, Straight, Loop, Branch, Otherwise, Close, jump, jump_of, opened}
+use Rattle.cord_meaning.proofs.Common.{open_at, NextOf, NextOfClose, Next, Rules, Parts, Nothing, Then, Repeats, Chooses, ChoosesElse, flat}
+use Rattle.cord_meaning.proofs.Common.{IsWell, at_here, next_here}
 use Rattle.cord_meaning.specs.Leads.{leads, IsAmong}
 use Rattle.cord_meaning.proofs.Follows.{open_next}
 use Rattle.cord_meaning.proofs.Unrolls.{inner_here, closing_here, rest_here, all_here, end_after, else_after, no_else_after, jump_here}

@@ -1,11 +1,11 @@
 -- A greater limit changes nothing but where a text is too long for the smaller one.
-use Rattle.cord_meaning.proofs.Common.{◌≡◌, ℕ, zero, suc, ◌≤◌, ◌⊎◌, ◌++◌, ℤ, Bool, true, false, List, [], ◌∷◌, Option, Some, None, Result}
-use Rattle.cord_meaning.proofs.Common.{Ok, Err, refl, sym, ap, subst, inl, inr, ⊎_elim, arith, length, slice_get, if◌then◌else◌, unwrap_or}
-use Rattle.cord_meaning.proofs.Common.{nat_le, take, drop, replicate, flat_map, le-leb, leb-true, FileSystem, Statement, Done, Fault}
-use Rattle.cord_meaning.proofs.Common.{FaultKind, TooLong, Shape, Straight, Config, acted, if_running, runs_shape, runs, step, enough}
-use Rattle.cord_meaning.proofs.Common.{State, Outcome, number_value, and_then, as_index, as_byte, as_length, sets_text, sets_extensible}
-use Rattle.cord_meaning.proofs.Common.{start_state, rules, act, line_of, shape_of, function_text, file_text, sets_copies, run_within}
-use Rattle.cord_meaning.proofs.Common.{end_within, trace_within}
+use Rattle.std.specs.Prelude.{◌≡◌, ◌≤◌, ◌⊎◌, ◌++◌, ◌∷◌, if◌then◌else◌}
+use Rattle.cord_meaning.proofs.Common.{ℕ, zero, suc, ℤ, Bool, true, false, List, [], Option, Some, None, Result, Ok, Err, refl, sym, ap}
+use Rattle.cord_meaning.proofs.Common.{subst, inl, inr, ⊎_elim, arith, length, slice_get, unwrap_or, nat_le, take, drop, replicate}
+use Rattle.cord_meaning.proofs.Common.{flat_map, le-leb, leb-true, FileSystem, Statement, Done, Fault, FaultKind, TooLong, Shape, Straight}
+use Rattle.cord_meaning.proofs.Common.{Config, acted, if_running, runs_shape, runs, step, enough, State, Outcome, number_value, and_then}
+use Rattle.cord_meaning.proofs.Common.{as_index, as_byte, as_length, sets_text, sets_extensible, start_state, rules, act, line_of, shape_of}
+use Rattle.cord_meaning.proofs.Common.{function_text, file_text, sets_copies, run_within, end_within, trace_within}
 use Rattle.cord_syntax.specs.declared.statements.Statement.TheVariants.{Let, File, Eager, Lazy, Chars, Nul, FromFn, Cat, Catn, Catc, Substr}
 use Rattle.cord_syntax.specs.declared.statements.Statement.TheVariants.{Balance, EcToCord, Sprintf, EcInit, EcPut, EcCat, EcStr}
 use Rattle.cord_meaning.specs.Machine.{whole}

@@ -1,9 +1,9 @@
 -- A run ends by itself only as Done or by a fault.
-use Rattle.cord_meaning.proofs.Common.{ℕ, zero, suc, Bool, true, false, List, [], ◌∷◌, Option, Some, None, Result, Ok, Err, nat_lt, ℤ, pos}
-use Rattle.cord_meaning.proofs.Common.{negsuc, slice_get, if◌then◌else◌, unwrap_or, End, Done, FaultKind, TooManyTurns, Shape, Straight}
-use Rattle.cord_meaning.proofs.Common.{Loop, Branch, Otherwise, Close, Rules, Block, Turns, Config, notes, faults, acted, turned, begins}
-use Rattle.cord_meaning.proofs.Common.{repeats, chooses, closes, if_running, jump_from, runs_shape, runs, step, after, enough, run_end}
-use Rattle.cord_meaning.proofs.Common.{IsMeant}
+use Rattle.std.specs.Prelude.{◌∷◌, if◌then◌else◌}
+use Rattle.cord_meaning.proofs.Common.{ℕ, zero, suc, Bool, true, false, List, [], Option, Some, None, Result, Ok, Err, nat_lt, ℤ, pos}
+use Rattle.cord_meaning.proofs.Common.{negsuc, slice_get, unwrap_or, End, Done, FaultKind, TooManyTurns, Shape, Straight, Loop, Branch}
+use Rattle.cord_meaning.proofs.Common.{Otherwise, Close, Rules, Block, Turns, Config, notes, faults, acted, turned, begins, repeats}
+use Rattle.cord_meaning.proofs.Common.{chooses, closes, if_running, jump_from, runs_shape, runs, step, after, enough, run_end, IsMeant}
 use Rattle.cord_meaning.specs.Machine.{whole}
 
 -- it goes on, or has ended as Done or by a fault

@@ -1,7 +1,8 @@
 -- Statements whose blocks are closed are parts, one after the other.
-use Rattle.cord_meaning.proofs.Common.{◌≡◌, ℕ, zero, suc, ◌<◌, ◌≤◌, ◌⊎◌, Bool, true, false, List, [], ◌∷◌, ◌++◌, length, map, refl, sym, ap}
-use Rattle.cord_meaning.proofs.Common.{◌∙◌, inl, inr, ⊎_elim, arith, append_assoc, Shape, Straight, Loop, Branch, Otherwise, Close}
-use Rattle.cord_meaning.proofs.Common.{IsNested, Parts, Nothing, Then, Repeats, Chooses, ChoosesElse, flat, IsWell}
+use Rattle.std.specs.Prelude.{◌≡◌, ◌<◌, ◌≤◌, ◌⊎◌, ◌∷◌, ◌++◌}
+use Rattle.cord_meaning.proofs.Common.{ℕ, zero, suc, Bool, true, false, List, [], length, map, refl, sym, ap, ◌∙◌, inl, inr, ⊎_elim, arith}
+use Rattle.cord_meaning.proofs.Common.{append_assoc, Shape, Straight, Loop, Branch, Otherwise, Close, IsNested, Parts, Nothing, Then}
+use Rattle.cord_meaning.proofs.Common.{Repeats, Chooses, ChoosesElse, flat, IsWell}
 
 module _ {L : Type 0} (shape : L → Shape) where
   abbrev shapes : List L → List Shape

@@ -1,5 +1,6 @@
 -- The prefix of a source.
-use Rattle.cord_meaning.proofs.Common.{◌≡◌, ◌≤◌, ℕ, take, sym, arith}
+use Rattle.std.specs.Prelude.{◌≡◌, ◌≤◌}
+use Rattle.cord_meaning.proofs.Common.{ℕ, take, sym, arith}
 use Rattle.cord_io.specs.FunctionTexts.{text_of}
 use Rattle.cord_io.proofs.FunctionRanges.{range-text_of}
 

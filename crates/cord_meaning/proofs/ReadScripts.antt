@@ -1,6 +1,7 @@
 -- A script that is read has closed blocks, and its lines are numbered from 1.
-use Rattle.cord_meaning.proofs.Common.{◌≡◌, ◌≢◌, ◌<◌, ◌+◌, ℕ, Bool, true, false, List, [], ◌∷◌, map, refl, sym, subst, inl, inr, arith, All}
-use Rattle.cord_meaning.proofs.Common.{Statement, Shape, Otherwise, Close, IsNested, line_of, shape_of}
+use Rattle.std.specs.Prelude.{◌≡◌, ◌≢◌, ◌<◌, ◌+◌, ◌∷◌}
+use Rattle.cord_meaning.proofs.Common.{ℕ, Bool, true, false, List, [], map, refl, sym, subst, inl, inr, arith, All, Statement, Shape}
+use Rattle.cord_meaning.proofs.Common.{Otherwise, Close, IsNested, line_of, shape_of}
 use Rattle.std.proofs.lemmas.List.Elements.{All-nil, All-cons}
 use Rattle.cord_syntax.specs.declared.statements.Statement.TheVariants.{Repeat, If, Else, End}
 use Rattle.cord_script.specs.Forms.{Grammar, effect_of}

@@ -1,10 +1,11 @@
 -- Two runs of one shape go together, where states stay related.
-use Rattle.cord_meaning.proofs.Common.{◌≡◌, ℕ, zero, suc, ◌+◌, ℤ, pos, negsuc, Bool, true, false, List, [], ◌∷◌, ◌++◌, map, Option, Some}
-use Rattle.cord_meaning.proofs.Common.{None, Result, Ok, Err, refl, sym, ap, ◌∙◌, subst, nat_lt, slice_get, if◌then◌else◌, IsSome}
-use Rattle.cord_meaning.proofs.Common.{unwrap_or, option_map, map-append, slice_get-map, End, Done, FaultKind, TooManyTurns, Shape}
-use Rattle.cord_meaning.proofs.Common.{Straight, Loop, Branch, Otherwise, Close, IsNested, jump, Next, Rules, Event, Block, Turns, Config}
-use Rattle.cord_meaning.proofs.Common.{notes, goes_to, faults, acted, turned, begins, repeats, chooses, closes, if_running, jump_from}
-use Rattle.cord_meaning.proofs.Common.{runs_shape, runs, step, after, enough, run_trace, run_end, reported}
+use Rattle.std.specs.Prelude.{◌≡◌, ◌+◌, ◌∷◌, ◌++◌, if◌then◌else◌}
+use Rattle.cord_meaning.proofs.Common.{ℕ, zero, suc, ℤ, pos, negsuc, Bool, true, false, List, [], map, Option, Some, None, Result, Ok, Err}
+use Rattle.cord_meaning.proofs.Common.{refl, sym, ap, ◌∙◌, subst, nat_lt, slice_get, IsSome, unwrap_or, option_map, map-append}
+use Rattle.cord_meaning.proofs.Common.{slice_get-map, End, Done, FaultKind, TooManyTurns, Shape, Straight, Loop, Branch, Otherwise, Close}
+use Rattle.cord_meaning.proofs.Common.{IsNested, jump, Next, Rules, Event, Block, Turns, Config, notes, goes_to, faults, acted, turned}
+use Rattle.cord_meaning.proofs.Common.{begins, repeats, chooses, closes, if_running, jump_from, runs_shape, runs, step, after, enough}
+use Rattle.cord_meaning.proofs.Common.{run_trace, run_end, reported}
 use Rattle.cord_meaning.specs.inner.Simulation.{Agree, IsControl, Simulates}
 use Rattle.cord_meaning.proofs.Terminates.{ends}
 use Rattle.cord_meaning.proofs.Runs.{trace_when_ended, end_when_ended}

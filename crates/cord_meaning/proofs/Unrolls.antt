@@ -1,12 +1,13 @@
 -- The machine runs a script as its unrolled run says.
-use Rattle.cord_meaning.proofs.Common.{◌≡◌, ℕ, zero, suc, ◌+◌, ℤ, pos, negsuc, Bool, true, false, List, [], ◌∷◌, ◌++◌, length, map, drop}
-use Rattle.cord_meaning.proofs.Common.{Option, Some, None, Result, Ok, Err, refl, sym, ap, ◌∙◌, subst, nat_lt, arith, append_assoc}
-use Rattle.cord_meaning.proofs.Common.{append-nil, slice_get, if◌then◌else◌, unwrap_or, drop-map, length-append, End, Done, Fault}
-use Rattle.cord_meaning.proofs.Common.{FaultKind, TooManyTurns, Shape, Straight, Loop, Branch, Otherwise, Close, to_end, to_else, jump_at}
-use Rattle.cord_meaning.proofs.Common.{jump_of, Rules, Event, Block, Turns, Chosen, Config, acted, begins, turned, faults, repeats, chooses}
-use Rattle.cord_meaning.proofs.Common.{jump_from, runs_shape, runs, step, after_from, after, run_trace, run_end, at_here, next_here, beyond}
-use Rattle.cord_meaning.proofs.Common.{none_after, Parts, Nothing, Then, Repeats, Chooses, ChoosesElse, flat, Unrolled, joined, then_on}
-use Rattle.cord_meaning.proofs.Common.{member, acted_once, all_turns, repeated, chosen, unrolled, IsWell}
+use Rattle.std.specs.Prelude.{◌≡◌, ◌+◌, ◌∷◌, ◌++◌, if◌then◌else◌}
+use Rattle.cord_meaning.proofs.Common.{ℕ, zero, suc, ℤ, pos, negsuc, Bool, true, false, List, [], length, map, drop, Option, Some, None}
+use Rattle.cord_meaning.proofs.Common.{Result, Ok, Err, refl, sym, ap, ◌∙◌, subst, nat_lt, arith, append_assoc, append-nil, slice_get}
+use Rattle.cord_meaning.proofs.Common.{unwrap_or, drop-map, length-append, End, Done, Fault, FaultKind, TooManyTurns, Shape, Straight, Loop}
+use Rattle.cord_meaning.proofs.Common.{Branch, Otherwise, Close, to_end, to_else, jump_at, jump_of, Rules, Event, Block, Turns, Chosen}
+use Rattle.cord_meaning.proofs.Common.{Config, acted, begins, turned, faults, repeats, chooses, jump_from, runs_shape, runs, step}
+use Rattle.cord_meaning.proofs.Common.{after_from, after, run_trace, run_end, at_here, next_here, beyond, none_after, Parts, Nothing, Then}
+use Rattle.cord_meaning.proofs.Common.{Repeats, Chooses, ChoosesElse, flat, Unrolled, joined, then_on, member, acted_once, all_turns}
+use Rattle.cord_meaning.proofs.Common.{repeated, chosen, unrolled, IsWell}
 use Rattle.std.proofs.Math.Seq.{drop-length}
 use Rattle.cord_meaning.proofs.Runs.{trace_when_ended, end_when_ended}
 

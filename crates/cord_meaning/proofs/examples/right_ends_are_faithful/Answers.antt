@@ -1,4 +1,5 @@
-use Rattle.cord_meaning.proofs.Common.{[], ◌∷◌, arith, inl, inr, refl, sym, codes, MAX_LEN, MAX_TURNS, Done, Means, start_state, rules}
+use Rattle.std.specs.Prelude.{◌∷◌}
+use Rattle.cord_meaning.proofs.Common.{[], arith, inl, inr, refl, sym, codes, MAX_LEN, MAX_TURNS, Done, Means, start_state, rules}
 use Rattle.cord_meaning.specs.Examples
 use Rattle.cord_meaning.proofs.Computed.{means_after}
 use Rattle.cord_meaning.proofs.Runs.{trace_when_ended}

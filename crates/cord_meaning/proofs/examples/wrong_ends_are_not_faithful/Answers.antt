@@ -1,5 +1,6 @@
-use Rattle.cord_meaning.proofs.Common.{◌≡◌, ⊎_elim, ℕ, List, [], ◌∷◌, ◌++◌, arith, refl, ◌∙◌, codes, MAX_LEN, MAX_TURNS, Done, Fault}
-use Rattle.cord_meaning.proofs.Common.{OutOfRange, Negative, Means, trace, Event, output, State, start_state, rules}
+use Rattle.std.specs.Prelude.{◌≡◌, ◌∷◌, ◌++◌}
+use Rattle.cord_meaning.proofs.Common.{⊎_elim, ℕ, List, [], arith, refl, ◌∙◌, codes, MAX_LEN, MAX_TURNS, Done, Fault, OutOfRange, Negative}
+use Rattle.cord_meaning.proofs.Common.{Means, trace, Event, output, State, start_state, rules}
 use Rattle.cord_meaning.specs.Examples
 use Rattle.cord_meaning.proofs.Computed.{means_after}
 use Rattle.cord_meaning.proofs.Runs.{trace_when_ended}

@@ -1,4 +1,5 @@
-use Rattle.cord_meaning.proofs.Common.{◌≤◌, ◌^◌, ◌-◌, List, ap, lit≤, MAX_LEN, MAX_TURNS, Event, State}
+use Rattle.std.specs.Prelude.{◌≤◌, ◌^◌, ◌-◌}
+use Rattle.cord_meaning.proofs.Common.{List, ap, lit≤, MAX_LEN, MAX_TURNS, Event, State}
 use Rattle.cord_meaning.specs.Meaning.{output}
 use Rattle.cord_meaning.proofs.Limit.{traces_agree, end_agrees}
 use Rattle.cord_meaning.proofs.laws.limits_only_refuse.Goals as goal
