@@ -1,17 +1,10 @@
 -- The statement of a line, and what it leaves.
-use Rattle.std.proofs.Common.{Some, None, append_assoc, ◌≡◌, ◌∙◌, ℕ, List, [], ◌∷◌, ◌++◌, refl, sym, ap, subst}
-use Rattle.std.proofs.lemmas.List.Elements.{All-head}
-use Rattle.cord_script.specs.declared.verbs.Verb.{Verb}
-use Rattle.cord_script.specs.declared.words.Word.TheVariants.{Plain}
-use Rattle.cord_syntax.specs.declared.statements.Statement.{Statement}
-use Rattle.cord_syntax.specs.Lines.{line_of}
-use Rattle.cord_script.specs.Words.{IsPlainByte, IsIdle, HasWord}
-use Rattle.cord_script.specs.FirstErrors.{block_error}
-use Rattle.cord_script.specs.Forms.{Form, form_of, effect_of, terms_of}
-use Rattle.cord_script.specs.Script.{Scope, FitsBlocks, after, paths_after, blocks_after}
-use Rattle.cord_script.specs.inner.LineReading.{LineView, SaysLine, left_after}
-use Rattle.cord_script.specs.inner.Steps.{AddsStatement}
-use Rattle.cord_script.specs.inner.Verbal.{verb_word, verb_effect}
+use Rattle.std.specs.Prelude.{◌≡◌, ◌∷◌, ◌++◌}
+use Rattle.cord_script.proofs.Common.{Some, None, append_assoc, ◌∙◌, ℕ, List, [], refl, sym, ap, subst, All-head, Verb, Plain, Statement}
+use Rattle.cord_script.proofs.Common.{line_of, IsPlainByte, IsIdle, HasWord, block_error, Form, effect_of, terms_of, Scope, FitsBlocks}
+use Rattle.cord_script.proofs.Common.{after, paths_after, blocks_after, LineView, SaysLine, left_after, AddsStatement, verb_word}
+use Rattle.cord_script.proofs.Common.{verb_effect}
+use Rattle.cord_script.specs.Forms.{form_of}
 use Rattle.cord_script.proofs.Allowed.{block_right}
 use Rattle.cord_script.proofs.Unique.{Begins}
 use Rattle.cord_script.proofs.Found.{not_idle}

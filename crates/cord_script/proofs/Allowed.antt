@@ -1,26 +1,13 @@
 -- Terms without an error are allowed.
-use Rattle.std.proofs.Common.{inl, inr, Some, None, ◌≡◌, ◌<◌, ℕ, suc, List, [], ◌∷◌, true, refl, sym, ◌∙◌, ap, length, map}
-use Rattle.std.specs.Prelude.{Option, ◌⊎◌, ◌||◌, nat_lt, if◌then◌else◌}
-use Rattle.std.proofs.lemmas.Bool.{le-leb, ltb-true}
-use Rattle.cord_script.specs.declared.TheConstants.{MAX_NAMES, MAX_PATHS, MAX_BLOCKS}
-use Rattle.cord_script.specs.declared.kinds.Kind.{Kind}
+use Rattle.std.specs.Prelude.{◌≡◌, ◌<◌, ◌∷◌, ◌⊎◌, ◌||◌, if◌then◌else◌}
+use Rattle.cord_script.proofs.Common.{inl, inr, Some, None, ℕ, suc, List, [], true, refl, sym, ◌∙◌, ap, length, map, Option, nat_lt, le-leb}
+use Rattle.cord_script.proofs.Common.{ltb-true, MAX_NAMES, MAX_PATHS, MAX_BLOCKS, Kind, Want, Numeral, Named, Known, Word, RefusalKind}
+use Rattle.cord_script.proofs.Common.{WrongKind, TooMany, TooDeep, is_name, Term, Effect, Stays, OpensRepeat, OpensIf, Turns, Closes}
+use Rattle.cord_script.proofs.Common.{Target, Operand, Value, FilePath, Scope, Block, kind_of, is_among, IsTerm, AreTerms, IsAllowed}
+use Rattle.cord_script.proofs.Common.{AreAllowed, FitsBlocks, InIf, first_of, unless, first_pair, kind_error, assigned_error, number_error}
+use Rattle.cord_script.proofs.Common.{operand_error, word_target_error, word_path_error, names_error, block_error, want_of}
 use Rattle.cord_script.specs.declared.kinds.Kind.TheVariants as kinds
-use Rattle.cord_script.specs.declared.kinds.Want.{Want}
 use Rattle.cord_script.specs.declared.kinds.Want.TheVariants as wants
-use Rattle.cord_operands.specs.declared.operands.Number.TheVariants.{Numeral, Named}
-use Rattle.cord_script.specs.declared.table.Known.{Known}
-use Rattle.cord_script.specs.declared.words.Word.{Word}
-use Rattle.cord_script.specs.declared.refusals.RefusalKind.{RefusalKind}
-use Rattle.cord_script.specs.declared.refusals.RefusalKind.TheVariants.{WrongKind, TooMany, TooDeep}
-use Rattle.cord_script.specs.Tests.{is_name}
-use Rattle.cord_script.specs.Forms.{Term, Effect}
-use Rattle.cord_script.specs.Forms.Effect.{Stays, OpensRepeat, OpensIf, Turns, Closes}
-use Rattle.cord_script.specs.Forms.Term.{Target, Operand, Value, FilePath}
-use Rattle.cord_script.specs.Script.{Scope, Block, kind_of, is_among, IsTerm, AreTerms, IsAllowed, AreAllowed, FitsBlocks}
-use Rattle.cord_script.specs.Script.Block.{InIf}
-use Rattle.cord_script.specs.FirstErrors.{first_of, unless, first_pair, kind_error, assigned_error, number_error}
-use Rattle.cord_script.specs.FirstErrors.{operand_error, word_target_error, word_path_error, names_error, block_error}
-use Rattle.cord_script.specs.inner.Fields.{want_of}
 use Rattle.cord_script.proofs.Checked.{neither, holds, kind_right, target_right}
 use Rattle.cord_script.proofs.Terms.{either, either_left, either_right, name_begins, numeral_known, same_kinds}
 

@@ -1,17 +1,10 @@
 -- What follows where nothing is wrong.
-use Rattle.std.proofs.Common.{inl, inr, Some, None, ◌≡◌, ◌<◌, ℕ, Bool, true, false, refl}
-use Rattle.std.specs.Prelude.{Option, ◌⊎◌, nat_lt}
-use Rattle.std.proofs.lemmas.Bool.{ltb-true}
-use Rattle.std.specs.Prelude.{String}
-use Rattle.std.specs.Str.{is_utf8}
+use Rattle.std.specs.Prelude.{◌≡◌, ◌<◌, ◌⊎◌}
+use Rattle.cord_script.proofs.Common.{inl, inr, Some, None, ℕ, Bool, true, false, refl, Option, nat_lt, ltb-true, String, is_utf8}
+use Rattle.cord_script.proofs.Common.{is_utf8-from_IsUtf8, IsUtf8-string_bytes, Kind, RefusalKind, TooMany, MAX_NAMES, first_of, unless}
+use Rattle.cord_script.proofs.Common.{kind_error, assigned_error}
 use Rattle.std.specs.String.{string_bytes}
-use Rattle.std.proofs.lemmas.Str.{is_utf8-from_IsUtf8, IsUtf8-string_bytes}
-use Rattle.cord_script.specs.declared.kinds.Kind.{Kind}
 use Rattle.cord_script.specs.declared.kinds.Kind.TheVariants as kinds
-use Rattle.cord_script.specs.declared.refusals.RefusalKind.{RefusalKind}
-use Rattle.cord_script.specs.declared.refusals.RefusalKind.TheVariants.{TooMany}
-use Rattle.cord_script.specs.declared.TheConstants.{MAX_NAMES}
-use Rattle.cord_script.specs.FirstErrors.{first_of, unless, kind_error, assigned_error}
 
 -- the bytes of a string are UTF-8
 pub string_is_utf8 : {Z : Type 0} (s : String Z) → is_utf8 (string_bytes s) ≡ true

@@ -1,17 +1,9 @@
 -- Each text is a script, or has a first error.
-use Rattle.std.proofs.Common.{inl, inr, ◌≡◌, ◌≤◌, ◌+◌, ◌⊎◌, ℕ, List, [], ◌∷◌, ◌++◌, refl, sym, ap, subst, length, arith}
-use Rattle.std.proofs.lemmas.Bool.{cases_lt}
-use Rattle.cord_printf.specs.FormatLaws.{FormatOrBad}
-use Rattle.cord_script.specs.declared.TheConstants.{MAX_SCRIPT, MAX_LINES}
-use Rattle.cord_script.specs.declared.words.Word.{Word}
-use Rattle.cord_script.specs.declared.refusals.RefusalKind.{RefusalKind}
-use Rattle.cord_script.specs.declared.refusals.RefusalKind.TheVariants.{TooBig, MissingEnd, MissingIfEnd}
-use Rattle.cord_syntax.specs.declared.statements.Statement.{Statement}
-use Rattle.cord_script.specs.Words.{IsSplit, IsIdle, HasWords}
-use Rattle.cord_script.specs.Forms.{Grammar}
-use Rattle.cord_script.specs.Script.{Scope, Block, Says, LinesSay, ReadsBy, start, after, after_all}
-use Rattle.cord_script.specs.Script.Block.{InRepeat, InIf, InElse}
-use Rattle.cord_script.specs.FirstErrors.{HasBadLine, IsLeftOpen, FirstErrorBy}
+use Rattle.std.specs.Prelude.{◌≡◌, ◌≤◌, ◌+◌, ◌⊎◌, ◌∷◌, ◌++◌}
+use Rattle.cord_script.proofs.Common.{inl, inr, ℕ, List, [], refl, sym, ap, subst, length, arith, cases_lt, FormatOrBad, MAX_SCRIPT}
+use Rattle.cord_script.proofs.Common.{MAX_LINES, Word, RefusalKind, TooBig, MissingEnd, MissingIfEnd, Statement, IsSplit, IsIdle, HasWords}
+use Rattle.cord_script.proofs.Common.{Grammar, Scope, Block, Says, LinesSay, ReadsBy, start, after, after_all, InRepeat, InIf, InElse}
+use Rattle.cord_script.proofs.Common.{HasBadLine, IsLeftOpen, FirstErrorBy}
 use Rattle.cord_script.specs.Laws.{ReadOrError}
 use Rattle.cord_script.proofs.Readings.{some_lines}
 use Rattle.cord_script.proofs.Found.{idle_or_not, words_or_bad, some_words}

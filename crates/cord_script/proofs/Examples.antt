@@ -1,30 +1,15 @@
 -- The worked examples.
-use Rattle.std.proofs.Common.{inl, inr, Some, None, ◌≡◌, ◌≤◌, ◌<◌, ◌+◌, ℕ, List, [], ◌∷◌, ◌++◌, true, false, refl, ◌∙◌, ap, arith}
-use Rattle.std.proofs.Common.{length, lit≤, lit<}
-use Rattle.std.specs.Prelude.{◌==◌, codes, ℤ, pos}
-use Rattle.cord_script.specs.declared.TheConstants.{MAX_SCRIPT, MAX_LINES, MAX_BLOCKS}
-use Rattle.cord_printf.specs.Pieces.{Conversion, HasWidth, flags_of}
+use Rattle.std.specs.Prelude.{◌≡◌, ◌≤◌, ◌<◌, ◌+◌, ◌∷◌, ◌++◌, ◌==◌}
+use Rattle.cord_script.proofs.Common.{inl, inr, Some, None, ℕ, List, [], true, false, refl, ◌∙◌, ap, arith, length, lit≤, lit<, codes, ℤ}
+use Rattle.cord_script.proofs.Common.{pos, MAX_SCRIPT, MAX_LINES, MAX_BLOCKS, Conversion, HasWidth, flags_of, Numeral, Equal, Word, Plain}
+use Rattle.cord_script.proofs.Common.{Quoted, Statement, Let, Put, Repeat, If, Else, End, RefusalKind, Unterminated, BadEscape, WrongCount}
+use Rattle.cord_script.proofs.Common.{BadName, BadNumber, UnknownName, WrongKind, EndAlone, MissingEnd, ElseAlone, MissingIfEnd, line_of}
+use Rattle.cord_script.proofs.Common.{Stands, IsBadText, numeral_of, AreWantedBy, word_of, terms_of, effect_of, unit_of, Scope, Block}
+use Rattle.cord_script.proofs.Common.{AreTerms, AreAllowed, FitsBlocks, Suits, Says, LinesSay, start, after, after_all, whole, InRepeat}
+use Rattle.cord_script.proofs.Common.{InIf, HasBadWords, HasBadLine, IsLeftOpen, FirstErrorBy}
 use Rattle.cord_printf.specs.declared.pieces.Piece.TheVariants.{Signed}
 use Rattle.cord_script.specs.declared.kinds.Want.TheVariants as wants
-use Rattle.cord_operands.specs.declared.operands.Number.TheVariants.{Numeral}
-use Rattle.cord_operands.specs.declared.operands.Relation.TheVariants.{Equal}
-use Rattle.cord_script.specs.declared.words.Word.{Word}
-use Rattle.cord_script.specs.declared.words.Word.TheVariants.{Plain, Quoted}
-use Rattle.cord_syntax.specs.declared.statements.Statement.{Statement}
-use Rattle.cord_syntax.specs.declared.statements.Statement.TheVariants.{Let, Put, Repeat, If, Else, End}
-use Rattle.cord_script.specs.declared.refusals.RefusalKind.{RefusalKind}
-use Rattle.cord_script.specs.declared.refusals.RefusalKind.TheVariants.{Unterminated, BadEscape, WrongCount, BadName, BadNumber}
-use Rattle.cord_script.specs.declared.refusals.RefusalKind.TheVariants.{UnknownName, WrongKind, EndAlone, MissingEnd, ElseAlone}
-use Rattle.cord_script.specs.declared.refusals.RefusalKind.TheVariants.{MissingIfEnd}
-use Rattle.cord_syntax.specs.Lines.{line_of}
-use Rattle.cord_script.specs.Words.{Stands, IsBadText}
-use Rattle.cord_script.specs.Tests.{numeral_of}
-use Rattle.cord_script.specs.Formats.{AreWantedBy}
-use Rattle.cord_script.specs.Forms.{form_of, word_of, terms_of, effect_of}
-use Rattle.cord_script.specs.inner.Reading.{unit_of}
-use Rattle.cord_script.specs.Script.{Scope, Block, AreTerms, AreAllowed, FitsBlocks, Suits, Says, LinesSay, start, after, after_all, whole}
-use Rattle.cord_script.specs.Script.Block.{InRepeat, InIf}
-use Rattle.cord_script.specs.FirstErrors.{HasBadWords, HasBadLine, IsLeftOpen, FirstErrorBy}
+use Rattle.cord_script.specs.Forms.{form_of}
 use Rattle.cord_script.specs.Examples.{Examples, quote}
 use Rattle.cord_script.proofs.Samples.{Chunk, spelled_before, spelled, chunk_words, blank, well, own_spells, starts_well, words_well}
 use Rattle.cord_script.proofs.Samples.{begins_bad_text, not_idle, text_of, are_lines, splits}

@@ -1,16 +1,17 @@
 -- The words of a line say a statement, or have a first error.
-use Rattle.std.proofs.Common.{inl, inr, Some, None, ◌≡◌, ◌≢◌, ◌+◌, ◌⊎◌, ℕ, List, [], ◌∷◌, Bool, true, false, refl, sym, ◌∙◌, ap, subst, map}
-use Rattle.std.proofs.Common.{length, arith, eqb-true}
-use Rattle.std.specs.Prelude.{Option, ◌==◌, ◌||◌, nat_le, is_some, codes, ℤ, if◌then◌else◌}
-use Rattle.std.specs.Str.{bytes_eq}
-use Rattle.std.proofs.lemmas.Bool.{leb-true}
-use Rattle.std.proofs.lemmas.Option.{same_Some}
-use Rattle.cord_printf.specs.declared.pieces.ArgKind.{ArgKind}
+use Rattle.std.specs.Prelude.{◌≡◌, ◌≢◌, ◌+◌, ◌⊎◌, ◌∷◌, ◌==◌, ◌||◌, if◌then◌else◌}
+use Rattle.cord_script.proofs.Common.{inl, inr, Some, None, ℕ, List, [], Bool, true, false, refl, sym, ◌∙◌, ap, subst, map, length, arith}
+use Rattle.cord_script.proofs.Common.{eqb-true, Option, nat_le, is_some, codes, ℤ, bytes_eq, leb-true, same_Some, ArgKind, wanted}
+use Rattle.cord_script.proofs.Common.{FormatOrBad, MIN_PARTS, MAX_PARTS, Verb, Want, Number, Numeral, Named, Function, Digits, Bytes}
+use Rattle.cord_script.proofs.Common.{Relation, Less, Equal, Greater, Argument, Word, Plain, Quoted, RefusalKind, UnknownStatement}
+use Rattle.cord_script.proofs.Common.{WrongCount, BadName, BadNumber, BadFormat, Statement, Catn, Sprintf, line_of, is_name, begins_numeral}
+use Rattle.cord_script.proofs.Common.{numeral_of, is_path, AreWantedBy, want_of_kind, wants_of_pieces, Grammar, Shape, Effect, Form, Term}
+use Rattle.cord_script.proofs.Common.{form_in, word_of, terms_of, effect_of, argument_term, argument_want, Words, Joined, Printed, Stays}
+use Rattle.cord_script.proofs.Common.{Target, Operand, Value, Literal, FilePath, Applies, Compares, Formats, Scope, Says, Suits, IsTerm}
+use Rattle.cord_script.proofs.Common.{AreTerms, FitsBlocks, first_of, unless, misfit, first_pair, first_misfit, name_misfit, is_count}
+use Rattle.cord_script.proofs.Common.{cords, joined, format_wants, arguments_error, words_error, wants_of, names_error, block_error}
+use Rattle.cord_script.proofs.Common.{form_error, HasFormat, HasFormError, HasBadWords, want_of, verb_word, all_verbs, find_verb, form_at}
 use Rattle.cord_printf.specs.declared.pieces.ArgKind.TheVariants as printed
-use Rattle.cord_printf.specs.Pieces.{wanted}
-use Rattle.cord_printf.specs.FormatLaws.{FormatOrBad}
-use Rattle.cord_script.specs.declared.TheConstants.{MIN_PARTS, MAX_PARTS}
-use Rattle.cord_script.specs.declared.verbs.Verb.{Verb}
 use Rattle.cord_script.specs.declared.verbs.Verb.TheVariants as verbs
 use Rattle.cord_script.specs.declared.verbs.FixedVerb.TheVariants as fixed_verbs
 use Rattle.cord_script.specs.declared.verbs.Origin.TheVariants as origins
@@ -22,38 +23,9 @@ use Rattle.cord_script.specs.declared.verbs.Look.TheVariants as looks
 use Rattle.cord_script.specs.declared.verbs.Search.TheVariants as searches
 use Rattle.cord_script.specs.declared.verbs.Control.TheVariants as controls
 use Rattle.cord_script.specs.declared.kinds.Kind.TheVariants as kinds
-use Rattle.cord_script.specs.declared.kinds.Want.{Want}
 use Rattle.cord_script.specs.declared.kinds.Want.TheVariants as wants
-use Rattle.cord_operands.specs.declared.operands.Number.{Number}
-use Rattle.cord_operands.specs.declared.operands.Number.TheVariants.{Numeral, Named}
-use Rattle.cord_operands.specs.declared.operands.Function.{Function}
-use Rattle.cord_operands.specs.declared.operands.Function.TheVariants.{Digits, Bytes}
-use Rattle.cord_operands.specs.declared.operands.Relation.{Relation}
-use Rattle.cord_operands.specs.declared.operands.Relation.TheVariants.{Less, Equal, Greater}
-use Rattle.cord_operands.specs.declared.operands.Argument.{Argument}
 use Rattle.cord_operands.specs.declared.operands.Argument.TheVariants as arguments
-use Rattle.cord_script.specs.declared.words.Word.{Word}
-use Rattle.cord_script.specs.declared.words.Word.TheVariants.{Plain, Quoted}
-use Rattle.cord_script.specs.declared.refusals.RefusalKind.{RefusalKind}
-use Rattle.cord_script.specs.declared.refusals.RefusalKind.TheVariants.{UnknownStatement, WrongCount, BadName, BadNumber, BadFormat}
-use Rattle.cord_syntax.specs.declared.statements.Statement.{Statement}
-use Rattle.cord_syntax.specs.declared.statements.Statement.TheVariants.{Catn}
-use Rattle.cord_syntax.specs.declared.statements.Statement.TheVariants.{Sprintf}
-use Rattle.cord_syntax.specs.Lines.{line_of}
-use Rattle.cord_script.specs.Tests.{is_name, begins_numeral, numeral_of, is_path}
-use Rattle.cord_script.specs.Formats.{AreWantedBy, want_of_kind, wants_of_pieces}
-use Rattle.cord_script.specs.Forms.{Grammar, Shape, Effect, Form, Term, form_of, form_in, word_of, terms_of, effect_of, argument_term, argument_want}
-use Rattle.cord_script.specs.Forms.Shape.{Words, Joined, Printed}
-use Rattle.cord_script.specs.Forms.Effect.{Stays}
-use Rattle.cord_script.specs.Forms.Term.{Target, Operand, Value, Literal, FilePath, Applies, Compares, Formats}
-use Rattle.cord_script.specs.Script.{Scope, Says, Suits, IsTerm, AreTerms, FitsBlocks}
-use Rattle.cord_script.specs.FirstErrors.{first_of, unless, misfit, first_pair, first_misfit, name_misfit, is_count, cords, joined}
-use Rattle.cord_script.specs.FirstErrors.{format_wants}
-use Rattle.cord_script.specs.FirstErrors.{arguments_error, words_error, wants_of, names_error, block_error, form_error, HasFormat}
-use Rattle.cord_script.specs.FirstErrors.{HasFormError}
-use Rattle.cord_script.specs.FirstErrors.{HasBadWords}
-use Rattle.cord_script.specs.inner.Fields.{want_of}
-use Rattle.cord_script.specs.inner.Verbal.{verb_word, all_verbs, find_verb, form_at}
+use Rattle.cord_script.specs.Forms.{form_of}
 use Rattle.cord_script.proofs.Spelled.{both, chosen}
 use Rattle.cord_script.proofs.Checked.{neither, holds}
 use Rattle.cord_script.proofs.Firsts.{same_bytes}

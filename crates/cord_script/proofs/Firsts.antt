@@ -1,15 +1,10 @@
 -- Tables whose entries are each the first with their name.
-use Rattle.std.proofs.Common.{◌≡◌, ◌⊎◌, ◌<◌, ℕ, zero, suc, List, [], ◌∷◌, ◌++◌, Bool, true, false, Some, None, drop, length, get_or, inl}
-use Rattle.std.proofs.Common.{inr, refl, sym, subst, ap, ◌∙◌, if◌then◌else◌}
-use Rattle.std.specs.Prelude.{Option, slice_get, IfSome, MatchOption}
-use Rattle.std.specs.Str.{bytes_eq}
+use Rattle.std.specs.Prelude.{◌≡◌, ◌⊎◌, ◌<◌, ◌∷◌, ◌++◌, if◌then◌else◌}
+use Rattle.cord_script.proofs.Common.{ℕ, zero, suc, List, [], Bool, true, false, Some, None, drop, length, get_or, inl, inr, refl, sym}
+use Rattle.cord_script.proofs.Common.{subst, ap, ◌∙◌, Option, slice_get, IfSome, MatchOption, bytes_eq, Kind, Known, kind_of, AreFirst}
+use Rattle.cord_script.proofs.Common.{AreNames, is_name}
 use Rattle.std.proofs.Math.Seq.{drop-cons}
 use Rattle.std.proofs.lemmas.Slice.Eq.{bytes_eq-Decides}
-use Rattle.cord_script.specs.declared.kinds.Kind.{Kind}
-use Rattle.cord_script.specs.declared.table.Known.{Known}
-use Rattle.cord_script.specs.Script.{kind_of}
-use Rattle.cord_script.specs.inner.Tables.{AreFirst, AreNames}
-use Rattle.cord_script.specs.Tests.{is_name}
 
 pub same_bytes : (x y : List ℕ) → bytes_eq x y ≡ true → x ≡ y
 same_bytes x y e = (bytes_eq-Decides x y).0 e

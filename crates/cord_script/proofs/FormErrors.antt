@@ -1,26 +1,14 @@
 -- What is wrong with words where something is wanted of each is an error of their form.
-use Rattle.std.proofs.Common.{Some, None, ◌≡◌, ◌≤◌, ◌+◌, ℕ, List, [], ◌∷◌, refl, sym, ◌∙◌, ap, take, length}
-use Rattle.std.proofs.Common.{arith, eq-eqb, subst}
-use Rattle.std.specs.Prelude.{Option, replicate, nat_le}
-use Rattle.std.proofs.lemmas.Bool.{le-leb}
-use Rattle.std.proofs.lemmas.List.{take-replicate}
-use Rattle.cord_script.specs.declared.TheConstants.{MIN_PARTS, MAX_PARTS}
+use Rattle.std.specs.Prelude.{◌≡◌, ◌≤◌, ◌+◌, ◌∷◌}
+use Rattle.cord_script.proofs.Common.{Some, None, ℕ, List, [], refl, sym, ◌∙◌, ap, take, length, arith, eq-eqb, subst, Option, replicate}
+use Rattle.cord_script.proofs.Common.{nat_le, le-leb, take-replicate, MIN_PARTS, MAX_PARTS, Want, FixedVerb, Word, RefusalKind, WrongCount}
+use Rattle.cord_script.proofs.Common.{form_of, Words, Joined, Printed, Stays, Scope, first_of, unless, first_pair, first_misfit, cords}
+use Rattle.cord_script.proofs.Common.{joined, HasFormat, HasFormError, arguments_error, argument_words, names_error, block_error}
+use Rattle.cord_script.proofs.Common.{fixed_word, fixed_effect}
 use Rattle.cord_script.specs.declared.diagnosis.TheConstants.{JOINED, PRINTED}
 use Rattle.cord_script.specs.declared.kinds.Kind.TheVariants as kinds
-use Rattle.cord_script.specs.declared.kinds.Want.{Want}
 use Rattle.cord_script.specs.declared.kinds.Want.TheVariants as wants
-use Rattle.cord_script.specs.declared.verbs.FixedVerb.{FixedVerb}
-use Rattle.cord_script.specs.declared.words.Word.{Word}
-use Rattle.cord_script.specs.declared.refusals.RefusalKind.{RefusalKind}
-use Rattle.cord_script.specs.declared.refusals.RefusalKind.TheVariants.{WrongCount}
-use Rattle.cord_script.specs.Forms.{form_of}
-use Rattle.cord_script.specs.Forms.Shape.{Words, Joined, Printed}
-use Rattle.cord_script.specs.Forms.Effect.{Stays}
-use Rattle.cord_script.specs.Script.{Scope}
-use Rattle.cord_script.specs.FirstErrors.{first_of, unless, first_pair, first_misfit, cords, joined, HasFormat}
-use Rattle.cord_script.specs.FirstErrors.{HasFormError, arguments_error, argument_words, names_error, block_error}
 use Rattle.cord_script.specs.inner.Diagnosis.{wanted_error}
-use Rattle.cord_script.specs.inner.Verbal.{fixed_word, fixed_effect}
 use Rattle.cord_script.proofs.Unique.{within}
 
 -- a pair that is right is passed

@@ -1,17 +1,9 @@
 -- Each line is idle or isn't, and has words or a first error of its bytes.
-use Rattle.std.proofs.Common.{inl, inr, Some, None, ◌≡◌, ◌≢◌, ◌≤◌, ◌<◌, ◌⊎◌, ℕ, zero, suc, List, [], ◌∷◌, ◌++◌, refl, sym, ◌∙◌, ap}
-use Rattle.std.proofs.Common.{append_assoc, length, length-append, arith}
-use Rattle.std.specs.Prelude.{All, Option}
-use Rattle.std.proofs.lemmas.Bool.{cases_eq, cases_lt}
-use Rattle.std.proofs.lemmas.List.Elements.{All-nil, All-cons}
-use Rattle.cord_script.specs.declared.TheConstants.{MAX_TEXT}
-use Rattle.cord_script.specs.declared.refusals.RefusalKind.{RefusalKind}
-use Rattle.cord_script.specs.declared.refusals.RefusalKind.TheVariants.{Unterminated, BadEscape, LiteralTooLong}
-use Rattle.cord_script.specs.declared.words.Word.{Word}
-use Rattle.cord_script.specs.declared.words.Word.TheVariants.{Plain, Quoted}
-use Rattle.cord_script.specs.Words.{IsBlank, IsIdle, IsPlainByte, EndsPlain, Stands, SpellsText, HasWord, HasWords, IsBadText, BeginsBadText}
-use Rattle.cord_script.specs.Words.{HasBadBytes}
-use Rattle.cord_script.specs.inner.Reading.{unit_of}
+use Rattle.std.specs.Prelude.{◌≡◌, ◌≢◌, ◌≤◌, ◌<◌, ◌⊎◌, ◌∷◌, ◌++◌}
+use Rattle.cord_script.proofs.Common.{inl, inr, Some, None, ℕ, zero, suc, List, [], refl, sym, ◌∙◌, ap, append_assoc, length, length-append}
+use Rattle.cord_script.proofs.Common.{arith, All, Option, cases_eq, cases_lt, All-nil, All-cons, MAX_TEXT, RefusalKind, Unterminated}
+use Rattle.cord_script.proofs.Common.{BadEscape, LiteralTooLong, Word, Plain, Quoted, IsBlank, IsIdle, IsPlainByte, EndsPlain, Stands}
+use Rattle.cord_script.proofs.Common.{SpellsText, HasWord, HasWords, IsBadText, BeginsBadText, HasBadBytes, unit_of}
 use Rattle.cord_script.proofs.Lines.{note_shows}
 use Rattle.cord_script.proofs.Spelled.{spells_push, unit_stands}
 use Rattle.cord_script.proofs.Unique.{Begins, one_beginning, no_beginning, stands_unit}

@@ -1,19 +1,10 @@
 -- What the words of a line give.
-use Rattle.std.proofs.Common.{◌≡◌, ◌∙◌, ℕ, List, [], ◌∷◌, ◌++◌, refl, sym, ap, subst, map}
-use Rattle.std.proofs.lemmas.List.{map-append}
-use Rattle.std.specs.Prelude.{All}
-use Rattle.cord_script.specs.declared.table.Known.{Known}
-use Rattle.cord_script.specs.declared.verbs.FixedVerb.{FixedVerb}
-use Rattle.cord_script.specs.declared.verbs.Verb.{Verb}
-use Rattle.cord_script.specs.declared.words.Word.{Word}
-use Rattle.cord_syntax.specs.declared.statements.Statement.{Statement}
-use Rattle.cord_script.specs.Words.{IsBlank, StartsWith}
-use Rattle.cord_script.specs.Forms.{Term, terms_of}
-use Rattle.cord_script.specs.Forms.Term.{Target, FilePath}
-use Rattle.cord_script.specs.Script.{IsTerm, AreTerms, IsAllowed, AreAllowed, names_after, paths_after}
-use Rattle.cord_script.specs.inner.LineReading.{LineView, IsFresh, PassesWord, GivesTerm, GivesAll, IsStatementBuilt, SaysLine}
-use Rattle.cord_script.specs.inner.LineReading.{names_with, paths_with}
-use Rattle.cord_script.specs.inner.Verbal.{fixed_word}
+use Rattle.std.specs.Prelude.{◌≡◌, ◌∷◌, ◌++◌}
+use Rattle.cord_script.proofs.Common.{◌∙◌, ℕ, List, [], refl, sym, ap, subst, map, map-append, All, Known, FixedVerb, Verb, Word, Statement}
+use Rattle.cord_script.proofs.Common.{IsBlank, StartsWith, Term, terms_of, Target, FilePath, IsTerm, AreTerms, IsAllowed, AreAllowed}
+use Rattle.cord_script.proofs.Common.{names_after, paths_after, LineView, IsFresh, PassesWord, GivesTerm, IsStatementBuilt, SaysLine}
+use Rattle.cord_script.proofs.Common.{names_with, paths_with, fixed_word}
+use Rattle.cord_script.specs.inner.LineReading.{GivesAll}
 
 pub no_field : (a : LineView) → GivesAll a [] a
 unfolding GivesAll

@@ -1,13 +1,8 @@
 -- Lines of a script.
-use Rattle.std.proofs.Common.{inl, inr, ◌≡◌, ◌≢◌, ◌<◌, ◌+◌, ℕ, zero, suc, List, [], ◌∷◌, ◌++◌, refl, sym, ◌∙◌, ap, subst, take, drop}
-use Rattle.std.proofs.Common.{length, arith, Bool, true, false, Some, None, eq-eqb, eqb-true}
-use Rattle.std.proofs.lemmas.Bool.{eqb-false}
-use Rattle.std.proofs.lemmas.List.Elements.{All-nil, All-cons}
-use Rattle.std.specs.Prelude.{All, MatchBool, ◌==◌}
-use Rattle.std.proofs.lemmas.List.{take-append-drop, take_all}
-use Rattle.memchr.specs.Find.{Nowhere, Passes, IsFirstByte, is_byte}
-use Rattle.cord_script.specs.Words.{IsSplit, IsBlank, IsIdle}
-use Rattle.cord_script.specs.inner.Words.{StartsNoBlank}
+use Rattle.std.specs.Prelude.{◌≡◌, ◌≢◌, ◌<◌, ◌+◌, ◌∷◌, ◌++◌, ◌==◌}
+use Rattle.cord_script.proofs.Common.{inl, inr, ℕ, zero, suc, List, [], refl, sym, ◌∙◌, ap, subst, take, drop, length, arith, Bool, true}
+use Rattle.cord_script.proofs.Common.{false, Some, None, eq-eqb, eqb-true, eqb-false, All-nil, All-cons, All, MatchBool, take-append-drop}
+use Rattle.cord_script.proofs.Common.{take_all, Nowhere, Passes, IsFirstByte, is_byte, IsSplit, IsBlank, IsIdle, StartsNoBlank}
 
 -- a list in two parts
 pub parts : (n : ℕ) (xs : List ℕ) → xs ≡ take n xs ++ drop n xs

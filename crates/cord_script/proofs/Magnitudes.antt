@@ -1,10 +1,7 @@
 -- Numerals and the digits that write them.
-use Rattle.std.proofs.Common.{Some, None, ◌≡◌, ◌≤◌, ◌<◌, ◌+◌, ◌*◌, ◌-◌, ◌^◌, ℕ, List, [], ◌∷◌, Bool, true, false, refl, sym, ◌∙◌, ap, arith}
-use Rattle.std.proofs.Common.{length, drop, get_or, suc, drop-cons}
-use Rattle.std.specs.Prelude.{◌&&◌, nat_le, if◌then◌else◌}
-use Rattle.std.proofs.lemmas.Bool.{lt-leb}
-use Rattle.cord_script.specs.Tests.{is_digit, each, number_after}
-use Rattle.cord_script.specs.inner.Reading.{magnitude_from}
+use Rattle.cord_script.proofs.Common.{Some, None, ℕ, List, [], Bool, true, false, refl, sym, ◌∙◌, ap, arith, length, drop, get_or, suc}
+use Rattle.cord_script.proofs.Common.{nat_le, lt-leb, is_digit, each, number_after, magnitude_from}
+use Rattle.std.proofs.Common.{drop-cons, ◌≡◌, ◌≤◌, ◌<◌, ◌+◌, ◌*◌, ◌-◌, ◌^◌, ◌∷◌, ◌&&◌, if◌then◌else◌}
 
 -- more digits write no smaller number
 pub no_smaller : (n : ℕ) (ds : List ℕ) → n ≤ number_after n ds

@@ -1,42 +1,22 @@
 -- Words say one statement, and then have no error.
-use Rattle.std.proofs.Common.{Some, None, ◌≡◌, ◌≤◌, ◌+◌, ℕ, suc, List, [], ◌∷◌, Bool, true, refl, sym, ◌∙◌, ap, subst, length, arith}
-use Rattle.std.proofs.Common.{eq-eqb}
-use Rattle.std.specs.Prelude.{Option, ◌==◌, map, codes, if◌then◌else◌}
-use Rattle.std.proofs.lemmas.Bool.{le-leb}
-use Rattle.std.specs.Str.{bytes_eq}
-use Rattle.cord_printf.specs.declared.pieces.Piece.{Piece}
+use Rattle.std.specs.Prelude.{◌≡◌, ◌≤◌, ◌+◌, ◌∷◌, ◌==◌, if◌then◌else◌}
+use Rattle.cord_script.proofs.Common.{Some, None, ℕ, suc, List, [], Bool, true, refl, sym, ◌∙◌, ap, subst, length, arith, eq-eqb, Option}
+use Rattle.cord_script.proofs.Common.{map, codes, le-leb, bytes_eq, Piece, OneFormat, BadIsNoFormat, MAX_BLOCKS, MIN_PARTS, MAX_PARTS, Want}
+use Rattle.cord_script.proofs.Common.{Argument, Word, Plain, Quoted, Statement, Let, File, Eager, Lazy, Chars, Nul, FromFn, Cat, Catn, Catc}
+use Rattle.cord_script.proofs.Common.{Substr, Balance, EcToCord, Sprintf, Len, Fetch, Cmp, Ncmp, Str, Chr, Rchr, Assign, Add, Sub, EcInit}
+use Rattle.cord_script.proofs.Common.{EcPut, EcCat, EcStr, Put, Repeat, If, Else, End, RefusalKind, WrongCount, TooDeep, line_of, Grammar}
+use Rattle.cord_script.proofs.Common.{Shape, Form, Effect, Term, form_in, word_of, terms_of, effect_of, argument_term, argument_want, Words}
+use Rattle.cord_script.proofs.Common.{Joined, Printed, Stays, OpensRepeat, OpensIf, Turns, Closes, Target, Operand, Value, Literal}
+use Rattle.cord_script.proofs.Common.{FilePath, Applies, Compares, Formats, AreWantedBy, want_of_kind, Scope, Block, Says, Suits, AreTerms}
+use Rattle.cord_script.proofs.Common.{FitsBlocks, first_of, unless, misfit, first_pair, is_count, cords, wants_of, words_error, else_error}
+use Rattle.cord_script.proofs.Common.{block_error, names_error, form_error, HasFormat, HasFormError, HasBadWords, want_of}
 use Rattle.cord_printf.specs.Format.{IsFormat}
-use Rattle.cord_printf.specs.FormatLaws.{OneFormat, BadIsNoFormat}
-use Rattle.cord_script.specs.declared.TheConstants.{MAX_BLOCKS, MIN_PARTS, MAX_PARTS}
 use Rattle.cord_script.specs.declared.kinds.Kind.TheVariants as kinds
-use Rattle.cord_script.specs.declared.kinds.Want.{Want}
 use Rattle.cord_script.specs.declared.kinds.Want.TheVariants as wants
-use Rattle.cord_operands.specs.declared.operands.Argument.{Argument}
 use Rattle.cord_operands.specs.declared.operands.Argument.TheVariants as arguments
-use Rattle.cord_script.specs.declared.words.Word.{Word}
-use Rattle.cord_script.specs.declared.words.Word.TheVariants.{Plain, Quoted}
-use Rattle.cord_syntax.specs.declared.statements.Statement.{Statement}
-use Rattle.cord_syntax.specs.declared.statements.Statement.TheVariants.{Let, File, Eager, Lazy, Chars, Nul, FromFn, Cat, Catn, Catc, Substr}
-use Rattle.cord_syntax.specs.declared.statements.Statement.TheVariants.{Balance, EcToCord, Sprintf, Len, Fetch, Cmp, Ncmp, Str, Chr, Rchr}
-use Rattle.cord_syntax.specs.declared.statements.Statement.TheVariants.{Assign, Add, Sub, EcInit, EcPut, EcCat, EcStr, Put, Repeat, If}
-use Rattle.cord_syntax.specs.declared.statements.Statement.TheVariants.{Else, End}
-use Rattle.cord_script.specs.declared.refusals.RefusalKind.{RefusalKind}
-use Rattle.cord_script.specs.declared.refusals.RefusalKind.TheVariants.{WrongCount, TooDeep}
-use Rattle.cord_syntax.specs.Lines.{line_of}
-use Rattle.cord_script.specs.Forms.{Grammar, Shape, Form, Effect, Term, form_of, form_in, word_of, terms_of, effect_of, argument_term}
-use Rattle.cord_script.specs.Forms.{argument_want}
-use Rattle.cord_script.specs.Forms.Shape.{Words, Joined, Printed}
-use Rattle.cord_script.specs.Forms.Effect.{Stays, OpensRepeat, OpensIf, Turns, Closes}
-use Rattle.cord_script.specs.Forms.Term.{Target, Operand, Value, Literal, FilePath, Applies, Compares, Formats}
-use Rattle.cord_script.specs.Formats.{AreWantedBy, want_of_kind}
-use Rattle.cord_script.specs.Script.{Scope, Block, Says, Suits, AreTerms, FitsBlocks}
-use Rattle.cord_script.specs.FirstErrors.{first_of, unless, misfit, first_pair, is_count}
-use Rattle.cord_script.specs.FirstErrors.{cords}
-use Rattle.cord_script.specs.FirstErrors.{wants_of, words_error, else_error, block_error, names_error, form_error, HasFormat, HasFormError}
-use Rattle.cord_script.specs.FirstErrors.{HasBadWords}
+use Rattle.cord_script.specs.Forms.{form_of}
 use Rattle.cord_script.proofs.Checked.{neither}
 use Rattle.cord_script.proofs.Unique.{within}
-use Rattle.cord_script.specs.inner.Fields.{want_of}
 use Rattle.cord_script.proofs.Allowed.{none_wrong}
 use Rattle.cord_script.proofs.Terms.{words_fit, terms_count, one_list}
 

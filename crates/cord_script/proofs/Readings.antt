@@ -1,21 +1,10 @@
 -- The lines of a script and what they say, one after the other.
-use Rattle.std.proofs.Common.{inl, inr, Some, None, ◌≡◌, ◌≢◌, ◌≤◌, ◌<◌, ◌+◌, ℕ, zero, suc, List, [], ◌∷◌, ◌++◌, refl, sym, ◌∙◌, ap, subst}
-use Rattle.std.proofs.Common.{append_assoc, append-nil, length, length-append, arith, get_or, Bool, true, false, eqb-true}
-use Rattle.std.specs.Prelude.{All, ◌==◌}
-use Rattle.std.proofs.lemmas.Bool.{eqb-false}
-use Rattle.cord_script.specs.declared.TheConstants.{MAX_SCRIPT, MAX_LINES}
-use Rattle.cord_script.specs.declared.words.Word.{Word}
-use Rattle.cord_syntax.specs.declared.statements.Statement.{Statement}
-use Rattle.cord_script.specs.declared.refusals.RefusalKind.{RefusalKind}
-use Rattle.cord_script.specs.declared.refusals.RefusalKind.TheVariants.{NoMemory}
-use Rattle.cord_script.specs.Words.{IsSplit, IsIdle, HasWords}
-use Rattle.cord_syntax.specs.Lines.{line_of}
-use Rattle.cord_script.specs.Forms.{Grammar}
-use Rattle.cord_script.specs.Script.{Scope, Block, ReadsBy, ReadsUpTo, Says, LinesSay, whole, start, after, after_all}
-use Rattle.cord_script.specs.Script.Block.{InRepeat, InIf, InElse}
-use Rattle.cord_script.specs.FirstErrors.{FirstErrorBy, HasBadLine}
-use Rattle.cord_script.specs.inner.ContextViews.{IsInnermostOpen}
-use Rattle.cord_script.specs.inner.Steps.{TakesLine, HasWrong, HasReadLines}
+use Rattle.std.specs.Prelude.{◌≡◌, ◌≢◌, ◌≤◌, ◌<◌, ◌+◌, ◌∷◌, ◌++◌, ◌==◌}
+use Rattle.cord_script.proofs.Common.{inl, inr, Some, None, ℕ, zero, suc, List, [], refl, sym, ◌∙◌, ap, subst, append_assoc, append-nil}
+use Rattle.cord_script.proofs.Common.{length, length-append, arith, get_or, Bool, true, false, eqb-true, All, eqb-false, MAX_SCRIPT}
+use Rattle.cord_script.proofs.Common.{MAX_LINES, Word, Statement, RefusalKind, NoMemory, IsSplit, IsIdle, HasWords, line_of, Grammar, Scope}
+use Rattle.cord_script.proofs.Common.{Block, ReadsBy, ReadsUpTo, Says, LinesSay, whole, start, after, after_all, InRepeat, InIf, InElse}
+use Rattle.cord_script.proofs.Common.{FirstErrorBy, HasBadLine, IsInnermostOpen, TakesLine, HasWrong, HasReadLines}
 
 all_more_at : {X : Type 0} (P : X → Type 0) (x : X) (xs : List X) → P x → All P xs → (k : ℕ) (d : X) → k < length (x ∷ xs) →
     P (get_or (x ∷ xs) k d)

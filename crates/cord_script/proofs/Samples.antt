@@ -1,15 +1,9 @@
 -- Small texts with their words.
-use Rattle.std.proofs.Common.{inl, inr, ◌≡◌, ◌≢◌, ◌<◌, ℕ, zero, suc, List, [], ◌∷◌, ◌++◌, Bool, true, false, refl, sym, ◌∙◌, ap, length}
-use Rattle.std.proofs.Common.{get_or, arith, eqb-true}
-use Rattle.std.specs.Prelude.{All, ◌==◌, ◌&&◌, ◌||◌, not, nat_le}
-use Rattle.std.proofs.lemmas.Bool.{eqb-false, ne_eqb, leb-true}
-use Rattle.cord_script.specs.declared.TheConstants.{MAX_TEXT}
-use Rattle.cord_script.specs.declared.refusals.RefusalKind.{RefusalKind}
-use Rattle.cord_script.specs.declared.words.Word.{Word}
-use Rattle.cord_script.specs.declared.words.Word.TheVariants.{Plain, Quoted}
-use Rattle.cord_script.specs.Words.{IsSplit, IsBlank, IsIdle, IsPlainByte, EndsPlain, Stands, SpellsText, HasWords, StartsWith, IsBadText}
-use Rattle.cord_script.specs.Words.{BeginsBadText}
-use Rattle.cord_script.specs.Tests.{each}
+use Rattle.std.specs.Prelude.{◌≡◌, ◌≢◌, ◌<◌, ◌∷◌, ◌++◌, ◌==◌, ◌&&◌, ◌||◌}
+use Rattle.cord_script.proofs.Common.{inl, inr, ℕ, zero, suc, List, [], Bool, true, false, refl, sym, ◌∙◌, ap, length, get_or, arith}
+use Rattle.cord_script.proofs.Common.{eqb-true, All, not, nat_le, eqb-false, ne_eqb, leb-true, MAX_TEXT, RefusalKind, Word, Plain, Quoted}
+use Rattle.cord_script.proofs.Common.{IsSplit, IsBlank, IsIdle, IsPlainByte, EndsPlain, Stands, SpellsText, HasWords, StartsWith, IsBadText}
+use Rattle.cord_script.proofs.Common.{BeginsBadText, each}
 use Rattle.cord_script.proofs.Spelled.{both}
 use Rattle.cord_script.proofs.Lines.{one_prefix, head_of, note_shows}
 use Rattle.cord_script.proofs.Unique.{not_true}

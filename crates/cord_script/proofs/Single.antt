@@ -1,14 +1,9 @@
 -- The laws of scripts, line by line.
-use Rattle.std.proofs.Common.{inl, inr, ◌≡◌, ◌≤◌, ◌+◌, ℕ, List, [], ◌∷◌, ◌++◌, refl, sym, ◌∙◌, ap, subst, length, length-append, arith}
-use Rattle.cord_printf.specs.FormatLaws.{OneFormat, BadIsNoFormat}
-use Rattle.cord_script.specs.declared.TheConstants.{MAX_LINES}
-use Rattle.cord_syntax.specs.declared.statements.Statement.{Statement}
-use Rattle.cord_script.specs.declared.refusals.RefusalKind.{RefusalKind}
-use Rattle.cord_script.specs.Words.{IsSplit, IsIdle, HasWords}
-use Rattle.cord_script.specs.Forms.{Grammar}
-use Rattle.cord_script.specs.Script.{Scope, Block, Says, LinesSay, ReadsBy, start, after, after_all, whole, without_branches}
-use Rattle.cord_script.specs.Script.Block.{InRepeat, InIf, InElse}
-use Rattle.cord_script.specs.FirstErrors.{HasBadWords, HasBadLine, IsFirstWrongAt, IsLeftOpen, FirstErrorBy}
+use Rattle.std.specs.Prelude.{◌≡◌, ◌≤◌, ◌+◌, ◌∷◌, ◌++◌}
+use Rattle.cord_script.proofs.Common.{inl, inr, ℕ, List, [], refl, sym, ◌∙◌, ap, subst, length, length-append, arith, OneFormat}
+use Rattle.cord_script.proofs.Common.{BadIsNoFormat, MAX_LINES, Statement, RefusalKind, IsSplit, IsIdle, HasWords, Grammar, Scope, Block}
+use Rattle.cord_script.proofs.Common.{Says, LinesSay, ReadsBy, start, after, after_all, whole, without_branches, InRepeat, InIf, InElse}
+use Rattle.cord_script.proofs.Common.{HasBadWords, HasBadLine, IsFirstWrongAt, IsLeftOpen, FirstErrorBy}
 use Rattle.cord_script.proofs.Unique.{one_words, good_bytes, one_bad_bytes, one_split}
 use Rattle.cord_script.proofs.OneStatement.{good_words, one_bad_words, one_statement}
 

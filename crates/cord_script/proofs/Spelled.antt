@@ -1,11 +1,8 @@
 -- Quoted words and what they stand for.
-use Rattle.std.proofs.Common.{inl, inr, Some, None, ◌≡◌, ◌+◌, ◌-◌, ◌*◌, ◌⊎◌, ℕ, List, [], ◌∷◌, ◌++◌, Bool, true, false, refl, sym, ◌∙◌, ap}
-use Rattle.std.proofs.Common.{append_assoc, append-nil, arith, eqb-true}
-use Rattle.std.specs.Prelude.{Option, ◌==◌, ◌&&◌, nat_le, if◌then◌else◌}
-use Rattle.std.proofs.lemmas.Option.{same_Some}
-use Rattle.std.proofs.lemmas.Bool.{leb-true, eqb-false}
-use Rattle.cord_script.specs.Words.{Stands, SpellsText, HexDigit}
-use Rattle.cord_script.specs.inner.Reading.{digit_of, byte_of, hex_of, escape_of, unit_of}
+use Rattle.std.specs.Prelude.{◌≡◌, ◌+◌, ◌-◌, ◌*◌, ◌⊎◌, ◌∷◌, ◌++◌, ◌==◌, ◌&&◌, if◌then◌else◌}
+use Rattle.cord_script.proofs.Common.{inl, inr, Some, None, ℕ, List, [], Bool, true, false, refl, sym, ◌∙◌, ap, append_assoc, append-nil}
+use Rattle.cord_script.proofs.Common.{arith, eqb-true, Option, nat_le, same_Some, leb-true, eqb-false, Stands, SpellsText, HexDigit}
+use Rattle.cord_script.proofs.Common.{digit_of, byte_of, hex_of, escape_of, unit_of}
 
 -- which of two values was chosen
 pub chosen : {A : Type 0} (x : Bool) (p q z : A) → (if x then p else q) ≡ z → ((x ≡ true) × (p ≡ z)) ⊎ ((x ≡ false) × (q ≡ z))

@@ -1,10 +1,8 @@
 -- The table of statements, as the code looks a word up in it.
-use Rattle.std.proofs.Common.{Some, None, ◌≡◌, ℕ, List, [], ◌∷◌, length, Bool, true, false, refl, sym, ◌∙◌, ap, rules}
-use Rattle.std.specs.Prelude.{Option, MatchOption, filter, cond, if◌then◌else◌}
-use Rattle.std.specs.Str.{bytes_eq}
-use Rattle.cord_script.specs.declared.verbs.Verb.{Verb}
+use Rattle.std.specs.Prelude.{◌≡◌, ◌∷◌, if◌then◌else◌}
+use Rattle.cord_script.proofs.Common.{Some, None, ℕ, List, [], length, Bool, true, false, refl, sym, ◌∙◌, ap, rules, Option, MatchOption}
+use Rattle.cord_script.proofs.Common.{filter, cond, bytes_eq, Verb, verb_word, find_verb, form_at, all_verbs, has_length, verbs_of}
 use Rattle.cord_script.specs.Forms.{form_of}
-use Rattle.cord_script.specs.inner.Verbal.{verb_word, find_verb, form_at, all_verbs, has_length, verbs_of}
 
 -- a choice of verbs is a choice of forms
 form_chosen : (c : Bool) (v : Verb) (o : Option Verb) → form_at (if c then Some v else o) ≡ (if c then form_at (Some v) else form_at o)

@@ -1,30 +1,15 @@
 -- What a word says, and what it has to be: one term for each want, and no misfit.
-use Rattle.std.proofs.Common.{inl, inr, Some, None, ◌≡◌, ◌≢◌, ◌<◌, ℕ, List, [], ◌∷◌, Bool, true, false, refl, sym, ◌∙◌, ap, length}
-use Rattle.std.proofs.Common.{arith, eqb-true}
-use Rattle.std.specs.Prelude.{◌⊎◌, ◌==◌, ◌&&◌, ◌||◌, nat_le, nat_lt, is_some, map, if◌then◌else◌, ℤ, pos, ◌^◌}
-use Rattle.std.proofs.lemmas.Bool.{leb-true, ne_eqb}
-use Rattle.cord_script.specs.declared.kinds.Kind.{Kind}
+use Rattle.std.specs.Prelude.{◌≡◌, ◌≢◌, ◌<◌, ◌∷◌, ◌⊎◌, ◌==◌, ◌&&◌, ◌||◌, if◌then◌else◌, ◌^◌}
+use Rattle.cord_script.proofs.Common.{inl, inr, Some, None, ℕ, List, [], Bool, true, false, refl, sym, ◌∙◌, ap, length, arith, eqb-true}
+use Rattle.cord_script.proofs.Common.{nat_le, nat_lt, is_some, map, ℤ, pos, leb-true, ne_eqb, Kind, Number, Numeral, Named, Function}
+use Rattle.cord_script.proofs.Common.{Digits, Bytes, Relation, Less, Equal, Greater, Known, Word, Plain, BadName, BadNumber, is_digit}
+use Rattle.cord_script.proofs.Common.{is_letter, is_name, each, are_digits, number_after, begins_numeral, numeral_of, function_word}
+use Rattle.cord_script.proofs.Common.{relation_word, Term, Target, Operand, Value, Literal, FilePath, Applies, Compares, Formats, kind_of}
+use Rattle.cord_script.proofs.Common.{IsTerm, AreTerms, first_of, unless, misfit, first_misfit, kind_error, same_kind, number_error}
+use Rattle.cord_script.proofs.Common.{plain_number_misfit, function_misfit, relation_misfit, name_misfit, number_misfit, text_misfit}
+use Rattle.cord_script.proofs.Common.{path_misfit, want_of}
 use Rattle.cord_script.specs.declared.kinds.Kind.TheVariants as kinds
 use Rattle.cord_script.specs.declared.kinds.Want.TheVariants as wants
-use Rattle.cord_operands.specs.declared.operands.Number.{Number}
-use Rattle.cord_operands.specs.declared.operands.Number.TheVariants.{Numeral, Named}
-use Rattle.cord_operands.specs.declared.operands.Function.{Function}
-use Rattle.cord_operands.specs.declared.operands.Function.TheVariants.{Digits, Bytes}
-use Rattle.cord_operands.specs.declared.operands.Relation.{Relation}
-use Rattle.cord_operands.specs.declared.operands.Relation.TheVariants.{Less, Equal, Greater}
-use Rattle.cord_script.specs.declared.table.Known.{Known}
-use Rattle.cord_script.specs.declared.words.Word.{Word}
-use Rattle.cord_script.specs.declared.words.Word.TheVariants.{Plain}
-use Rattle.cord_script.specs.declared.refusals.RefusalKind.TheVariants.{BadName, BadNumber}
-use Rattle.cord_script.specs.Tests.{is_digit, is_letter, is_name, each, are_digits, number_after, begins_numeral, numeral_of, function_word}
-use Rattle.cord_script.specs.Tests.{relation_word}
-use Rattle.cord_script.specs.Forms.{Term}
-use Rattle.cord_script.specs.Forms.Term.{Target, Operand, Value, Literal, FilePath, Applies, Compares, Formats}
-use Rattle.cord_script.specs.Script.{kind_of, IsTerm, AreTerms}
-use Rattle.cord_script.specs.FirstErrors.{first_of, unless, misfit, first_misfit, kind_error, same_kind, number_error}
-use Rattle.cord_script.specs.FirstErrors.{plain_number_misfit, function_misfit, relation_misfit, name_misfit, number_misfit, text_misfit}
-use Rattle.cord_script.specs.FirstErrors.{path_misfit}
-use Rattle.cord_script.specs.inner.Fields.{want_of}
 use Rattle.cord_script.proofs.Spelled.{both, chosen}
 use Rattle.cord_script.proofs.Unique.{above, head_or}
 

@@ -1,15 +1,9 @@
 -- A script has one list of lines, and a line one list of words or one first error of its bytes.
-use Rattle.std.proofs.Common.{inl, inr, Some, None, ◌≡◌, ◌≢◌, ◌≤◌, ◌<◌, ◌+◌, ◌-◌, ◌*◌, ℕ, List, [], ◌∷◌, ◌++◌, Bool, true, false, refl, sym}
-use Rattle.std.proofs.Common.{◌∙◌, ap, subst, append_assoc, length, arith}
-use Rattle.std.specs.Prelude.{Option, All, ◌==◌, ◌&&◌, nat_le, if◌then◌else◌}
-use Rattle.std.proofs.lemmas.Bool.{leb-true, le-leb, ne_eqb}
-use Rattle.cord_script.specs.declared.TheConstants.{MAX_TEXT}
-use Rattle.cord_script.specs.declared.refusals.RefusalKind.{RefusalKind}
-use Rattle.cord_script.specs.declared.words.Word.{Word}
-use Rattle.cord_script.specs.declared.words.Word.TheVariants.{Plain, Quoted}
-use Rattle.cord_script.specs.Words.{IsSplit, IsBlank, IsPlainByte, EndsPlain, Stands, SpellsText, HexDigit, HasWord, HasWords, StartsWith, IsBadEnd}
-use Rattle.cord_script.specs.Words.{IsBadText, BeginsBadText, HasBadBytes}
-use Rattle.cord_script.specs.inner.Reading.{digit_of, byte_of, escape_of, unit_of}
+use Rattle.std.specs.Prelude.{◌≡◌, ◌≢◌, ◌≤◌, ◌<◌, ◌+◌, ◌-◌, ◌*◌, ◌∷◌, ◌++◌, ◌==◌, ◌&&◌, if◌then◌else◌}
+use Rattle.cord_script.proofs.Common.{inl, inr, Some, None, ℕ, List, [], Bool, true, false, refl, sym, ◌∙◌, ap, subst, append_assoc, length}
+use Rattle.cord_script.proofs.Common.{arith, Option, All, nat_le, leb-true, le-leb, ne_eqb, MAX_TEXT, RefusalKind, Word, Plain, Quoted}
+use Rattle.cord_script.proofs.Common.{IsSplit, IsBlank, IsPlainByte, EndsPlain, Stands, SpellsText, HexDigit, HasWord, HasWords, StartsWith}
+use Rattle.cord_script.proofs.Common.{IsBadEnd, IsBadText, BeginsBadText, HasBadBytes, digit_of, byte_of, escape_of, unit_of}
 use Rattle.cord_script.proofs.Lines.{split_nil, head_of, tail_of, not_all_blank, one_prefix}
 use Rattle.cord_script.proofs.Spelled.{both, same_pair, unit_stands}
 

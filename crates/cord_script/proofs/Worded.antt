@@ -1,13 +1,8 @@
 -- Words of a line.
-use Rattle.std.proofs.Common.{◌≡◌, ◌≢◌, ◌≤◌, ◌<◌, ℕ, zero, suc, List, [], ◌∷◌, ◌++◌, refl, sym, ◌∙◌, ap, subst, append_assoc, take, drop}
-use Rattle.std.proofs.Common.{length, arith, length-append}
-use Rattle.std.specs.Prelude.{All}
-use Rattle.cord_script.specs.declared.TheConstants.{MAX_TEXT}
-use Rattle.cord_script.specs.declared.refusals.RefusalKind.{RefusalKind}
-use Rattle.cord_script.specs.declared.words.Word.{Word}
-use Rattle.cord_script.specs.declared.words.Word.TheVariants.{Plain, Quoted}
-use Rattle.cord_script.specs.Words.{IsBlank, IsPlainByte, EndsPlain, SpellsText, HasWord, StartsWith, IsBadText, BeginsBadText}
-use Rattle.cord_script.specs.inner.Words.{StartsNoBlank}
+use Rattle.std.specs.Prelude.{◌≡◌, ◌≢◌, ◌≤◌, ◌<◌, ◌∷◌, ◌++◌}
+use Rattle.cord_script.proofs.Common.{ℕ, zero, suc, List, [], refl, sym, ◌∙◌, ap, subst, append_assoc, take, drop, length, arith}
+use Rattle.cord_script.proofs.Common.{length-append, All, MAX_TEXT, RefusalKind, Word, Plain, Quoted, IsBlank, IsPlainByte, EndsPlain}
+use Rattle.cord_script.proofs.Common.{SpellsText, HasWord, StartsWith, IsBadText, BeginsBadText, StartsNoBlank}
 use Rattle.cord_script.proofs.Lines.{parts}
 
 -- a quoted word that is none, after blanks

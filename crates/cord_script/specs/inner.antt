@@ -1,3 +1,4 @@
+pub mod Common
 pub mod ContextViews
 pub mod Diagnosis
 pub mod Fields

@@ -1,10 +1,9 @@
 -- What the lines before a line leave, as the code keeps it.
-use Rattle.std.specs.Prelude.{ℕ, List, [], ◌∷◌, map}
+use Rattle.std.specs.Prelude.{◌∷◌}
+use Rattle.cord_script.specs.inner.Common.{ℕ, List, [], map, RefusalKind, Scope, Block}
 use Rattle.cord_script.specs.declared.blocks.Open.{Open}
 use Rattle.cord_script.specs.declared.blocks.Open.TheVariants as blocks
 use Rattle.cord_script.specs.declared.context.Context.{Context}
-use Rattle.cord_script.specs.declared.refusals.RefusalKind.{RefusalKind}
-use Rattle.cord_script.specs.Script.{Scope, Block}
 use Rattle.cord_script.specs.Script.Block.{InRepeat, InIf, InElse}
 use Rattle.cord_script.specs.FirstErrors.{IsLeftOpen}
 

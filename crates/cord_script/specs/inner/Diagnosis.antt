@@ -1,16 +1,11 @@
 -- What is wrong first with words where something is wanted of each.
-use Rattle.std.specs.Prelude.{List, length, ◌==◌, Option}
-use Rattle.cord_script.specs.declared.kinds.Want.{Want}
-use Rattle.cord_script.specs.declared.words.Word.{Word}
+use Rattle.std.specs.Prelude.{◌==◌}
+use Rattle.cord_script.specs.inner.Common.{List, length, Option, Want, Word, RefusalKind, Effect, Scope}
 use Rattle.cord_script.specs.declared.errors.Pass.{Pass}
 use Rattle.cord_script.specs.declared.errors.Pass.TheVariants as passes
-use Rattle.cord_script.specs.declared.refusals.RefusalKind.{RefusalKind}
 use Rattle.cord_script.specs.declared.refusals.RefusalKind.TheVariants.{WrongCount}
-use Rattle.cord_script.specs.Forms.{Effect}
-use Rattle.cord_script.specs.Script.{Scope}
 use Rattle.cord_script.specs.FirstErrors.{first_of, unless, misfit, first_misfit, operand_error, word_target_error, word_path_error}
-use Rattle.cord_script.specs.FirstErrors.{names_error}
-use Rattle.cord_script.specs.FirstErrors.{block_error}
+use Rattle.cord_script.specs.FirstErrors.{names_error, block_error}
 
 -- what is wrong with a word in a pass
 abbrev pub pair_error : Pass → Scope → Want → Word → Option RefusalKind

@@ -1,9 +1,7 @@
 -- What a term has to be, and tests on bytes as the code splits them.
-use Rattle.std.specs.Prelude.{ℕ, Bool, ◌||◌, not, ◌==◌}
-use Rattle.cord_script.specs.declared.kinds.Want.{Want}
+use Rattle.std.specs.Prelude.{◌||◌, ◌==◌}
+use Rattle.cord_script.specs.inner.Common.{ℕ, Bool, not, Want, is_letter, is_digit, Term}
 use Rattle.cord_script.specs.declared.kinds.Want.TheVariants as wants
-use Rattle.cord_script.specs.Tests.{is_letter, is_digit}
-use Rattle.cord_script.specs.Forms.{Term}
 use Rattle.cord_script.specs.Forms.Term.{Target, Operand, Value, Literal, FilePath, Applies, Compares, Formats}
 
 -- what a term has to be

@@ -1,15 +1,10 @@
 -- What the words of a line give, after what the lines before it leave.
-use Rattle.std.specs.Prelude.{◌≡◌, ℕ, List, [], ◌∷◌, Option, Some, None, option_map}
+use Rattle.std.specs.Prelude.{◌≡◌, ◌∷◌}
+use Rattle.cord_script.specs.inner.Common.{ℕ, List, [], Option, Some, None, option_map, Known, Verb, Word, Statement, HasWord, HasWords}
+use Rattle.cord_script.specs.inner.Common.{Effect, Term, word_of, terms_of, effect_of, Scope, IsTerm, AreTerms, IsAllowed, AreAllowed}
+use Rattle.cord_script.specs.inner.Common.{Suits, with_name, with_path, names_after, paths_after, blocks_after}
 use Rattle.cord_script.specs.declared.added.Added.{Added}
-use Rattle.cord_script.specs.declared.table.Known.{Known}
-use Rattle.cord_script.specs.declared.verbs.Verb.{Verb}
-use Rattle.cord_script.specs.declared.words.Word.{Word}
-use Rattle.cord_syntax.specs.declared.statements.Statement.{Statement}
 use Rattle.cord_syntax.specs.Lines.{line_of}
-use Rattle.cord_script.specs.Words.{HasWord, HasWords}
-use Rattle.cord_script.specs.Forms.{Effect, Term, word_of, terms_of, effect_of}
-use Rattle.cord_script.specs.Script.{Scope, IsTerm, AreTerms, IsAllowed, AreAllowed, Suits}
-use Rattle.cord_script.specs.Script.{with_name, with_path, names_after, paths_after, blocks_after}
 use Rattle.cord_script.specs.inner.Verbal.{verb_word, verb_effect}
 
 -- what the lines before leave, what of the line is still to be read, and what its words add

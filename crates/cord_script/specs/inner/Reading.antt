@@ -1,6 +1,6 @@
 -- What bytes of a word stand for, computed as the code does it.
-use Rattle.std.specs.Prelude.{ℕ, ◌+◌, ◌*◌, ◌-◌, ◌^◌, List, [], ◌∷◌, ◌&&◌, ◌==◌, nat_le, Option, Some, None, if◌then◌else◌}
-use Rattle.cord_script.specs.Tests.{is_digit, each, number_after}
+use Rattle.std.specs.Prelude.{◌+◌, ◌*◌, ◌-◌, ◌^◌, ◌∷◌, ◌&&◌, ◌==◌, if◌then◌else◌}
+use Rattle.cord_script.specs.inner.Common.{ℕ, List, [], nat_le, Option, Some, None, is_digit, each, number_after}
 
 -- the value of a hexadecimal digit
 abbrev pub digit_of : ℕ → Option ℕ

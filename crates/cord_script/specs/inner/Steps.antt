@@ -1,10 +1,7 @@
 -- What the parser's steps tell of a line.
-use Rattle.std.specs.Prelude.{◌≡◌, ◌+◌, ℕ, ◌⊎◌, List, [], ◌∷◌, ◌++◌, length, Option, Some, None, option_to_list}
-use Rattle.cord_script.specs.declared.words.Word.{Word}
-use Rattle.cord_syntax.specs.declared.statements.Statement.{Statement}
-use Rattle.cord_script.specs.declared.refusals.RefusalKind.{RefusalKind}
-use Rattle.cord_script.specs.Words.{IsIdle, IsSplit, HasWords, HasBadBytes}
-use Rattle.cord_script.specs.Script.{Scope, Says, LinesSay, whole, start, after, after_all}
+use Rattle.std.specs.Prelude.{◌≡◌, ◌+◌, ◌⊎◌, ◌∷◌, ◌++◌}
+use Rattle.cord_script.specs.inner.Common.{ℕ, List, [], length, Option, Some, None, option_to_list, Word, Statement, RefusalKind, IsIdle}
+use Rattle.cord_script.specs.inner.Common.{IsSplit, HasWords, HasBadBytes, Scope, Says, LinesSay, whole, start, after, after_all}
 use Rattle.cord_script.specs.FirstErrors.{HasBadWords}
 
 -- what the words of line n say after these lines, and what is left after it

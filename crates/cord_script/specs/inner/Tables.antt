@@ -1,8 +1,6 @@
 -- What holds of a table of names.
-use Rattle.std.specs.Prelude.{◌≡◌, ℕ, List, [], ◌∷◌, true, Some, slice_get}
-use Rattle.cord_script.specs.declared.table.Known.{Known}
-use Rattle.cord_script.specs.Tests.{is_name}
-use Rattle.cord_script.specs.Script.{kind_of}
+use Rattle.std.specs.Prelude.{◌≡◌, ◌∷◌}
+use Rattle.cord_script.specs.inner.Common.{ℕ, List, [], true, Some, slice_get, Known, is_name, kind_of}
 
 -- each entry is the first with its name
 abbrev pub AreFirst : List Known → Type 0

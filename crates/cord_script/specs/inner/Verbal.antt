@@ -1,7 +1,7 @@
 -- The statements' words and what the words after them have to be, as the code has them.
-use Rattle.std.specs.Prelude.{ℕ, ◌==◌, List, [], ◌∷◌, length, filter, Bool, Option, Some, None, if◌then◌else◌, codes}
+use Rattle.std.specs.Prelude.{◌==◌, ◌∷◌, if◌then◌else◌}
+use Rattle.cord_script.specs.inner.Common.{ℕ, List, [], length, filter, Bool, Option, Some, None, codes, Verb, Effect, Form, form_of}
 use Rattle.std.specs.Str.{bytes_eq}
-use Rattle.cord_script.specs.declared.verbs.Verb.{Verb}
 use Rattle.cord_script.specs.declared.verbs.Verb.TheVariants as verbs
 use Rattle.cord_script.specs.declared.verbs.FixedVerb.{FixedVerb}
 use Rattle.cord_script.specs.declared.verbs.FixedVerb.TheVariants as fixed_verbs
@@ -14,7 +14,6 @@ use Rattle.cord_script.specs.declared.verbs.Computation.TheVariants as computati
 use Rattle.cord_script.specs.declared.verbs.Look.TheVariants as looks
 use Rattle.cord_script.specs.declared.verbs.Search.TheVariants as searches
 use Rattle.cord_script.specs.declared.verbs.Control.TheVariants as controls
-use Rattle.cord_script.specs.Forms.{Effect, Form, form_of}
 use Rattle.cord_script.specs.Forms.Effect.{Stays, OpensRepeat, OpensIf, Turns, Closes}
 
 -- the word of a verb that has a fixed number of words

@@ -1,7 +1,6 @@
 -- The next word of a line.
-use Rattle.std.specs.Prelude.{ℕ, ◌<◌, List, [], ◌∷◌, length, All, Option, Some, None}
-use Rattle.cord_script.specs.declared.words.Word.{Word}
-use Rattle.cord_script.specs.Words.{IsBlank, HasWord}
+use Rattle.std.specs.Prelude.{◌<◌, ◌∷◌}
+use Rattle.cord_script.specs.inner.Common.{ℕ, List, [], length, All, Option, Some, None, Word, IsBlank, HasWord}
 
 -- the next word with what follows it, or none, where blanks alone are left
 abbrev pub HasNext : List ℕ → Option (Word × List ℕ) → Type 0

@@ -1,5 +1,5 @@
-use Rattle.std.proofs.Common.{◌≡◌, drop}
-use Rattle.cord_script.specs.Script.{is_among}
+use Rattle.std.specs.Prelude.{◌≡◌}
+use Rattle.cord_script.proofs.Common.{drop, is_among}
 use Rattle.cord_script.proofs.context.is_among.Given as goal
 
 abbrev pub invariant-loop-known : goal.invariant-loop-known

@@ -1,6 +1,4 @@
-use Rattle.std.proofs.Common.{◌∙◌, sym}
-use Rattle.std.proofs.lemmas.Result.{IfErr-weaker}
-use Rattle.cord_script.specs.inner.ContextViews.{scope_of}
+use Rattle.cord_script.proofs.Common.{◌∙◌, sym, IfErr-weaker, scope_of}
 use Rattle.cord_script.proofs.FormErrors.{words_error}
 use Rattle.cord_script.proofs.diagnosis.fixed_error.Goals as goal
 

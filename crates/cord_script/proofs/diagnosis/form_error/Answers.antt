@@ -1,9 +1,6 @@
-use Rattle.std.proofs.Common.{◌≢◌, sym, subst, IfErr}
-use Rattle.cord_script.specs.declared.refusals.RefusalKind.TheVariants.{NoMemory}
-use Rattle.cord_script.specs.FirstErrors.{HasFormError}
+use Rattle.std.specs.Prelude.{◌≢◌}
+use Rattle.cord_script.proofs.Common.{sym, subst, IfErr, NoMemory, HasFormError, scope_of, verb_word}
 use Rattle.cord_script.specs.Forms.{form_of}
-use Rattle.cord_script.specs.inner.ContextViews.{scope_of}
-use Rattle.cord_script.specs.inner.Verbal.{verb_word}
 use Rattle.cord_script.proofs.diagnosis.form_error.Goals as goal
 
 pub returns-in-Catn : goal.returns-in-Catn

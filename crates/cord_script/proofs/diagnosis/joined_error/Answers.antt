@@ -1,6 +1,4 @@
-use Rattle.std.proofs.Common.{◌∙◌, refl, sym, length, arith}
-use Rattle.std.proofs.lemmas.Result.{IfErr-weaker}
-use Rattle.cord_script.specs.inner.ContextViews.{scope_of}
+use Rattle.cord_script.proofs.Common.{◌∙◌, refl, sym, length, arith, IfErr-weaker, scope_of}
 use Rattle.cord_script.proofs.FormErrors.{cords_error}
 use Rattle.cord_script.proofs.diagnosis.joined_error.Goals as goal
 

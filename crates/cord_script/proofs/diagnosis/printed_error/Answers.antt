@@ -1,6 +1,4 @@
-use Rattle.std.proofs.Common.{◌∙◌, sym, arith}
-use Rattle.std.specs.Prelude.{option_map}
-use Rattle.cord_script.specs.inner.ContextViews.{scope_of}
+use Rattle.cord_script.proofs.Common.{◌∙◌, sym, arith, option_map, scope_of}
 use Rattle.cord_script.proofs.FormErrors.{prefix_error}
 use Rattle.cord_script.proofs.diagnosis.printed_error.Goals as goal
 

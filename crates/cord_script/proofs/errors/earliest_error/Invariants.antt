@@ -1,6 +1,5 @@
-use Rattle.std.proofs.Common.{◌≡◌, length}
-use Rattle.cord_script.specs.FirstErrors.{first_pair}
-use Rattle.cord_script.specs.inner.ContextViews.{scope_of}
+use Rattle.std.specs.Prelude.{◌≡◌}
+use Rattle.cord_script.proofs.Common.{length, first_pair, scope_of}
 use Rattle.cord_script.specs.inner.Diagnosis.{pair_error}
 use Rattle.cord_script.proofs.errors.earliest_error.Given as goal
 

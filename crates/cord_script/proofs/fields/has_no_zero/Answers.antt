@@ -1,8 +1,6 @@
-use Rattle.std.proofs.Common.{Some, None, ◌≡◌, ◌<◌, ◌&&◌, ℕ, zero, suc, List, [], ◌∷◌, Bool, true, false, refl, length, arith}
-use Rattle.std.specs.Prelude.{Option, ◌==◌, is_some, not}
-use Rattle.memchr.specs.Find.{Nowhere, Passes, IsFirstByte, is_byte}
-use Rattle.cord_script.specs.Tests.{each}
-use Rattle.cord_script.specs.inner.Fields.{is_no_zero}
+use Rattle.std.specs.Prelude.{◌≡◌, ◌<◌, ◌&&◌, ◌∷◌, ◌==◌}
+use Rattle.cord_script.proofs.Common.{Some, None, ℕ, zero, suc, List, [], Bool, true, false, refl, length, arith, Option, is_some, not}
+use Rattle.cord_script.proofs.Common.{Nowhere, Passes, IsFirstByte, is_byte, each, is_no_zero}
 use Rattle.cord_script.proofs.fields.has_no_zero.Goals as goal
 
 other_first : (x rest : Bool) → (x ≡ true → ⊥) → true ≡ rest → true ≡ (not x && rest)

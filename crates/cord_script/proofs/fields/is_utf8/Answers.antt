@@ -1,8 +1,7 @@
-use Rattle.std.proofs.Common.{◌≡◌, ◌∙◌, ℕ, List, sym}
-use Rattle.std.specs.Prelude.{Result, Ok, Err, MatchResult}
+use Rattle.std.specs.Prelude.{◌≡◌}
+use Rattle.cord_script.proofs.Common.{◌∙◌, ℕ, List, sym, Result, Ok, Err, MatchResult, IsUtf8, is_utf8, IsUtf8-from_is_utf8}
+use Rattle.cord_script.proofs.Common.{is_utf8-from_IsUtf8}
 use Rattle.std.specs.Result.{is_ok}
-use Rattle.std.specs.Str.{IsUtf8, is_utf8}
-use Rattle.std.proofs.lemmas.Str.{IsUtf8-from_is_utf8, is_utf8-from_IsUtf8}
 use Rattle.cord_script.proofs.Unique.{not_true}
 use Rattle.cord_script.proofs.fields.is_utf8.Goals as goal
 

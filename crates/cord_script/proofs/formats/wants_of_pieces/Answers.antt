@@ -1,11 +1,6 @@
-use Rattle.std.proofs.Common.{◌≡◌, ◌<◌, ◌+◌, ◌++◌, ◌∷◌, [], ℕ, List, None, Some, map, drop, length, get_or, sym, ap, ◌∙◌, append_assoc}
-use Rattle.std.specs.Prelude.{Option, option_to_list}
-use Rattle.std.proofs.lemmas.List.{drop_more}
-use Rattle.cord_printf.specs.declared.pieces.ArgKind.{ArgKind}
-use Rattle.cord_printf.specs.declared.pieces.Piece.{Piece}
-use Rattle.cord_printf.specs.Pieces.{wants, wanted}
-use Rattle.cord_script.specs.declared.kinds.Want.{Want}
-use Rattle.cord_script.specs.Formats.{want_of_kind, wants_of_pieces}
+use Rattle.std.specs.Prelude.{◌≡◌, ◌<◌, ◌+◌, ◌++◌, ◌∷◌}
+use Rattle.cord_script.proofs.Common.{[], ℕ, List, None, Some, map, drop, length, get_or, sym, ap, ◌∙◌, append_assoc, Option}
+use Rattle.cord_script.proofs.Common.{option_to_list, drop_more, ArgKind, Piece, wants, wanted, Want, want_of_kind, wants_of_pieces}
 use Rattle.cord_script.proofs.formats.wants_of_pieces.Goals as goal
 
 -- what a piece wants stands in front of what the others want

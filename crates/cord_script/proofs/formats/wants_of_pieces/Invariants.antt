@@ -1,5 +1,5 @@
-use Rattle.std.proofs.Common.{◌≡◌, ◌++◌, drop}
-use Rattle.cord_script.specs.Formats.{wants_of_pieces}
+use Rattle.std.specs.Prelude.{◌≡◌, ◌++◌}
+use Rattle.cord_script.proofs.Common.{drop, wants_of_pieces}
 use Rattle.cord_script.proofs.formats.wants_of_pieces.Given as goal
 
 abbrev pub invariant-loop-piece : goal.invariant-loop-piece

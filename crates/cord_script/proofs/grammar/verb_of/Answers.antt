@@ -1,4 +1,4 @@
-use Rattle.std.proofs.Common.{None, refl, rules}
+use Rattle.cord_script.proofs.Common.{None, refl, rules}
 use Rattle.cord_script.proofs.Tabled.{found}
 use Rattle.cord_script.proofs.grammar.verb_of.Goals as goal
 

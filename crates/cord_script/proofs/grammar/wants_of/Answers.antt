@@ -1,4 +1,4 @@
-use Rattle.std.proofs.Common.{rules}
+use Rattle.cord_script.proofs.Common.{rules}
 use Rattle.cord_script.specs.Forms.{form_of}
 use Rattle.cord_script.proofs.grammar.wants_of.Goals as goal
 

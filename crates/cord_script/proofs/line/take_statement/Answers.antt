@@ -1,8 +1,6 @@
-use Rattle.std.proofs.Common.{Some, None, ◌≡◌, ◌∙◌, false, refl, sym, ap, subst}
-use Rattle.std.specs.Prelude.{Option, is_some}
-use Rattle.cord_script.specs.inner.ContextViews.{scope_of}
-use Rattle.cord_script.specs.inner.LineReading.{SaysLine, LineView, left_after}
-use Rattle.cord_script.specs.inner.Verbal.{verb_effect}
+use Rattle.std.specs.Prelude.{◌≡◌}
+use Rattle.cord_script.proofs.Common.{Some, None, ◌∙◌, false, refl, sym, ap, subst, Option, is_some, scope_of, SaysLine, LineView}
+use Rattle.cord_script.proofs.Common.{left_after, verb_effect}
 use Rattle.cord_script.proofs.Adding.{adds}
 use Rattle.cord_script.proofs.line.take_statement.Goals as goal
 

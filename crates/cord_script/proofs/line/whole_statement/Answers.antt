@@ -1,4 +1,4 @@
-use Rattle.std.proofs.lemmas.Result.{IfOk-weaker, IfOk-at_ok}
+use Rattle.cord_script.proofs.Common.{IfOk-weaker, IfOk-at_ok}
 use Rattle.cord_script.proofs.LineReading.{says_line}
 use Rattle.cord_script.proofs.line.whole_statement.Goals as goal
 

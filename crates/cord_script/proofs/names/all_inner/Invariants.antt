@@ -1,6 +1,5 @@
-use Rattle.std.proofs.Common.{◌≡◌, drop}
-use Rattle.cord_script.specs.Tests.{each}
-use Rattle.cord_script.specs.inner.Fields.{is_inner}
+use Rattle.std.specs.Prelude.{◌≡◌}
+use Rattle.cord_script.proofs.Common.{drop, each, is_inner}
 use Rattle.cord_script.proofs.names.all_inner.Given as goal
 
 abbrev pub invariant-loop-c : goal.invariant-loop-c

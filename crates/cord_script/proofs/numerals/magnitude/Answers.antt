@@ -1,4 +1,4 @@
-use Rattle.std.proofs.Common.{arith}
+use Rattle.cord_script.proofs.Common.{arith}
 use Rattle.cord_script.proofs.Magnitudes.{stops_at}
 use Rattle.cord_script.proofs.numerals.magnitude.Goals as goal
 

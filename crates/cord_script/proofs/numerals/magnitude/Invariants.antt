@@ -1,5 +1,5 @@
-use Rattle.std.proofs.Common.{◌≡◌, ◌≤◌, drop}
-use Rattle.cord_script.specs.inner.Reading.{magnitude_from}
+use Rattle.std.specs.Prelude.{◌≡◌, ◌≤◌}
+use Rattle.cord_script.proofs.Common.{drop, magnitude_from}
 use Rattle.cord_script.proofs.numerals.magnitude.Given as goal
 
 abbrev pub invariant-loop-digit : goal.invariant-loop-digit

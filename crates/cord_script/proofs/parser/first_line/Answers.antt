@@ -1,6 +1,4 @@
-use Rattle.std.proofs.Common.{◌∙◌, subst}
-use Rattle.memchr.specs.Find.{IsFirstByte, is_byte}
-use Rattle.cord_script.specs.Words.{IsSplit}
+use Rattle.cord_script.proofs.Common.{◌∙◌, subst, IsFirstByte, is_byte, IsSplit}
 use Rattle.cord_script.proofs.Lines.{split_first, split_last, drop_whole}
 use Rattle.cord_script.proofs.parser.first_line.Goals as goal
 

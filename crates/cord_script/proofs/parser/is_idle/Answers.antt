@@ -1,4 +1,4 @@
-use Rattle.std.proofs.Common.{◌∙◌, sym}
+use Rattle.cord_script.proofs.Common.{◌∙◌, sym}
 use Rattle.cord_script.proofs.Lines.{is_note}
 use Rattle.cord_script.proofs.parser.is_idle.Goals as goal
 

@@ -1,8 +1,5 @@
-use Rattle.std.proofs.Common.{length, arith, inl, refl, sym, subst, eqb-true}
-use Rattle.cord_script.specs.Script.{Reads}
-use Rattle.cord_script.specs.inner.ContextViews.{scope_of}
-use Rattle.cord_script.proofs.Readings.{reads_line, stops, read_whole, leaves_open, no_bytes, numbered_line}
-use Rattle.cord_script.proofs.Readings.{reached, left_found}
+use Rattle.cord_script.proofs.Common.{length, arith, inl, refl, sym, subst, eqb-true, Reads, scope_of}
+use Rattle.cord_script.proofs.Readings.{reads_line, stops, read_whole, leaves_open, no_bytes, numbered_line, reached, left_found}
 use Rattle.cord_script.proofs.parser.parse.Goals as goal
 
 pub returns-then-size-gt-MAX_SCRIPT-clause-first_error : goal.returns-then-size-gt-MAX_SCRIPT-clause-first_error

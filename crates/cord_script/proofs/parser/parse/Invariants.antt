@@ -1,9 +1,5 @@
-use Rattle.std.proofs.Common.{◌≤◌, ◌+◌, length}
-use Rattle.std.specs.Prelude.{All}
-use Rattle.cord_script.specs.declared.TheConstants.{MAX_LINES}
-use Rattle.cord_syntax.specs.Lines.{line_of}
-use Rattle.cord_script.specs.inner.ContextViews.{scope_of}
-use Rattle.cord_script.specs.inner.Steps.{HasReadLines}
+use Rattle.std.specs.Prelude.{◌≤◌, ◌+◌}
+use Rattle.cord_script.proofs.Common.{length, All, MAX_LINES, line_of, scope_of, HasReadLines}
 use Rattle.cord_script.proofs.parser.parse.Given as goal
 
 abbrev pub invariant-lines : goal.invariant-lines

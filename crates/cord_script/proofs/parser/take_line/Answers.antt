@@ -1,6 +1,4 @@
-use Rattle.std.proofs.Common.{Some, None, ◌∙◌, sym, subst, append-nil, arith}
-use Rattle.cord_script.specs.inner.Steps.{HasWrong}
-use Rattle.cord_script.specs.inner.ContextViews.{scope_of}
+use Rattle.cord_script.proofs.Common.{Some, None, ◌∙◌, sym, subst, append-nil, arith, HasWrong, scope_of}
 use Rattle.cord_script.proofs.Readings.{is_wrong}
 use Rattle.cord_script.proofs.parser.take_line.Goals as goal
 

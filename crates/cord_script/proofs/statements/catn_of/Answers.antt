@@ -1,4 +1,4 @@
-use Rattle.std.proofs.Common.{refl}
+use Rattle.cord_script.proofs.Common.{refl}
 use Rattle.cord_script.proofs.LineReading.{first_field}
 use Rattle.cord_script.proofs.statements.catn_of.Goals as goal
 

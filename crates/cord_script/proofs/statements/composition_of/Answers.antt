@@ -1,4 +1,4 @@
-use Rattle.std.proofs.Common.{rules}
+use Rattle.cord_script.proofs.Common.{rules}
 use Rattle.cord_script.proofs.statements.composition_of.Goals as goal
 
 -- a must-fail edit breaks it

@@ -1,6 +1,5 @@
-use Rattle.std.proofs.Common.{refl, sym, ap}
+use Rattle.cord_script.proofs.Common.{refl, sym, ap, control_effect}
 use Rattle.cord_script.specs.declared.verbs.FixedVerb.TheVariants.{Control}
-use Rattle.cord_script.specs.inner.Verbal.{control_effect}
 use Rattle.cord_script.proofs.LineReading.{spelled, no_field}
 use Rattle.cord_script.proofs.statements.control_of.Goals as goal
 

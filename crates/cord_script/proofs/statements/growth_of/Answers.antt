@@ -1,4 +1,4 @@
-use Rattle.std.proofs.Common.{refl}
+use Rattle.cord_script.proofs.Common.{refl}
 use Rattle.cord_script.specs.declared.verbs.FixedVerb.TheVariants.{Growth}
 use Rattle.cord_script.proofs.LineReading.{spelled, one_field}
 use Rattle.cord_script.proofs.statements.growth_of.Goals as goal

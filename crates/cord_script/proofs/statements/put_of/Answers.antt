@@ -1,4 +1,4 @@
-use Rattle.std.proofs.Common.{refl}
+use Rattle.cord_script.proofs.Common.{refl}
 use Rattle.cord_script.proofs.statements.put_of.Goals as goal
 
 pub returns : goal.returns

@@ -1,5 +1,4 @@
-use Rattle.std.proofs.Common.{refl, ◌∙◌, ap}
-use Rattle.cord_script.specs.Formats.{wants_of_pieces}
+use Rattle.cord_script.proofs.Common.{refl, ◌∙◌, ap, wants_of_pieces}
 use Rattle.cord_script.proofs.LineReading.{first_field}
 use Rattle.cord_script.proofs.statements.sprintf_of.Goals as goal
 

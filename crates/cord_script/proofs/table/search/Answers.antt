@@ -1,4 +1,4 @@
-use Rattle.std.proofs.Common.{sym, ◌∙◌}
+use Rattle.cord_script.proofs.Common.{sym, ◌∙◌}
 use Rattle.cord_script.proofs.Firsts.{same_bytes, found_here}
 use Rattle.cord_script.proofs.table.search.Goals as goal
 

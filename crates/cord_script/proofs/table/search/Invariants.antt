@@ -1,5 +1,5 @@
-use Rattle.std.proofs.Common.{◌≡◌, drop}
-use Rattle.cord_script.specs.Script.{kind_of}
+use Rattle.std.specs.Prelude.{◌≡◌}
+use Rattle.cord_script.proofs.Common.{drop, kind_of}
 use Rattle.cord_script.proofs.table.search.Given as goal
 
 abbrev pub invariant-loop-entry : goal.invariant-loop-entry

@@ -1,5 +1,4 @@
-use Rattle.std.proofs.Common.{◌∙◌}
-use Rattle.std.proofs.lemmas.Result.{err_from_is_err_and}
+use Rattle.cord_script.proofs.Common.{◌∙◌, err_from_is_err_and}
 use Rattle.cord_script.proofs.Worded.{begins_bad, quoted_next, plain_next}
 use Rattle.cord_script.proofs.words.next_word.Goals as goal
 

@@ -1,6 +1,6 @@
-use Rattle.std.proofs.Common.{◌++◌, ◌∷◌, [], sym, ◌∙◌, ap, subst, append_assoc, inl, inr, refl, length, arith, length-append, ◌≤◌, ◌≡◌}
-use Rattle.cord_script.specs.declared.TheConstants.{MAX_TEXT}
-use Rattle.cord_script.specs.Words.{SpellsText}
+use Rattle.std.specs.Prelude.{◌++◌, ◌∷◌, ◌≤◌, ◌≡◌}
+use Rattle.cord_script.proofs.Common.{[], sym, ◌∙◌, ap, subst, append_assoc, inl, inr, refl, length, arith, length-append, MAX_TEXT}
+use Rattle.cord_script.proofs.Common.{SpellsText}
 use Rattle.cord_script.proofs.Spelled.{spells_push, unit_stands}
 use Rattle.cord_script.proofs.words.quoted.Goals as goal
 

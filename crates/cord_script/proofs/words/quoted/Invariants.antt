@@ -1,6 +1,5 @@
-use Rattle.std.proofs.Common.{◌≡◌, ◌≤◌, ◌++◌, List, ℕ, length}
-use Rattle.cord_script.specs.declared.TheConstants.{MAX_TEXT}
-use Rattle.cord_script.specs.Words.{SpellsText}
+use Rattle.std.specs.Prelude.{◌≡◌, ◌≤◌, ◌++◌}
+use Rattle.cord_script.proofs.Common.{List, ℕ, length, MAX_TEXT, SpellsText}
 use Rattle.cord_script.proofs.words.quoted.Given as goal
 
 abbrev pub invariant-units : goal.invariant-units

@@ -1,7 +1,4 @@
-use Rattle.std.proofs.Common.{sym, subst}
-use Rattle.std.specs.Prelude.{option_map}
-use Rattle.cord_script.specs.Words.{StartsWith}
-use Rattle.cord_script.specs.inner.Words.{HasNext}
+use Rattle.cord_script.proofs.Common.{sym, subst, option_map, StartsWith, HasNext}
 use Rattle.cord_script.proofs.Worded.{starts_push}
 use Rattle.cord_script.proofs.words.words_of.Goals as goal
 

@@ -1,5 +1,4 @@
-use Rattle.std.proofs.Common.{length}
-use Rattle.cord_script.specs.Words.{StartsWith}
+use Rattle.cord_script.proofs.Common.{length, StartsWith}
 use Rattle.cord_script.proofs.words.words_of.Given as goal
 
 abbrev pub invariant-words : goal.invariant-words

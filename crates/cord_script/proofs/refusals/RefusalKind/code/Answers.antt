@@ -1,4 +1,4 @@
-use Rattle.std.proofs.Common.{sym, ap}
+use Rattle.cord_script.proofs.Common.{sym, ap}
 use Rattle.cord_script.specs.Refusals.{code_of}
 use Rattle.cord_script.proofs.refusals.RefusalKind.code.Goals as goal
 

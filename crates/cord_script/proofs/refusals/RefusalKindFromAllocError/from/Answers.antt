@@ -1,4 +1,4 @@
-use Rattle.std.proofs.Common.{rules}
+use Rattle.cord_script.proofs.Common.{rules}
 use Rattle.cord_script.proofs.refusals.RefusalKindFromAllocError.from.Goals as goal
 
 pub returns : goal.returns

@@ -1,7 +1,6 @@
-use Rattle.std.proofs.Common.{◌∷◌, [], ap, sym, subst, map, length, length-append, arith}
+use Rattle.std.specs.Prelude.{◌∷◌}
+use Rattle.cord_script.proofs.Common.{[], ap, sym, subst, map, length, length-append, arith, Operand, GivesAll}
 use Rattle.cord_script.specs.declared.kinds.Kind.TheVariants as kinds
-use Rattle.cord_script.specs.Forms.Term.{Operand}
-use Rattle.cord_script.specs.inner.LineReading.{GivesAll}
 use Rattle.cord_script.proofs.LineReading.{no_field, field_pushed}
 use Rattle.cord_script.proofs.remaining_words.LineWords.cords.Goals as goal
 

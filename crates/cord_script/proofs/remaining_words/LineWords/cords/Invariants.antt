@@ -1,8 +1,6 @@
-use Rattle.std.proofs.Common.{◌≤◌, ◌-◌, length, map}
-use Rattle.cord_script.specs.declared.TheConstants.{MAX_PARTS}
+use Rattle.std.specs.Prelude.{◌≤◌, ◌-◌}
+use Rattle.cord_script.proofs.Common.{length, map, MAX_PARTS, Operand, GivesAll}
 use Rattle.cord_script.specs.declared.kinds.Kind.TheVariants as kinds
-use Rattle.cord_script.specs.Forms.Term.{Operand}
-use Rattle.cord_script.specs.inner.LineReading.{GivesAll}
 use Rattle.cord_script.proofs.remaining_words.LineWords.cords.Given as goal
 
 abbrev pub invariant-cords : goal.invariant-cords

@@ -1,6 +1,4 @@
-use Rattle.std.proofs.Common.{arith, All, eqb-true, subst, ap, ◌∙◌}
-use Rattle.std.proofs.lemmas.List.{take_all}
-use Rattle.cord_script.specs.Words.{IsBlank}
+use Rattle.cord_script.proofs.Common.{arith, All, eqb-true, subst, ap, ◌∙◌, take_all, IsBlank}
 use Rattle.cord_script.proofs.remaining_words.LineWords.is_done.Goals as goal
 
 -- a must-fail edit breaks it

@@ -1,5 +1,4 @@
-use Rattle.std.proofs.Common.{refl, rules}
-use Rattle.cord_script.specs.declared.words.Word.TheVariants.{Plain}
+use Rattle.cord_script.proofs.Common.{refl, rules, Plain}
 use Rattle.cord_script.proofs.LineReading.{word_given}
 use Rattle.cord_script.proofs.remaining_words.LineWords.number.Goals as goal
 

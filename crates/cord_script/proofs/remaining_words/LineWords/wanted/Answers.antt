@@ -1,9 +1,7 @@
-use Rattle.std.proofs.Common.{◌∷◌, [], ◌∙◌, ap, sym, subst, map}
-use Rattle.std.proofs.lemmas.List.{map-append, take_more}
+use Rattle.std.specs.Prelude.{◌∷◌}
+use Rattle.cord_script.proofs.Common.{[], ◌∙◌, ap, sym, subst, map, map-append, take_more, argument_term, argument_want, GivesAll}
 use Rattle.cord_script.specs.declared.kinds.Kind.TheVariants as kinds
 use Rattle.cord_script.specs.declared.kinds.Want.TheVariants as wants
-use Rattle.cord_script.specs.Forms.{argument_term, argument_want}
-use Rattle.cord_script.specs.inner.LineReading.{GivesAll}
 use Rattle.cord_script.proofs.LineReading.{no_field, field_pushed}
 use Rattle.cord_script.proofs.remaining_words.LineWords.wanted.Goals as goal
 

@@ -1,6 +1,5 @@
-use Rattle.std.proofs.Common.{◌≡◌, take, map}
-use Rattle.cord_script.specs.Forms.{argument_term, argument_want}
-use Rattle.cord_script.specs.inner.LineReading.{GivesAll}
+use Rattle.std.specs.Prelude.{◌≡◌}
+use Rattle.cord_script.proofs.Common.{take, map, argument_term, argument_want, GivesAll}
 use Rattle.cord_script.proofs.remaining_words.LineWords.wanted.Given as goal
 
 abbrev pub invariant-loop-want : goal.invariant-loop-want

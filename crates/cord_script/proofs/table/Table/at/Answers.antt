@@ -1,7 +1,5 @@
-use Rattle.std.proofs.Common.{◌≡◌, Some, length, refl, sym, subst, ◌∙◌}
-use Rattle.std.specs.Prelude.{slice_get}
-use Rattle.std.proofs.lemmas.Option.{slice_get_read}
-use Rattle.cord_script.specs.inner.Tables.{AreFirst}
+use Rattle.std.specs.Prelude.{◌≡◌}
+use Rattle.cord_script.proofs.Common.{Some, length, refl, sym, subst, ◌∙◌, slice_get, slice_get_read, AreFirst}
 use Rattle.cord_script.proofs.Firsts.{same_bytes, kind_at}
 use Rattle.cord_script.proofs.table.Table.at.Goals as goal
 

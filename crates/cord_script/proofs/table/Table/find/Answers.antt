@@ -1,5 +1,4 @@
-use Rattle.std.proofs.Common.{sym, subst}
-use Rattle.cord_script.specs.inner.Tables.{AreNames}
+use Rattle.cord_script.proofs.Common.{sym, subst, AreNames}
 use Rattle.cord_script.proofs.Firsts.{known_name, some_by}
 use Rattle.cord_script.proofs.table.Table.find.Goals as goal
 

@@ -1,4 +1,4 @@
-use Rattle.std.proofs.Common.{◌≡◌}
+use Rattle.std.specs.Prelude.{◌≡◌}
 use Rattle.cord_script.proofs.table.Table.guess.Given as goal
 
 abbrev pub invariant-loop-probe : goal.invariant-loop-probe

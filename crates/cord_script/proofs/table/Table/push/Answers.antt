@@ -1,7 +1,5 @@
-use Rattle.std.proofs.Common.{◌≡◌, ◌∷◌, ◌++◌, [], None, sym, subst, rules}
-use Rattle.cord_script.specs.declared.table.Known.{Known}
-use Rattle.cord_script.specs.Script.{kind_of}
-use Rattle.cord_script.specs.inner.Tables.{IsTable}
+use Rattle.std.specs.Prelude.{◌≡◌, ◌∷◌, ◌++◌}
+use Rattle.cord_script.proofs.Common.{[], None, sym, subst, rules, Known, kind_of, IsTable}
 use Rattle.cord_script.proofs.Firsts.{first_push, names_push}
 use Rattle.cord_script.proofs.table.Table.push.Goals as goal
 
