@@ -1,8 +1,8 @@
 -- Members after others.
-use Rattle.std.proofs.Common.{◌≡◌, ℕ, ◌+◌, List, [], ◌∷◌, ◌++◌, map, refl, sym, ap, ◌∙◌, append_assoc, arith}
-use Rattle.std.proofs.lemmas.List.{map-append}
-use Rattle.cord_plan.specs.Exprs.{Expr, Exprs, nothing, member, append, names, names_of, parts_of}
-use Rattle.cord_plan.specs.Views.{Shared, members_of, shared_view}
+use Rattle.std.specs.Prelude.{◌≡◌, ◌+◌, ◌∷◌, ◌++◌}
+use Rattle.cord_plan.proofs.Common.{ℕ, List, [], map, refl, sym, ap, ◌∙◌, append_assoc, arith, map-append, Expr, Exprs, nothing, member}
+use Rattle.cord_plan.proofs.Common.{append, names, parts_of, Shared, members_of, shared_view}
+use Rattle.cord_plan.specs.Exprs.{names_of}
 
 pub append_thrice : (a b c : Exprs) → append (append a b) c ≡ append a (append b c)
 append_thrice nothing b c = refl

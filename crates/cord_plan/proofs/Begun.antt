@@ -1,23 +1,16 @@
 -- The expressions of a script's lines, made line by line, the lines that they take, and the operations that are made of both.
-use Rattle.std.proofs.Common.{◌≡◌, ℕ, ◌+◌, ◌<◌, ◌≤◌, Bool, true, false, ◌||◌, List, [], ◌∷◌, ◌++◌, map, drop, take, length}
-use Rattle.std.proofs.Common.{get_or, set, Option, Some, None, ◌⊎◌, inl, inr, option_map, refl, sym, ap, ◌∙◌, subst, arith}
-use Rattle.std.proofs.Common.{append_assoc, append-nil, length-append}
-use Rattle.std.specs.Prelude.{replicate, slice_get}
+use Rattle.std.specs.Prelude.{◌≡◌, ◌+◌, ◌<◌, ◌≤◌, ◌||◌, ◌∷◌, ◌++◌, ◌⊎◌}
+use Rattle.cord_plan.proofs.Common.{ℕ, Bool, true, false, List, [], map, drop, take, length, get_or, set, Option, Some, None, inl, inr}
+use Rattle.cord_plan.proofs.Common.{option_map, refl, sym, ap, ◌∙◌, subst, arith, append_assoc, append-nil, length-append, replicate}
+use Rattle.cord_plan.proofs.Common.{slice_get, or_assoc, or-false, slice_get_read, at_drop_more, at_drop_all, drop-set-lt, drop_more}
+use Rattle.cord_plan.proofs.Common.{get_or-replicate, length-map, length-replicate, map-append, take_more, Statement, Expr, target_of}
+use Rattle.cord_plan.proofs.Common.{ChoiceTable, Choice, choices, defining, expr_of, expr_with, operands_chosen, grown, exprs, Has}
+use Rattle.cord_plan.proofs.Common.{choice_view, simple_operands, AreExpressions, AreLonger, IsBegun, IsReportedLonger, IsLongerAt, IsStep}
+use Rattle.cord_plan.proofs.Common.{Takes, table_view, Operation, or_nothing, operation, operations, is_dead, is_first, is_from, some_from}
+use Rattle.cord_plan.proofs.Common.{planned, expr_view, operation_view}
 use Rattle.std.proofs.Math.Seq.{take-append_seam}
-use Rattle.std.proofs.Math.Bool.{or_assoc, or-false}
-use Rattle.std.proofs.lemmas.Option.{slice_get_read}
-use Rattle.std.proofs.lemmas.List.{at_drop_more, at_drop_all, drop-set-lt, drop_more, get_or-replicate, length-map, length-replicate}
-use Rattle.std.proofs.lemmas.List.{map-append, take_more}
 use Rattle.std.proofs.lemmas.List.Recursion.{or_push}
-use Rattle.cord_syntax.specs.declared.statements.Statement.{Statement}
-use Rattle.cord_plan.specs.Exprs.{Expr}
-use Rattle.cord_plan.specs.Operands.{target_of}
-use Rattle.cord_plan.specs.Inlined.{ChoiceTable, Choice, choices, defining, expr_of, expr_with, operands_chosen, grown, exprs}
-use Rattle.cord_plan.specs.inner.Choices.{Has, choice_view, simple_operands}
-use Rattle.cord_plan.specs.inner.Steps.{AreExpressions, AreLonger, IsBegun, IsReportedLonger, IsLongerAt, IsStep, Takes, table_view}
 use Rattle.cord_plan.specs.Planned as plan
-use Rattle.cord_plan.specs.Planned.{Operation, or_nothing, operation, operations, is_dead, is_first, is_from, some_from, planned}
-use Rattle.cord_plan.specs.Views.{expr_view, operation_view}
 use Rattle.cord_plan.specs.declared.expressions.Expr as expression
 use Rattle.cord_plan.specs.declared.operations.Operation as program_operation
 use Rattle.cord_plan.specs.declared.planner.operand_choices.Choice as program

@@ -1,16 +1,10 @@
 -- A plan that meets the conditions simulates its script.
-use Rattle.std.proofs.Common.{◌≡◌, ◌<◌, ℕ, zero, suc, ◌+◌, List, [], ◌∷◌, map, Option, Some, None, refl, sym, subst, arith}
-use Rattle.std.specs.Prelude.{slice_get, IsSome}
-use Rattle.cord_io.specs.Device.{FileSystem}
-use Rattle.cord_syntax.specs.declared.statements.Statement.{Statement}
-use Rattle.cord_meaning.specs.Blocks.{Shape, Straight}
-use Rattle.cord_meaning.specs.Paths.{Next}
-use Rattle.cord_meaning.specs.State.{State, start_state}
-use Rattle.cord_meaning.specs.Statements.{act, rules, shape_of, line_of}
-use Rattle.cord_meaning.specs.inner.Simulation.{Agree, IsControl, Simulates}
-use Rattle.cord_plan.specs.Planned.{Operation, operation}
-use Rattle.cord_plan.specs.Meaning.{Holding, does, operation_shape, operation_line, plan_rules, start_holding}
-use Rattle.cord_plan.specs.Conditions.{Decisions, MeetsConditions, decided, decided_from}
+use Rattle.std.specs.Prelude.{◌≡◌, ◌<◌, ◌+◌, ◌∷◌}
+use Rattle.cord_plan.proofs.Common.{ℕ, zero, suc, List, [], map, Option, Some, None, refl, sym, subst, arith, slice_get, IsSome, FileSystem}
+use Rattle.cord_plan.proofs.Common.{Statement, Shape, Straight, Next, State, start_state, act, shape_of, line_of, Agree, IsControl}
+use Rattle.cord_plan.proofs.Common.{Simulates, Operation, operation, Holding, does, operation_shape, operation_line, plan_rules}
+use Rattle.cord_plan.proofs.Common.{start_holding, Decisions, MeetsConditions, decided, decided_from}
+use Rattle.cord_meaning.specs.Statements.{rules}
 use Rattle.cord_plan.proofs.Controls.{all_alike}
 use Rattle.cord_plan.proofs.Invariant.{moves}
 use Rattle.cord_plan.proofs.Decided.{Related, agrees}

@@ -1,11 +1,8 @@
 -- Where control may go that doesn't go on to the next line: after a block's line, to one, or past the end of the script.
-use Rattle.std.proofs.Common.{◌≡◌, ℕ, zero, suc, ◌+◌, ◌⊎◌, Bool, true, List, [], ◌∷◌, drop, Option, Some, None, refl, sym, ap, ◌∙◌, subst}
-use Rattle.std.proofs.Common.{inl, inr, arith}
-use Rattle.std.specs.Prelude.{slice_get}
-use Rattle.cord_meaning.specs.Blocks.{Shape, Straight, Loop, Branch, Otherwise, Close, to_end, to_else, jump_of, jump_at, jump}
-use Rattle.cord_meaning.specs.Paths.{opened, open_at, NextOf, NextOfClose, Next}
-use Rattle.cord_meaning.specs.inner.Simulation.{IsControl}
-use Rattle.cord_plan.specs.Inlined.{is_block}
+use Rattle.std.specs.Prelude.{◌≡◌, ◌+◌, ◌⊎◌, ◌∷◌}
+use Rattle.cord_plan.proofs.Common.{ℕ, zero, suc, Bool, true, List, [], drop, Option, Some, None, refl, sym, ap, ◌∙◌, subst, inl, inr}
+use Rattle.cord_plan.proofs.Common.{arith, slice_get, Shape, Straight, Loop, Branch, Otherwise, Close, to_end, to_else, jump_of, jump_at}
+use Rattle.cord_plan.proofs.Common.{jump, opened, open_at, NextOf, NextOfClose, Next, IsControl, is_block}
 
 -- a block's shape, or none
 abbrev pub is_block_or_none : Option Shape → Bool

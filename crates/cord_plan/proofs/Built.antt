@@ -1,14 +1,8 @@
 -- Only what is read later is built.
-use Rattle.std.proofs.Common.{◌≡◌, ℕ, zero, suc, ◌+◌, Bool, true, false, List, [], ◌∷◌, Option, Some, None, refl, subst}
-use Rattle.std.proofs.Common.{arith}
-use Rattle.std.specs.Prelude.{slice_get}
-use Rattle.cord_syntax.specs.declared.statements.Statement.{Statement}
-use Rattle.cord_syntax.specs.declared.statements.Statement.TheVariants.{Put}
-use Rattle.cord_plan.specs.Exprs.{Expr}
-use Rattle.cord_plan.specs.Operands.{target_of}
-use Rattle.cord_plan.specs.Inlined.{ChoiceTable}
-use Rattle.cord_plan.specs.Planned.{Made, Operation, Build, Measure, Write, Keep, or_nothing, operation, operations, is_dead}
-use Rattle.cord_plan.specs.Planned.{is_first}
+use Rattle.std.specs.Prelude.{◌≡◌, ◌+◌, ◌∷◌}
+use Rattle.cord_plan.proofs.Common.{ℕ, zero, suc, Bool, true, false, List, [], Option, Some, None, refl, subst, arith, slice_get, Statement}
+use Rattle.cord_plan.proofs.Common.{Put, Expr, target_of, ChoiceTable, Made, Operation, Build, Measure, Write, Keep, or_nothing, operation}
+use Rattle.cord_plan.proofs.Common.{operations, is_dead, is_first}
 
 -- the name that an operation builds
 abbrev built : Operation → Option (List ℕ)

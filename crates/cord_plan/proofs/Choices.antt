@@ -1,13 +1,8 @@
 -- The choices for a line's operands, from left to right.
-use Rattle.std.proofs.Common.{◌≡◌, ℕ, ◌+◌, ◌<◌, Bool, List, [], ◌∷◌, ◌++◌, map, drop, length, get_or, Option, Some, None, refl}
-use Rattle.std.proofs.Common.{sym, ap, ◌∙◌}
-use Rattle.std.proofs.lemmas.List.{at_drop_more}
-use Rattle.cord_syntax.specs.declared.statements.Statement.{Statement}
-use Rattle.cord_syntax.specs.declared.statements.Statement.TheVariants.{Cat}
-use Rattle.cord_plan.specs.Exprs.{Expr, name}
-use Rattle.cord_plan.specs.Operands.{read_by}
-use Rattle.cord_plan.specs.Inlined.{Choice, named, ChoiceTable, expr_of, expr_with, setter, chosen_of, choices, entry, operands_chosen, defining}
-use Rattle.cord_plan.specs.inner.Choices.{simple_operands}
+use Rattle.std.specs.Prelude.{◌≡◌, ◌+◌, ◌<◌, ◌∷◌, ◌++◌}
+use Rattle.cord_plan.proofs.Common.{ℕ, Bool, List, [], map, drop, length, get_or, Option, Some, None, refl, sym, ap, ◌∙◌, at_drop_more}
+use Rattle.cord_plan.proofs.Common.{Statement, Cat, Expr, name, read_by, Choice, named, ChoiceTable, expr_of, expr_with, setter, chosen_of}
+use Rattle.cord_plan.proofs.Common.{choices, entry, operands_chosen, defining, simple_operands}
 
 -- a simple line reads its operands
 pub simple_reads : (l : Statement) (xs : List (List ℕ)) → simple_operands l ≡ Some xs → read_by l ≡ xs

@@ -1,15 +1,10 @@
 -- What stands for the operands of a line, and what holds of each entry of a script's table.
-use Rattle.std.proofs.Common.{◌≡◌, ◌⊎◌, ℕ, zero, suc, ◌+◌, ◌<◌, ◌≤◌, Bool, true, false, ◌&&◌, List, [], ◌∷◌, ◌++◌, map, length, Option, Some}
-use Rattle.std.proofs.Common.{None, refl, sym, ap, ◌∙◌, subst, inl, inr, ⊎_elim, arith, append_assoc, append-nil, length-append}
-use Rattle.std.specs.Prelude.{slice_get, if◌then◌else◌}
-use Rattle.std.proofs.Math.Nat.{eq-or-lt_of_le}
-use Rattle.std.proofs.lemmas.List.{map-append}
-use Rattle.cord_syntax.specs.declared.statements.Statement.{Statement}
-use Rattle.cord_plan.specs.Exprs.{Expr, name}
-use Rattle.cord_plan.specs.Operands.{assigns, assigns_at}
-use Rattle.cord_plan.specs.Inlined.{ChoiceTable, Choice, named, replaced, expr_of, expr_with, first_of, defining, setter, fits, is_small}
-use Rattle.cord_plan.specs.Inlined.{chosen_from}
-use Rattle.cord_plan.specs.Inlined.{chosen_of, choices, operands_chosen, grown, exprs}
+use Rattle.std.specs.Prelude.{◌≡◌, ◌⊎◌, ◌+◌, ◌<◌, ◌≤◌, ◌&&◌, ◌∷◌, ◌++◌, if◌then◌else◌}
+use Rattle.cord_plan.proofs.Common.{ℕ, zero, suc, Bool, true, false, List, [], map, length, Option, Some, None, refl, sym, ap, ◌∙◌, subst}
+use Rattle.cord_plan.proofs.Common.{inl, inr, ⊎_elim, arith, append_assoc, append-nil, length-append, slice_get, eq-or-lt_of_le, map-append}
+use Rattle.cord_plan.proofs.Common.{Statement, Expr, name, assigns, assigns_at, ChoiceTable, Choice, named, replaced, expr_of, expr_with}
+use Rattle.cord_plan.proofs.Common.{first_of, defining, setter, fits, is_small, chosen_from, chosen_of, choices, operands_chosen, grown}
+use Rattle.cord_plan.proofs.Common.{exprs}
 use Rattle.cord_plan.proofs.Pushed.{get_before}
 
 pub both_true : (a b : Bool) → (a && b) ≡ true → (a ≡ true) × (b ≡ true)

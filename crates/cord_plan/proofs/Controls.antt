@@ -1,12 +1,8 @@
 -- What an operation is to control, beside its statement.
-use Rattle.std.proofs.Common.{◌≡◌, Bool, true, false, Some, refl, sym}
-use Rattle.cord_syntax.specs.declared.statements.Statement.{Statement}
-use Rattle.cord_syntax.specs.declared.statements.Statement.TheVariants.{Repeat, If}
-use Rattle.cord_meaning.specs.State.{State}
-use Rattle.cord_meaning.specs.Statements.{shape_of, line_of, repeat_count, holds_of, compares}
-use Rattle.cord_plan.specs.Exprs.{Expr}
-use Rattle.cord_plan.specs.Planned.{Operation, operation}
-use Rattle.cord_plan.specs.Meaning.{Holding, operation_shape, operation_line, operation_count, operation_holds}
+use Rattle.std.specs.Prelude.{◌≡◌}
+use Rattle.cord_plan.proofs.Common.{Bool, true, false, Some, refl, sym, Statement, Repeat, If, State, shape_of, line_of, repeat_count}
+use Rattle.cord_plan.proofs.Common.{holds_of, compares, Expr, Operation, operation, Holding, operation_shape, operation_line}
+use Rattle.cord_plan.proofs.Common.{operation_count, operation_holds}
 use Rattle.cord_plan.proofs.Evaluation.{plain_number}
 
 -- an operation is to control what its statement is, where what is held has the statement's numbers

@@ -1,43 +1,26 @@
 -- Each operation of a plan that meets the conditions does what its statement does.
-use Rattle.std.proofs.Common.{◌≡◌, ℕ, ◌+◌, ◌⊎◌, ◌++◌, ℤ, pos, Bool, true, false, ◌||◌, List, [], ◌∷◌, length, map, Option, Some, None}
-use Rattle.std.proofs.Common.{Result, Ok, Err, refl, sym, ap, ◌∙◌, subst, inl, inr, ⊎_elim, append_assoc}
-use Rattle.std.specs.Prelude.{slice_get, if◌then◌else◌, ◌&&◌, ◌+ℤ◌, ◌-ℤ◌}
-use Rattle.std.specs.Str.{bytes_eq}
-use Rattle.cord_io.specs.Device.{FileSystem}
+use Rattle.std.specs.Prelude.{◌≡◌, ◌+◌, ◌⊎◌, ◌++◌, ◌||◌, ◌∷◌, if◌then◌else◌, ◌&&◌, ◌+ℤ◌, ◌-ℤ◌}
+use Rattle.cord_plan.proofs.Common.{ℕ, ℤ, pos, Bool, true, false, List, [], length, map, Option, Some, None, Result, Ok, Err, refl, sym, ap}
+use Rattle.cord_plan.proofs.Common.{◌∙◌, subst, inl, inr, ⊎_elim, append_assoc, slice_get, bytes_eq, FileSystem, Argument, Numeral}
+use Rattle.cord_plan.proofs.Common.{Statement, Let, File, Eager, Lazy, Chars, Nul, FromFn, Cat, Catn, Catc, Substr, Balance, EcToCord}
+use Rattle.cord_plan.proofs.Common.{Sprintf, Len, Fetch, Cmp, Ncmp, Str, Chr, Rchr, Assign, Add, Sub, EcInit, EcPut, EcCat, EcStr, Put}
+use Rattle.cord_plan.proofs.Common.{Repeat, If, Else, End, FaultKind, Overflow, Straight, State, Outcome, number_value, and_then, as_index}
+use Rattle.cord_plan.proofs.Common.{as_byte, as_length, fits_i64, has_number, sets_number, sets_extensible, act, shape_of, byte_of_text}
+use Rattle.cord_plan.proofs.Common.{file_text, function_text, piece_argument, format_text, unless_refused, Agree, Expr, run, cat, sub}
+use Rattle.cord_plan.proofs.Common.{Exprs, nothing, member, append, preceding, members, read_by, target_of, is_this_name, cord_arguments}
+use Rattle.cord_plan.proofs.Common.{assigns, assigns_at, reads_at, NotLive, expr_with, defining, Made, Joined, Literal, OfFile, OfEager}
+use Rattle.cord_plan.proofs.Common.{OfLazy, OfFunction, Balanced, OfExtensible, Printed, gives, operation, within, length_of, text_in}
+use Rattle.cord_plan.proofs.Common.{gives_text, HaveTexts, Held, Text, Long, Holding, plain, held_text, is_text, all_texts, cords, cords_of}
+use Rattle.cord_plan.proofs.Common.{texts_to_build, texts_to_measure, made_text, made_length, keeps, does, Decisions, is_simple}
+use Rattle.cord_plan.proofs.Common.{is_simple_at, makes_cord, stands, MeetsConditions}
 use Rattle.cord_printf.specs.declared.pieces.Piece.{Piece}
 use Rattle.cord_printf.specs.PieceText.{PieceArgument, number, text, printed, first_refusal}
-use Rattle.cord_operands.specs.declared.operands.Argument.{Argument}
 use Rattle.cord_operands.specs.declared.operands.Argument.TheVariants as arguments
-use Rattle.cord_operands.specs.declared.operands.Number.TheVariants.{Numeral}
-use Rattle.cord_syntax.specs.declared.statements.Statement.{Statement}
-use Rattle.cord_syntax.specs.declared.statements.Statement.TheVariants.{Let, File, Eager, Lazy, Chars, Nul, FromFn, Cat, Catn, Catc, Substr}
-use Rattle.cord_syntax.specs.declared.statements.Statement.TheVariants.{Balance, EcToCord, Sprintf, Len, Fetch, Cmp, Ncmp, Str, Chr, Rchr}
-use Rattle.cord_syntax.specs.declared.statements.Statement.TheVariants.{Assign, Add, Sub, EcInit, EcPut, EcCat, EcStr, Put, Repeat, If}
-use Rattle.cord_syntax.specs.declared.statements.Statement.TheVariants.{Else, End}
-use Rattle.cord_meaning.specs.declared.ends.FaultKind.{FaultKind}
-use Rattle.cord_meaning.specs.declared.ends.FaultKind.TheVariants.{Overflow}
-use Rattle.cord_meaning.specs.Blocks.{Straight}
-use Rattle.cord_meaning.specs.State.{State, Outcome, number_value, and_then, as_index, as_byte, as_length, fits_i64, has_number}
-use Rattle.cord_meaning.specs.State.{sets_number, sets_extensible}
-use Rattle.cord_meaning.specs.Statements.{act, shape_of, byte_of_text, file_text, function_text}
-use Rattle.cord_meaning.specs.Formats.{piece_argument, format_text, unless_refused}
-use Rattle.cord_meaning.specs.inner.Simulation.{Agree}
-use Rattle.cord_plan.specs.Exprs.{Expr, run, cat, sub, Exprs, nothing, member, append, preceding, members}
-use Rattle.cord_plan.specs.Operands.{read_by, target_of, is_this_name, cord_arguments, assigns, assigns_at, reads_at}
-use Rattle.cord_plan.specs.Liveness.{NotLive}
-use Rattle.cord_plan.specs.Inlined.{expr_with, defining}
-use Rattle.cord_plan.specs.Planned.{Made, Joined, Literal, OfFile, OfEager, OfLazy, OfFunction, Balanced, OfExtensible, Printed, gives}
-use Rattle.cord_plan.specs.Planned.{operation}
-use Rattle.cord_plan.specs.Values.{within, length_of, text_in, gives_text}
-use Rattle.cord_plan.specs.Flattening.{HaveTexts}
-use Rattle.cord_plan.specs.Meaning.{Held, Text, Long, Holding, plain, held_text, is_text, all_texts, cords, cords_of, texts_to_build}
-use Rattle.cord_plan.specs.Meaning.{texts_to_measure, opened, made_text, made_length, keeps, does}
-use Rattle.cord_plan.specs.Conditions.{Decisions, is_simple, is_simple_at, makes_cord, stands, MeetsConditions}
+use Rattle.cord_plan.specs.Meaning.{opened}
 use Rattle.cord_plan.proofs.Keeps.{IsVerbatimButLen, Agrees}
 use Rattle.cord_plan.proofs.Values.{within_length}
 use Rattle.cord_plan.proofs.DefiningExpressions.{sets_within}
-use Rattle.cord_plan.proofs.Evaluation.{In, in_either, plain_number, value_same, extent_is, line_gives, gives_after}
-use Rattle.cord_plan.proofs.Evaluation.{function_gives}
+use Rattle.cord_plan.proofs.Evaluation.{In, in_either, plain_number, value_same, extent_is, line_gives, gives_after, function_gives}
 use Rattle.cord_plan.proofs.Named.{own_bytes}
 use Rattle.cord_plan.proofs.OperationEffects.{built_agrees, measured_agrees, put_agrees, len_agrees, kept_agrees, with_others}
 use Rattle.cord_plan.proofs.Invariant.{not_both, has_in, unset_same, Ready, Inv, lengths, inv_set, inv_on, operand, operand_text}

@@ -1,13 +1,13 @@
 -- The decimal form of numbers, as it is printed.
-use Rattle.std.proofs.Common.{◌≡◌, ◌<◌, ◌^◌, ℕ, zero, suc, ◌+◌, ◌-◌, ◌∷◌, ◌++◌, length, replicate, refl, sym, ap, ◌∙◌, arith}
-use Rattle.std.proofs.Common.{ℤ, pos, negsuc, w64, to_z, of_z}
+use Rattle.std.specs.Prelude.{◌≡◌, ◌<◌, ◌^◌, ◌+◌, ◌-◌, ◌∷◌, ◌++◌}
+use Rattle.cord_plan.proofs.Common.{ℕ, zero, suc, length, replicate, refl, sym, ap, ◌∙◌, arith, ℤ, pos, negsuc, w64, to_z, of_z, decimal}
+use Rattle.cord_plan.proofs.Common.{signed_decimal}
 use mir.Val.{SFits}
 use lib.Signed.{mag}
 use Rattle.std.proofs.lemmas.Int.{to_z-of_z}
 use Rattle.std.specs.Fmt as std
 use Rattle.std.proofs.lemmas.Fmt.{decimal_nonempty}
 use Rattle.cord_printf.proofs.Figures.{decimal-figures}
-use Rattle.cord_plan.specs.PlanText.{decimal, signed_decimal}
 
 above_zero : (n : ℕ) → 0 < n → n < 2 ^ 64 → std.decimal n ≡ decimal n
 above_zero n some fits =

@@ -1,20 +1,10 @@
 -- A line does what its defining expression means.
-use Rattle.std.proofs.Common.{◌≡◌, ℕ, ◌<◌, Bool, true, false, List, [], ◌∷◌, ◌++◌, length, map, take, drop, Option, Some, None, Result, Ok}
-use Rattle.std.proofs.Common.{Err, refl, sym, ap, ◌∙◌, arith, append-nil, length-append}
-use Rattle.std.specs.Prelude.{nat_le, replicate, flat_map, if◌then◌else◌}
-use Rattle.std.proofs.lemmas.Bool.{leb-false, lt-leb}
-use Rattle.std.proofs.lemmas.List.{length-replicate}
-use Rattle.cord_io.specs.Device.{FileSystem}
-use Rattle.cord_syntax.specs.declared.statements.Statement.{Statement}
-use Rattle.cord_syntax.specs.declared.statements.Statement.TheVariants.{Chars, Nul, Cat, Catn, Catc, Substr, Put}
-use Rattle.cord_meaning.specs.declared.ends.FaultKind.{FaultKind}
-use Rattle.cord_meaning.specs.declared.ends.FaultKind.TheVariants.{TooLong}
-use Rattle.cord_meaning.specs.State.{State, number_value, and_then, as_index, as_byte, as_length, sets_text, with_value}
-use Rattle.cord_meaning.specs.Statements.{act}
-use Rattle.cord_plan.specs.Exprs.{Expr, name, members}
-use Rattle.cord_plan.specs.Operands.{target_of}
-use Rattle.cord_plan.specs.Inlined.{defining}
-use Rattle.cord_plan.specs.Values.{within, values, text_in, gives_text, puts_text}
+use Rattle.std.specs.Prelude.{◌≡◌, ◌<◌, ◌∷◌, ◌++◌, if◌then◌else◌}
+use Rattle.cord_plan.proofs.Common.{ℕ, Bool, true, false, List, [], length, map, take, drop, Option, Some, None, Result, Ok, Err, refl, sym}
+use Rattle.cord_plan.proofs.Common.{ap, ◌∙◌, arith, append-nil, length-append, nat_le, replicate, flat_map, leb-false, lt-leb}
+use Rattle.cord_plan.proofs.Common.{length-replicate, FileSystem, Statement, Chars, Nul, Cat, Catn, Catc, Substr, Put, FaultKind, TooLong}
+use Rattle.cord_plan.proofs.Common.{State, number_value, and_then, as_index, as_byte, as_length, sets_text, with_value, act, Expr, name}
+use Rattle.cord_plan.proofs.Common.{members, target_of, defining, within, values, text_in, gives_text, puts_text}
 
 module _ (limit : ℕ) (s : State) where
   -- a name gets a text that is within the limit

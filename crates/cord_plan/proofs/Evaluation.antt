@@ -1,22 +1,13 @@
 -- Values of expressions: which names they depend on, and what a line does by the value of its expression.
-use Rattle.std.proofs.Common.{◌≡◌, ℕ, ◌⊎◌, List, [], ◌∷◌, ◌++◌, length, map, Option, Some, Result, Ok, Err, refl, sym, ap, ◌∙◌, subst}
-use Rattle.std.proofs.Common.{inl, inr, ⊎_elim}
-use Rattle.cord_io.specs.Device.{FileSystem}
-use Rattle.cord_operands.specs.declared.operands.Number.{Number}
-use Rattle.cord_operands.specs.declared.operands.Number.TheVariants.{Numeral, Named}
+use Rattle.std.specs.Prelude.{◌≡◌, ◌⊎◌, ◌∷◌, ◌++◌}
+use Rattle.cord_plan.proofs.Common.{ℕ, List, [], length, map, Option, Some, Result, Ok, Err, refl, sym, ap, ◌∙◌, subst, inl, inr, ⊎_elim}
+use Rattle.cord_plan.proofs.Common.{FileSystem, Number, Numeral, Named, Statement, FromFn, FaultKind, State, number_value, and_then}
+use Rattle.cord_plan.proofs.Common.{as_index, as_length, sets_text, act, function_text, Expr, name, run, cat, sub, Exprs, nothing, member}
+use Rattle.cord_plan.proofs.Common.{names, number_names, read_by, target_of, expr_with, defining, within, copies, part_of, values, measured}
+use Rattle.cord_plan.proofs.Common.{length_of, text_in, gives_text, HaveTexts, OfFunction, Holding, plain, held_length, cords, cords_of}
+use Rattle.cord_plan.proofs.Common.{extent, made_text}
 use Rattle.cord_operands.specs.declared.operands.Function.{Function}
-use Rattle.cord_syntax.specs.declared.statements.Statement.{Statement}
-use Rattle.cord_syntax.specs.declared.statements.Statement.TheVariants.{FromFn}
-use Rattle.cord_meaning.specs.declared.ends.FaultKind.{FaultKind}
-use Rattle.cord_meaning.specs.State.{State, number_value, and_then, as_index, as_length, sets_text}
-use Rattle.cord_meaning.specs.Statements.{act, function_text}
-use Rattle.cord_plan.specs.Exprs.{Expr, name, run, cat, sub, Exprs, nothing, member, names, names_of, number_names}
-use Rattle.cord_plan.specs.Operands.{read_by, target_of}
-use Rattle.cord_plan.specs.Inlined.{expr_with, defining}
-use Rattle.cord_plan.specs.Values.{within, copies, part_of, values, measured, length_of, text_in, gives_text}
-use Rattle.cord_plan.specs.Flattening.{HaveTexts}
-use Rattle.cord_plan.specs.Planned.{OfFunction}
-use Rattle.cord_plan.specs.Meaning.{Holding, plain, held_length, cords, cords_of, extent, made_text}
+use Rattle.cord_plan.specs.Exprs.{names_of}
 use Rattle.cord_plan.proofs.Values.{measure_is}
 use Rattle.cord_plan.proofs.Flattening.{MeanSame, replaced_means}
 use Rattle.cord_plan.proofs.DefiningExpressions.{Means, defining_means, sets_within}

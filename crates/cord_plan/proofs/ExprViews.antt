@@ -1,24 +1,16 @@
 -- The equations of `expr_view`, one for each variant, and of `members_view`.
-use Rattle.std.proofs.Common.{◌≡◌, ℕ, List, [], map, Option, Some, None, Global, sym, ap, ◌∙◌}
-use Rattle.std.specs.declared.rc.Rc.{Rc}
-use Rattle.std.proofs.lemmas.Simd.{map-map}
-use Rattle.cord_operands.specs.declared.operands.Number.{Number}
+use Rattle.std.specs.Prelude.{◌≡◌}
+use Rattle.cord_plan.proofs.Common.{ℕ, List, [], map, Option, Some, None, Global, sym, ap, ◌∙◌, Rc, map-map, Number, append, expr_view}
+use Rattle.cord_plan.proofs.Common.{expr_step, members_of, members_view, members_step, pair_step, rest_step, rest_view, shared_view}
+use Rattle.cord_plan.proofs.Common.{single_step, Name, Run, rolls-Name, rolls-Run, rolls-Cat, rolls-Sub, out-Members, roll-Members, Members}
+use Rattle.cord_plan.proofs.Common.{Rest, Nothing, One, Two, rolls-Nothing, rolls-One, rolls-Two, Single}
 use Rattle.cord_plan.specs.Exprs as plain
-use Rattle.cord_plan.specs.Exprs.{append}
-use Rattle.cord_plan.specs.Views.{expr_view, expr_step, members_of, members_view, members_step, pair_step, rest_step}
-use Rattle.cord_plan.specs.inner.Views.{rest_view}
-use Rattle.cord_plan.specs.Views.{shared_view, single_step}
 use Rattle.cord_plan.specs.declared.expressions.Expr.{Expr, Expr-F, fold-roll-Expr}
 use Rattle.cord_plan.specs.declared.expressions.Expr.TheOpen.{Rest-F}
-use Rattle.cord_plan.specs.declared.expressions.Expr.TheVariants.{Name, Run, Cat, Sub, rolls-Name, rolls-Run, rolls-Cat, rolls-Sub}
-use Rattle.cord_plan.specs.declared.expressions.Expr.TheViews.{out-Members, roll-Members}
-use Rattle.cord_plan.specs.declared.expressions.Expr.TheFolds.{fold-roll-Members, fold-roll-Rest, fold_out-Members}
-use Rattle.cord_plan.specs.declared.expressions.Expr.TheFolds.{fold_out-Pair, fold_out-Single}
-use Rattle.cord_plan.specs.declared.expressions.Members.{Members}
+use Rattle.cord_plan.specs.declared.expressions.Expr.TheVariants.{Cat, Sub}
+use Rattle.cord_plan.specs.declared.expressions.Expr.TheFolds.{fold-roll-Members, fold-roll-Rest, fold_out-Members, fold_out-Pair}
+use Rattle.cord_plan.specs.declared.expressions.Expr.TheFolds.{fold_out-Single}
 use Rattle.cord_plan.specs.declared.expressions.Pair.{Pair}
-use Rattle.cord_plan.specs.declared.expressions.Rest.{Rest}
-use Rattle.cord_plan.specs.declared.expressions.Rest.TheVariants.{Nothing, One, Two, rolls-Nothing, rolls-One, rolls-Two}
-use Rattle.cord_plan.specs.declared.expressions.Single.{Single}
 
 pub view-Name : (x : List ℕ) → expr_view (Name x) ≡ plain.name x
 view-Name x = ap expr_view (sym (rolls-Name x))

@@ -1,22 +1,11 @@
 -- What is known of expressions: their parts and names, and the entries for the lines so far.
-use Rattle.std.proofs.Common.{◌≡◌, ℕ, zero, suc, ◌+◌, ◌*◌, ◌<◌, Bool, true, false, ◌&&◌, ◌||◌, List, [], ◌∷◌, ◌++◌, map, length, Option}
-use Rattle.std.proofs.Common.{Some, None, refl, sym, ap, ◌∙◌, subst, arith, if◌then◌else◌}
-use Rattle.std.specs.Prelude.{not, slice_get}
-use Rattle.std.specs.Str.{bytes_eq}
-use Rattle.std.specs.Int.RustNames.{bit_or}
-use Rattle.std.proofs.Math.Bool.{or-false}
-use Rattle.cord_syntax.specs.declared.statements.Statement.{Statement}
-use Rattle.cord_syntax.specs.declared.statements.Statement.TheVariants.{Cat, Catn}
-use Rattle.cord_plan.specs.Exprs.{Expr, Exprs, cat, nothing, preceding, members}
-use Rattle.cord_plan.specs.Exprs.{names, names_of, parts}
-use Rattle.cord_plan.specs.Operands.{has}
+use Rattle.std.specs.Prelude.{◌≡◌, ◌+◌, ◌*◌, ◌<◌, ◌&&◌, ◌||◌, ◌∷◌, ◌++◌, if◌then◌else◌}
+use Rattle.cord_plan.proofs.Common.{ℕ, zero, suc, Bool, true, false, List, [], map, length, Option, Some, None, refl, sym, ap, ◌∙◌, subst}
+use Rattle.cord_plan.proofs.Common.{arith, not, slice_get, bytes_eq, bit_or, or-false, Statement, Cat, Catn, Expr, Exprs, cat, nothing}
+use Rattle.cord_plan.proofs.Common.{preceding, members, names, parts, has, Has, IsChoice, expression_in, simple_operands, HasFacts, IsFacts}
+use Rattle.cord_plan.proofs.Common.{IsChoiceOf, AreFactsOf, IsBit, Marks, bit, number_of, lacks, Numbering}
+use Rattle.cord_plan.specs.Exprs.{names_of}
 use Rattle.cord_plan.specs.Inlined as plain
-use Rattle.cord_plan.specs.inner.Choices.{Has, IsChoice, expression_in, simple_operands}
-use Rattle.cord_plan.specs.inner.ExpressionFacts.{HasFacts, IsFacts, IsChoiceOf, AreFactsOf}
-use Rattle.cord_plan.specs.inner.NameSets.{IsBit, Marks, bit}
-use Rattle.cord_plan.specs.inner.Numbering.{number_of}
-use Rattle.cord_plan.specs.Exprs.{lacks}
-use Rattle.cord_plan.specs.declared.flow.numbering.Numbering.{Numbering}
 use Rattle.cord_plan.specs.declared.planner.expression_facts.Facts.{Facts}
 use Rattle.cord_plan.specs.declared.planner.expression_facts.ExpressionFacts.{ExpressionFacts}
 use Rattle.cord_plan.proofs.MarkedNames.{marks_or, marks_same}

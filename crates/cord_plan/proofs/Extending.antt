@@ -1,21 +1,13 @@
 -- Operations that join what the one before them joins, and one member more.
-use Rattle.std.proofs.Common.{◌≡◌, ℕ, zero, suc, ◌+◌, ◌-◌, Bool, true, false, List, [], ◌∷◌, map, get_or}
-use Rattle.std.proofs.Common.{Option, Some, pos, refl, sym, ap, ◌∙◌, subst, arith}
-use Rattle.std.specs.Prelude.{◌&&◌, ◌||◌, ◌==◌, slice_get}
-use Rattle.std.proofs.Math.Bool.{and-false}
-use Rattle.std.proofs.lemmas.Bool.{eqb-true}
-use Rattle.cord_operands.specs.declared.operands.Number.{Number}
-use Rattle.cord_operands.specs.declared.operands.Number.TheVariants.{Numeral}
-use Rattle.cord_syntax.specs.declared.statements.Statement.{Statement}
-use Rattle.cord_syntax.specs.declared.statements.Statement.TheVariants.{Chars, Nul, Cat, Catn, Catc, Substr, Put}
-use Rattle.cord_plan.specs.Exprs.{Expr, Exprs, name, run, cat, nothing, member, append, lacks, members, names, names_of}
-use Rattle.cord_plan.specs.Extending.{Extends, IsLonger, joined_at, joined_by}
-use Rattle.cord_plan.specs.inner.Extensions.{AreExtending}
-use Rattle.cord_plan.specs.Inlined.{Choice, ChoiceTable, choices, defining, expr_of, expr_with, exprs, named, operands_chosen, preserves}
-use Rattle.cord_plan.specs.Inlined.{replaced}
-use Rattle.cord_plan.specs.inner.Steps.{AreLonger, IsLongerAt, is_last, is_longer, is_named}
-use Rattle.cord_plan.specs.Operands.{assigns, read_by, target_of}
-use Rattle.cord_plan.specs.Planned.{Joined, Operation, gives, is_dead, is_first, operation, or_nothing, planned}
+use Rattle.std.specs.Prelude.{◌≡◌, ◌+◌, ◌-◌, ◌∷◌, ◌&&◌, ◌||◌, ◌==◌}
+use Rattle.cord_plan.proofs.Common.{ℕ, zero, suc, Bool, true, false, List, [], map, get_or, Option, Some, pos, refl, sym, ap, ◌∙◌, subst}
+use Rattle.cord_plan.proofs.Common.{arith, slice_get, and-false, eqb-true, Number, Numeral, Statement, Chars, Nul, Cat, Catn, Catc, Substr}
+use Rattle.cord_plan.proofs.Common.{Put, Expr, Exprs, name, run, cat, nothing, member, append, lacks, members, names, Extends, IsLonger}
+use Rattle.cord_plan.proofs.Common.{joined_at, joined_by, AreExtending, Choice, ChoiceTable, choices, defining, expr_of, expr_with, exprs}
+use Rattle.cord_plan.proofs.Common.{named, operands_chosen, preserves, replaced, AreLonger, IsLongerAt, is_last, is_longer, is_named}
+use Rattle.cord_plan.proofs.Common.{assigns, read_by, target_of, Joined, Operation, gives, is_dead, is_first, operation, or_nothing}
+use Rattle.cord_plan.proofs.Common.{planned}
+use Rattle.cord_plan.specs.Exprs.{names_of}
 use Rattle.cord_plan.proofs.Chosen.{AreChosen, IsPrefix, Taken, are_chosen, both_true, each_entry, line_there}
 use Rattle.cord_plan.proofs.Lacking.{preserves_lacking}
 use Rattle.cord_plan.proofs.Pairs.{EntryOf, entry_of, taken_at, taken_facts}

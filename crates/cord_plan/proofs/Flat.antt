@@ -1,17 +1,11 @@
 -- No `cat` is a member of a `cat` in the expressions of a plan.
-use Rattle.std.proofs.Common.{◌≡◌, ℕ, zero, suc, ◌+◌, Bool, true, false, List, [], ◌∷◌, ◌++◌, map, Option, Some, None, refl, subst}
-use Rattle.std.specs.Prelude.{slice_get, if◌then◌else◌, ◌||◌, ◌&&◌, pos}
-use Rattle.cord_operands.specs.declared.operands.Number.TheVariants.{Numeral}
-use Rattle.cord_syntax.specs.declared.statements.Statement.{Statement}
-use Rattle.cord_syntax.specs.declared.statements.Statement.TheVariants.{Chars, Nul, Cat, Catn, Catc, Substr}
-use Rattle.cord_syntax.specs.declared.statements.Statement.TheVariants.{Put}
-use Rattle.cord_plan.specs.Exprs.{Expr, name, run, cat, sub, Exprs, nothing, member, append, preceding, members}
-use Rattle.cord_plan.specs.Operands.{read_by, target_of}
+use Rattle.std.specs.Prelude.{◌≡◌, ◌+◌, ◌∷◌, ◌++◌, if◌then◌else◌, ◌||◌, ◌&&◌}
+use Rattle.cord_plan.proofs.Common.{ℕ, zero, suc, Bool, true, false, List, [], map, Option, Some, None, refl, subst, slice_get, pos}
+use Rattle.cord_plan.proofs.Common.{Numeral, Statement, Chars, Nul, Cat, Catn, Catc, Substr, Put, Expr, name, run, cat, sub, Exprs, nothing}
+use Rattle.cord_plan.proofs.Common.{member, append, preceding, members, read_by, target_of, ChoiceTable, Choice, named, replaced, expr_of}
+use Rattle.cord_plan.proofs.Common.{expr_with, first_of, defining, setter, fits, is_small, chosen_from, chosen_of, choices, operands_chosen}
+use Rattle.cord_plan.proofs.Common.{exprs, Operation, Joined, gives, or_nothing, operation, operations, is_dead, is_first}
 use Rattle.cord_plan.specs.Flat.{IsFlat, AreMembers, IsFlatOperation}
-use Rattle.cord_plan.specs.Inlined.{ChoiceTable, Choice, named, replaced, expr_of, expr_with, first_of, defining, setter, fits, is_small}
-use Rattle.cord_plan.specs.Inlined.{chosen_from}
-use Rattle.cord_plan.specs.Inlined.{chosen_of, choices, operands_chosen, exprs}
-use Rattle.cord_plan.specs.Planned.{Operation, Joined, gives, or_nothing, operation, operations, is_dead, is_first}
 use Rattle.cord_plan.proofs.Chosen.{each_entry}
 
 append_flat : (es others : Exprs) → AreMembers es → AreMembers others → AreMembers (append es others)

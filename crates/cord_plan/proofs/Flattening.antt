@@ -1,16 +1,9 @@
 -- A `cat` flattened means what the nested one means; expressions in the place of operands mean what the operands do.
-use Rattle.std.proofs.Common.{◌≡◌, ℕ, pos, List, [], ◌∷◌, ◌++◌, map, Option, Some, None, Result, Ok, Err, refl, sym, ap, ◌∙◌, append_assoc}
-use Rattle.std.proofs.Common.{append-nil}
-use Rattle.cord_operands.specs.declared.operands.Number.TheVariants.{Numeral}
-use Rattle.cord_syntax.specs.declared.statements.Statement.{Statement}
-use Rattle.cord_syntax.specs.declared.statements.Statement.TheVariants.{Chars, Nul, Cat, Catn, Catc, Substr, Put}
-use Rattle.cord_meaning.specs.declared.ends.FaultKind.{FaultKind}
-use Rattle.cord_meaning.specs.State.{State, number_value, and_then}
-use Rattle.cord_plan.specs.Exprs.{Expr, name, run, cat, Exprs, nothing, member, append, preceding, members}
-use Rattle.cord_plan.specs.Operands.{read_by}
-use Rattle.cord_plan.specs.Inlined.{expr_with, defining}
-use Rattle.cord_plan.specs.Values.{within, part_of, text_in}
-use Rattle.cord_plan.specs.Flattening.{nested, HaveTexts}
+use Rattle.std.specs.Prelude.{◌≡◌, ◌∷◌, ◌++◌}
+use Rattle.cord_plan.proofs.Common.{ℕ, pos, List, [], map, Option, Some, None, Result, Ok, Err, refl, sym, ap, ◌∙◌, append_assoc}
+use Rattle.cord_plan.proofs.Common.{append-nil, Numeral, Statement, Chars, Nul, Cat, Catn, Catc, Substr, Put, FaultKind, State}
+use Rattle.cord_plan.proofs.Common.{number_value, and_then, Expr, name, run, cat, Exprs, nothing, member, append, preceding, members}
+use Rattle.cord_plan.proofs.Common.{read_by, expr_with, defining, within, part_of, text_in, nested, HaveTexts}
 use Rattle.cord_plan.proofs.Values.{passes, joined_in, cat_joined}
 
 -- one text after another

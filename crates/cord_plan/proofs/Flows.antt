@@ -1,15 +1,9 @@
 -- What a backwards fixed point over the lines tells of paths.
-use Rattle.std.proofs.Common.{◌≡◌, ◌⊎◌, ℕ, zero, suc, ◌+◌, Bool, true, false, ◌||◌, ◌&&◌, List, [], ◌∷◌, map, Option, Some, None, refl, sym}
-use Rattle.std.proofs.Common.{ap, ◌∙◌, inl, inr}
-use Rattle.std.specs.Prelude.{slice_get, not}
-use Rattle.std.proofs.lemmas.Bool.{or_left, or_right}
-use Rattle.cord_syntax.specs.declared.statements.Statement.{Statement}
-use Rattle.cord_meaning.specs.Blocks.{Shape, Straight, Loop, Branch, Otherwise, Close, jump}
-use Rattle.cord_meaning.specs.Paths.{Next, NextOf, NextOfClose, open_at}
-use Rattle.cord_meaning.specs.Statements.{shape_of}
-use Rattle.cord_plan.specs.Operands.{reads_at, assigns_at}
-use Rattle.cord_plan.specs.Liveness.{ReadBy, ReadLater, IsLater, IsFixed, successors, close_successors, shape_successors, some_of, live}
-use Rattle.cord_plan.specs.Liveness.{later_within}
+use Rattle.std.specs.Prelude.{◌≡◌, ◌⊎◌, ◌+◌, ◌||◌, ◌&&◌, ◌∷◌}
+use Rattle.cord_plan.proofs.Common.{ℕ, zero, suc, Bool, true, false, List, [], map, Option, Some, None, refl, sym, ap, ◌∙◌, inl, inr}
+use Rattle.cord_plan.proofs.Common.{slice_get, not, or_left, or_right, Statement, Shape, Straight, Loop, Branch, Otherwise, Close, jump}
+use Rattle.cord_plan.proofs.Common.{Next, NextOf, NextOfClose, open_at, shape_of, reads_at, assigns_at, ReadBy, ReadLater, IsLater, IsFixed}
+use Rattle.cord_plan.proofs.Common.{successors, close_successors, shape_successors, some_of, live, later_within}
 
 pub or_true : (a b : Bool) → (a || b) ≡ true → (a ≡ true) ⊎ (b ≡ true)
 or_true true b e = inl refl

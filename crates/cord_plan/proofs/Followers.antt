@@ -1,16 +1,11 @@
 -- The places that may come next, as the program finds them.
-use Rattle.std.proofs.Common.{◌≡◌, ℕ, zero, suc, ◌+◌, ◌<◌, ◌≤◌, List, [], ◌∷◌, ◌++◌, map, drop, length, get_or, take, ◌-◌, Option, Some}
-use Rattle.std.proofs.Common.{None, refl, sym, ap, ◌∙◌, ⊎_elim, arith, add-one}
-use Rattle.std.specs.Prelude.{slice_get}
-use Rattle.std.proofs.lemmas.List.{drop-map, take_rest}
-use Rattle.std.proofs.lemmas.Option.{slice_get-map, slice_get-get_or, slice_get_past, slice_get_cases}
+use Rattle.std.specs.Prelude.{◌≡◌, ◌+◌, ◌<◌, ◌≤◌, ◌∷◌, ◌++◌, ◌-◌}
+use Rattle.cord_plan.proofs.Common.{ℕ, zero, suc, List, [], map, drop, length, get_or, take, Option, Some, None, refl, sym, ap, ◌∙◌, ⊎_elim}
+use Rattle.cord_plan.proofs.Common.{arith, add-one, slice_get, drop-map, take_rest, slice_get-map, slice_get-get_or, slice_get_past}
+use Rattle.cord_plan.proofs.Common.{slice_get_cases, Straight, Loop, Branch, Otherwise, Close, to_end, to_else, jump, opened, open_at}
+use Rattle.cord_plan.proofs.Common.{Successors, successors, close_successors, shape_view, innermost, places, places_at, ArePaths}
 use Rattle.cord_meaning.specs.Blocks as control
-use Rattle.cord_meaning.specs.Blocks.{Straight, Loop, Branch, Otherwise, Close, to_end, to_else, jump}
-use Rattle.cord_meaning.specs.Paths.{opened, open_at}
 use Rattle.cord_plan.specs.declared.flow.successors.Shape.{Shape}
-use Rattle.cord_plan.specs.declared.flow.successors.Successors.{Successors}
-use Rattle.cord_plan.specs.Liveness.{successors, close_successors}
-use Rattle.cord_plan.specs.inner.Liveness.{shape_view, innermost, places, places_at, ArePaths}
 
 -- the shape at a place
 pub shape_there : (xs : List Shape) (p : ℕ) (x d : Shape) → p < length xs → get_or xs p d ≡ x →

@@ -1,13 +1,8 @@
 -- The members in front and those after them, on a walk over both.
-use Rattle.std.proofs.Common.{◌≡◌, ◌<◌, ◌≤◌, ◌+◌, false, List, [], ◌∷◌, length, map, Option, Some, None, Bor, refl, sym, ap, ◌∙◌, subst}
-use Rattle.std.proofs.Common.{arith}
-use Rattle.std.specs.Prelude.{IfSome, ◌==◌}
-use Rattle.std.proofs.lemmas.Bool.{ne_eqb}
+use Rattle.std.specs.Prelude.{◌≡◌, ◌<◌, ◌≤◌, ◌+◌, ◌∷◌, ◌==◌}
+use Rattle.cord_plan.proofs.Common.{false, List, [], length, map, Option, Some, None, Bor, refl, sym, ap, ◌∙◌, subst, arith, IfSome, ne_eqb}
+use Rattle.cord_plan.proofs.Common.{append, is_nothing, Shared, prefix_view, members_of, members_view, shared_view, Members}
 use Rattle.cord_plan.specs.Exprs as plain
-use Rattle.cord_plan.specs.Exprs.{append}
-use Rattle.cord_plan.specs.inner.Views.{is_nothing}
-use Rattle.cord_plan.specs.Views.{Shared, prefix_view, members_of, members_view, shared_view}
-use Rattle.cord_plan.specs.declared.expressions.Members.{Members}
 use Rattle.cord_plan.proofs.MemberTexts.{weights}
 
 weights_append : (a b : plain.Exprs) → weights (append a b) ≡ weights a + weights b

@@ -1,29 +1,13 @@
 -- A plan that meets the conditions goes beside its script: the invariant, by places.
-use Rattle.std.proofs.Common.{◌≡◌, ◌<◌, ◌≤◌, ℕ, ◌+◌, ◌⊎◌, Bool, true, false, ◌&&◌, List, [], ◌∷◌, length, map, Option, Some, None, Ok, refl}
-use Rattle.std.proofs.Common.{sym, ap, ◌∙◌, subst, inl, inr, ⊎_elim, arith}
-use Rattle.std.proofs.Math.Nat.{eq-or-lt_of_le}
-use Rattle.std.specs.Prelude.{slice_get, if◌then◌else◌, not}
+use Rattle.std.specs.Prelude.{◌≡◌, ◌<◌, ◌≤◌, ◌+◌, ◌⊎◌, ◌&&◌, ◌∷◌, if◌then◌else◌}
+use Rattle.cord_plan.proofs.Common.{ℕ, Bool, true, false, List, [], length, map, Option, Some, None, Ok, refl, sym, ap, ◌∙◌, subst, inl}
+use Rattle.cord_plan.proofs.Common.{inr, ⊎_elim, arith, eq-or-lt_of_le, slice_get, not, bytes_eq, or_left, or_right, slice_get-map}
+use Rattle.cord_plan.proofs.Common.{slice_get_within, bytes_eq-Decides, Statement, Put, Repeat, If, Else, End, Shape, Straight, NextOf}
+use Rattle.cord_plan.proofs.Common.{Next, State, with_value, shape_of, IsControl, at_here, some_here, Expr, name, names, has, target_of}
+use Rattle.cord_plan.proofs.Common.{is_this_name, assigns, assigns_at, reads_at, ReadBy, NotLive, is_block, is_block_at, preserves, text_in}
+use Rattle.cord_plan.proofs.Common.{Held, Text, Long, Holding, held_length, gets, cords, Decisions, is_simple, is_simple_at, makes_cord}
+use Rattle.cord_plan.proofs.Common.{assigns_other_at, stands, stands_by, IsInlined, MeetsConditions}
 use Rattle.std.specs.Option.{option_map}
-use Rattle.std.specs.Str.{bytes_eq}
-use Rattle.std.proofs.lemmas.Bool.{or_left, or_right}
-use Rattle.std.proofs.lemmas.Option.{slice_get-map, slice_get_within}
-use Rattle.std.proofs.lemmas.Slice.Eq.{bytes_eq-Decides}
-use Rattle.cord_syntax.specs.declared.statements.Statement.{Statement}
-use Rattle.cord_syntax.specs.declared.statements.Statement.TheVariants.{Put, Repeat, If, Else, End}
-use Rattle.cord_meaning.specs.Blocks.{Shape, Straight}
-use Rattle.cord_meaning.specs.Paths.{NextOf, Next}
-use Rattle.cord_meaning.specs.State.{State, with_value}
-use Rattle.cord_meaning.specs.Statements.{shape_of}
-use Rattle.cord_meaning.specs.inner.Simulation.{IsControl}
-use Rattle.cord_core.proofs.Places.{at_here, some_here}
-use Rattle.cord_plan.specs.Exprs.{Expr, name, names}
-use Rattle.cord_plan.specs.Operands.{has, target_of, is_this_name, assigns, assigns_at, reads_at}
-use Rattle.cord_plan.specs.Liveness.{ReadBy, NotLive}
-use Rattle.cord_plan.specs.Inlined.{is_block, is_block_at, preserves}
-use Rattle.cord_plan.specs.Values.{text_in}
-use Rattle.cord_plan.specs.Meaning.{Held, Text, Long, Holding, held_length, gets, cords}
-use Rattle.cord_plan.specs.Conditions.{Decisions, is_simple, is_simple_at, makes_cord, assigns_other_at, stands, stands_by, IsInlined}
-use Rattle.cord_plan.specs.Conditions.{MeetsConditions}
 use Rattle.cord_plan.proofs.Evaluation.{In, value_same, cords_named}
 use Rattle.cord_plan.proofs.BlockLines.{is_block_or_none, IsByBlock, next_by_block}
 use Rattle.cord_plan.proofs.Named.{own_bytes, preserves_at}

@@ -1,12 +1,9 @@
 -- The members of a `cat`, one operand after the other.
-use Rattle.std.proofs.Common.{◌≡◌, ℕ, ◌+◌, ◌<◌, List, [], ◌∷◌, ◌++◌, map, take, length, get_or, refl, sym, ap, ◌∙◌}
-use Rattle.std.proofs.lemmas.List.{map-append, take_more}
-use Rattle.cord_operands.specs.declared.operands.Number.{Number}
-use Rattle.cord_plan.specs.Exprs.{Expr, Exprs, name, run, cat, nothing, member, append, preceding, members}
+use Rattle.std.specs.Prelude.{◌≡◌, ◌+◌, ◌<◌, ◌∷◌, ◌++◌}
+use Rattle.cord_plan.proofs.Common.{ℕ, List, [], map, take, length, get_or, refl, sym, ap, ◌∙◌, map-append, take_more, Number, Expr, Exprs}
+use Rattle.cord_plan.proofs.Common.{name, run, cat, nothing, member, append, preceding, members, expr_of, choice_view}
 use Rattle.cord_plan.specs.declared.planner.operand_choices.Choice.{Choice}
 use Rattle.cord_plan.specs.Inlined as plain
-use Rattle.cord_plan.specs.Inlined.{expr_of}
-use Rattle.cord_plan.specs.inner.Choices.{choice_view}
 use Rattle.cord_plan.proofs.Appending.{append_nothing, append_thrice}
 
 prefix_append : (e : Expr) (a b : Exprs) → preceding e (append a b) ≡ append (preceding e a) b

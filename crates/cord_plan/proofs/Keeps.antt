@@ -1,21 +1,11 @@
 -- A statement that makes no cord does the same where other texts stand for the names that it doesn't read.
-use Rattle.std.proofs.Common.{◌≡◌, ℕ, ◌++◌, ℤ, Bool, true, false, List, [], ◌∷◌, Result, Ok, Err, refl, ap, ◌∙◌}
-use Rattle.std.specs.Prelude.{if◌then◌else◌, ◌+ℤ◌, ◌-ℤ◌, take, drop, length}
-use Rattle.cord_io.specs.Device.{FileSystem}
-use Rattle.cord_operands.specs.declared.operands.Number.{Number}
-use Rattle.cord_operands.specs.declared.operands.Number.TheVariants.{Numeral, Named}
-use Rattle.cord_syntax.specs.declared.statements.Statement.{Statement}
-use Rattle.cord_syntax.specs.declared.statements.Statement.TheVariants.{Len, Fetch, Cmp, Ncmp, Str, Chr, Rchr}
-use Rattle.cord_syntax.specs.declared.statements.Statement.TheVariants.{Assign, Add, Sub, EcInit, EcPut, EcCat, EcStr, Repeat, If}
-use Rattle.cord_syntax.specs.declared.statements.Statement.TheVariants.{Else, End}
-use Rattle.cord_meaning.specs.declared.ends.FaultKind.{FaultKind}
-use Rattle.cord_meaning.specs.declared.ends.FaultKind.TheVariants.{Overflow}
-use Rattle.cord_meaning.specs.State.{State, Outcome, number_value, and_then, as_index, as_byte, as_length, fits_i64, sets_extensible}
-use Rattle.cord_meaning.specs.State.{has_number, sets_number}
-use Rattle.cord_meaning.specs.Statements.{act, byte_of_text, place_number}
+use Rattle.std.specs.Prelude.{◌≡◌, ◌++◌, ◌∷◌, if◌then◌else◌, ◌+ℤ◌, ◌-ℤ◌}
+use Rattle.cord_plan.proofs.Common.{ℕ, ℤ, Bool, true, false, List, [], Result, Ok, Err, refl, ap, ◌∙◌, take, drop, length, FileSystem}
+use Rattle.cord_plan.proofs.Common.{Number, Numeral, Named, Statement, Len, Fetch, Cmp, Ncmp, Str, Chr, Rchr, Assign, Add, Sub, EcInit}
+use Rattle.cord_plan.proofs.Common.{EcPut, EcCat, EcStr, Repeat, If, Else, End, FaultKind, Overflow, State, Outcome, number_value, and_then}
+use Rattle.cord_plan.proofs.Common.{as_index, as_byte, as_length, fits_i64, sets_extensible, has_number, sets_number, act, byte_of_text}
+use Rattle.cord_plan.proofs.Common.{place_number, read_by, IsVerbatim}
 use Rattle.cord_core.specs.Texts.{first, last, order}
-use Rattle.cord_plan.specs.Operands.{read_by}
-use Rattle.cord_plan.specs.Verbatim.{IsVerbatim}
 
 -- the statements that a plan keeps as they are, but for `len`, which serves a length alone
 abbrev pub IsVerbatimButLen : Statement → Type 0

@@ -1,12 +1,7 @@
 -- What a line that assigns a name preserves.
-use Rattle.std.proofs.Common.{◌≡◌, ℕ, Bool, true, ◌&&◌, List, [], ◌∷◌, Option, Some, None}
-use Rattle.std.proofs.Common.{refl, ap, ◌∙◌}
-use Rattle.std.specs.Prelude.{not}
-use Rattle.std.specs.Str.{bytes_eq}
-use Rattle.cord_syntax.specs.declared.statements.Statement.{Statement}
-use Rattle.cord_plan.specs.Operands.{is_this_name, target_of}
-use Rattle.cord_plan.specs.Inlined.{preserves}
-use Rattle.cord_plan.specs.Exprs.{lacks}
+use Rattle.std.specs.Prelude.{◌≡◌, ◌&&◌, ◌∷◌}
+use Rattle.cord_plan.proofs.Common.{ℕ, Bool, true, List, [], Option, Some, None, refl, ap, ◌∙◌, not, bytes_eq, Statement, is_this_name}
+use Rattle.cord_plan.proofs.Common.{target_of, preserves, lacks}
 
 module _ (l : Statement) where
   pub preserves_all : target_of l ≡ None → (xs : List (List ℕ)) → preserves (Some l) xs ≡ true

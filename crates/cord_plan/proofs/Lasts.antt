@@ -1,20 +1,11 @@
 -- The nearest line, and what stays, by the last lines that assign and read a name.
-use Rattle.std.proofs.Common.{◌≡◌, ℕ, zero, suc, ◌+◌, ◌-◌, ◌<◌, ◌≤◌, Bool, true, false, ◌||◌, ◌&&◌, List, [], ◌∷◌, ◌++◌, map, drop, length}
-use Rattle.std.proofs.Common.{get_or, Option, Some, None, inl, inr, refl, sym, ap, ◌∙◌, arith}
-use Rattle.std.specs.Prelude.{slice_get, if◌then◌else◌, not}
-use Rattle.std.proofs.Math.Bool.{and-false, and-true}
-use Rattle.std.proofs.lemmas.Bool.{le-leb}
-use Rattle.std.proofs.lemmas.Bool.Decides.{leb_tells}
-use Rattle.cord_syntax.specs.declared.statements.Statement.{Statement}
-use Rattle.std.proofs.lemmas.List.{at_drop_more}
-use Rattle.cord_plan.specs.Exprs.{Exprs, append, names, names_of}
-use Rattle.cord_plan.specs.Views.{Shared, members_of, shared_view}
-use Rattle.cord_meaning.specs.Statements.{shape_of}
-use Rattle.cord_plan.specs.Operands.{assigns, assigns_at, reads, reads_at}
-use Rattle.cord_plan.specs.declared.flow.numbering.Numbering.{Numbering}
-use Rattle.cord_plan.specs.Inlined.{each_from, is_block, is_block_at, preserves, setter}
-use Rattle.cord_plan.specs.inner.Choices.{nearest}
-use Rattle.cord_plan.specs.inner.Recent.{PutsPlaces, entry_of, reader, blocker, is_before, is_after, stay, unless_after}
+use Rattle.std.specs.Prelude.{◌≡◌, ◌+◌, ◌-◌, ◌<◌, ◌≤◌, ◌||◌, ◌&&◌, ◌∷◌, ◌++◌, if◌then◌else◌}
+use Rattle.cord_plan.proofs.Common.{ℕ, zero, suc, Bool, true, false, List, [], map, drop, length, get_or, Option, Some, None, inl, inr}
+use Rattle.cord_plan.proofs.Common.{refl, sym, ap, ◌∙◌, arith, slice_get, not, and-false, and-true, le-leb, leb_tells, Statement}
+use Rattle.cord_plan.proofs.Common.{at_drop_more, Exprs, append, names, Shared, members_of, shared_view, shape_of, assigns, assigns_at}
+use Rattle.cord_plan.proofs.Common.{reads, reads_at, Numbering, each_from, is_block, is_block_at, preserves, setter, nearest, PutsPlaces}
+use Rattle.cord_plan.proofs.Common.{entry_of, reader, blocker, is_before, is_after, stay, unless_after}
+use Rattle.cord_plan.specs.Exprs.{names_of}
 use Rattle.cord_plan.proofs.Appending.{names_append}
 use Rattle.cord_plan.proofs.Chosen.{setter_is}
 use Rattle.cord_plan.proofs.Nearest.{each_more}

@@ -1,3 +1,4 @@
+pub mod Common
 pub mod Flows
 pub mod Built
 pub mod Flat

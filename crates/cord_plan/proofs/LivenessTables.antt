@@ -1,21 +1,9 @@
 -- Tables of what is read later.
-use Rattle.std.proofs.Common.{◌≡◌, ℕ, ◌+◌, ◌*◌, ◌/◌, ◌%◌, ◌<◌, Bool, true, false, List, [], ◌∷◌, ◌++◌, map, length, Option}
-use Rattle.std.proofs.Common.{Some, None, refl, sym, ap, ◌∙◌, arith}
-use Rattle.std.specs.Prelude.{slice_get}
-use Rattle.std.proofs.Math.Nat.{div-add-mod, mod-lt}
-use Rattle.std.proofs.lemmas.Option.{slice_get_within}
-use Rattle.cord_syntax.specs.declared.statements.Statement.{Statement}
-use Rattle.cord_meaning.specs.Paths.{Next}
-use Rattle.cord_meaning.specs.Statements.{shape_of}
-use Rattle.cord_plan.specs.declared.flow.liveness.Group.{Group}
-use Rattle.cord_plan.specs.declared.flow.successors.Successors.{Successors}
-use Rattle.cord_plan.specs.declared.flow.numbering.Numbering.{Numbering}
-use Rattle.cord_plan.specs.Operands.{has, reads_at}
-use Rattle.cord_plan.specs.Liveness.{ReadBy, ReadLater, NotLive, IsLater, successors, some_of}
-use Rattle.cord_plan.specs.inner.Numbering.{names_of, number_of}
-use Rattle.cord_plan.specs.inner.NameSets.{IsBit, column}
-use Rattle.cord_plan.specs.inner.Liveness.{ArePaths, AreLive, AllLive, IsLive, at, column_of, places_at, reports_of}
-use borrow.Author.Count.{below_more}
+use Rattle.std.specs.Prelude.{◌≡◌, ◌+◌, ◌*◌, ◌/◌, ◌%◌, ◌<◌, ◌∷◌, ◌++◌}
+use Rattle.cord_plan.proofs.Common.{ℕ, Bool, true, false, List, [], map, length, Option, Some, None, refl, sym, ap, ◌∙◌, arith, slice_get}
+use Rattle.cord_plan.proofs.Common.{div-add-mod, mod-lt, slice_get_within, Statement, Next, shape_of, Group, Successors, Numbering, has}
+use Rattle.cord_plan.proofs.Common.{reads_at, ReadBy, ReadLater, NotLive, IsLater, successors, some_of, names_of, number_of, IsBit, column}
+use Rattle.cord_plan.proofs.Common.{ArePaths, AreLive, AllLive, IsLive, at, column_of, places_at, reports_of, below_more}
 use Rattle.cord_plan.proofs.Pushed.{get_before, get_last}
 use Rattle.cord_plan.proofs.Flows.{Found, shape_found, shape_held}
 use Rattle.cord_plan.proofs.Numbers.{CoversNames, Numbered, numbered, unnumbered}

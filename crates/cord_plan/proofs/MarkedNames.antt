@@ -1,17 +1,8 @@
 -- Words that mark names.
-use Rattle.std.proofs.Common.{◌≡◌, ◌⊎◌, ℕ, ◌+◌, ◌*◌, ◌/◌, ◌%◌, ◌^◌, ◌<◌, Bool, true, false, ◌||◌, List, [], ◌∷◌, ◌++◌, take, length, get_or}
-use Rattle.std.proofs.Common.{Option, Some, None, refl, sym, ap, ◌∙◌, subst, inl, inr, arith}
-use Rattle.std.specs.Prelude.{slice_get}
-use Rattle.std.specs.Str.{bytes_eq}
-use Rattle.std.specs.Int.RustNames.{bit_or}
-use Rattle.std.proofs.Math.Bool.{or-false}
-use Rattle.std.proofs.Math.Nat.{div-add-mod, mod-lt}
-use Rattle.std.proofs.lemmas.Bool.{cases_eq}
-use Rattle.std.proofs.lemmas.List.{take_more}
-use Rattle.cord_plan.specs.declared.flow.numbering.Numbering.{Numbering}
-use Rattle.cord_plan.specs.Operands.{has, is_this_name}
-use Rattle.cord_plan.specs.inner.Numbering.{names_of, number_in, number_of}
-use Rattle.cord_plan.specs.inner.NameSets.{bit, IsBit, Marks}
+use Rattle.std.specs.Prelude.{◌≡◌, ◌⊎◌, ◌+◌, ◌*◌, ◌/◌, ◌%◌, ◌^◌, ◌<◌, ◌||◌, ◌∷◌, ◌++◌}
+use Rattle.cord_plan.proofs.Common.{ℕ, Bool, true, false, List, [], take, length, get_or, Option, Some, None, refl, sym, ap, ◌∙◌, subst}
+use Rattle.cord_plan.proofs.Common.{inl, inr, arith, slice_get, bytes_eq, bit_or, or-false, div-add-mod, mod-lt, cases_eq, take_more}
+use Rattle.cord_plan.proofs.Common.{Numbering, has, is_this_name, names_of, number_in, number_of, bit, IsBit, Marks}
 use Rattle.cord_plan.proofs.Named.{has_both, same_bytes, own_bytes}
 use Rattle.cord_plan.proofs.Numbers.{number_there}
 use Rattle.cord_plan.proofs.Words.{bit_or_is, bit_zero_is, bit_one_same, bit_one_other}

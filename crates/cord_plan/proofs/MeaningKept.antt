@@ -1,19 +1,9 @@
 -- Plans of decisions that meet the conditions keep the meaning, and so does the plan of a script that is read.
-use Rattle.std.proofs.Common.{ℕ, Bool, List, [], map, Some, sym, subst}
-use Rattle.std.specs.Prelude.{IsSome}
-use Rattle.cord_io.specs.Device.{FileSystem}
-use Rattle.cord_syntax.specs.declared.statements.Statement.{Statement}
-use Rattle.cord_script.specs.Forms.{Grammar}
-use Rattle.cord_script.specs.Script.{ReadsBy}
-use Rattle.cord_meaning.specs.Blocks.{IsNested}
-use Rattle.cord_meaning.specs.State.{start_state}
-use Rattle.cord_meaning.specs.Statements.{rules, shape_of}
+use Rattle.cord_plan.proofs.Common.{ℕ, Bool, List, [], map, Some, sym, subst, IsSome, FileSystem, Statement, Grammar, ReadsBy, IsNested}
+use Rattle.cord_plan.proofs.Common.{start_state, shape_of, reported_same, end_same, IsLater, Operation, planned, trivial, plan_rules}
+use Rattle.cord_plan.proofs.Common.{start_holding, KeepsMeaning, Decisions, MeetsConditions, decided}
+use Rattle.cord_meaning.specs.Statements.{rules}
 use Rattle.cord_meaning.proofs.ReadScripts.{read_nested}
-use Rattle.cord_meaning.proofs.Simulating.{reported_same, end_same}
-use Rattle.cord_plan.specs.Liveness.{IsLater}
-use Rattle.cord_plan.specs.Planned.{Operation, planned, trivial}
-use Rattle.cord_plan.specs.Meaning.{plan_rules, start_holding, KeepsMeaning}
-use Rattle.cord_plan.specs.Conditions.{Decisions, MeetsConditions, decided}
 use Rattle.cord_plan.proofs.Decided.{Related}
 use Rattle.cord_plan.proofs.Beside.{plan_simulates, related_some, related_first}
 use Rattle.cord_plan.proofs.Stays.{each_related}

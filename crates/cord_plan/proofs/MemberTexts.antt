@@ -1,10 +1,9 @@
 -- The members of a `cat`: how their text grows, and that each is smaller than all of them.
-use Rattle.std.proofs.Common.{◌≡◌, ◌<◌, ℕ, zero, suc, ◌+◌, List, [], ◌∷◌, ◌++◌, length, map, get_or, refl, sym, ap, ◌∙◌, subst}
-use Rattle.std.proofs.Common.{append_assoc, arith}
+use Rattle.std.specs.Prelude.{◌≡◌, ◌<◌, ◌+◌, ◌∷◌, ◌++◌}
+use Rattle.cord_plan.proofs.Common.{ℕ, zero, suc, List, [], length, map, get_or, refl, sym, ap, ◌∙◌, subst, append_assoc, arith, expr}
+use Rattle.cord_plan.proofs.Common.{more_exprs, blank_after, exprs_after, Shared, members_of, shared_view}
 use Rattle.cord_plan.specs.Exprs as plain
-use Rattle.cord_plan.specs.PlanText.{expr, exprs, more_exprs}
-use Rattle.cord_plan.specs.inner.Fragments.{blank_after, exprs_after}
-use Rattle.cord_plan.specs.Views.{Shared, members_of, shared_view}
+use Rattle.cord_plan.specs.PlanText.{exprs}
 use Rattle.cord_plan.proofs.Spacing.{AreSpaced}
 
 abbrev mutual

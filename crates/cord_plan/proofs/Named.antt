@@ -1,18 +1,11 @@
 -- What expressions name, and names in lists.
-use Rattle.std.proofs.Common.{◌≡◌, ◌⊎◌, ℕ, zero, suc, ◌+◌, ◌<◌, ◌≤◌, pos, Bool, true, false, List, [], ◌∷◌, ◌++◌, length, Option, Some}
-use Rattle.std.proofs.Common.{None, refl, sym, ap, ◌∙◌, subst, inl, inr, arith, append_assoc, append-nil}
-use Rattle.std.specs.Prelude.{slice_get, not, nat_le, ◌||◌, if◌then◌else◌}
-use Rattle.std.specs.Str.{bytes_eq}
-use Rattle.std.proofs.lemmas.Bool.{or_left, or_right, leb-true, leb-false}
-use Rattle.std.proofs.lemmas.Slice.Eq.{bytes_eq-Decides}
-use Rattle.cord_operands.specs.declared.operands.Number.TheVariants.{Numeral}
-use Rattle.cord_syntax.specs.declared.statements.Statement.{Statement}
-use Rattle.cord_syntax.specs.declared.statements.Statement.TheVariants.{Chars, Nul, Cat, Catn, Catc, Substr, Put}
-use Rattle.cord_plan.specs.Exprs.{Expr, run, cat, Exprs, nothing, member, append, preceding, members, names, names_of}
-use Rattle.cord_plan.specs.Exprs.{number_names}
-use Rattle.cord_plan.specs.Operands.{count, has, assigns_at}
-use Rattle.cord_plan.specs.Inlined.{expr_with, each_from, preserves}
-use Rattle.cord_plan.specs.Pairs.{numbers_named}
+use Rattle.std.specs.Prelude.{◌≡◌, ◌⊎◌, ◌+◌, ◌<◌, ◌≤◌, ◌∷◌, ◌++◌, ◌||◌, if◌then◌else◌}
+use Rattle.cord_plan.proofs.Common.{ℕ, zero, suc, pos, Bool, true, false, List, [], length, Option, Some, None, refl, sym, ap, ◌∙◌, subst}
+use Rattle.cord_plan.proofs.Common.{inl, inr, arith, append_assoc, append-nil, slice_get, not, nat_le, bytes_eq, or_left, or_right}
+use Rattle.cord_plan.proofs.Common.{leb-true, leb-false, bytes_eq-Decides, Numeral, Statement, Chars, Nul, Cat, Catn, Catc, Substr, Put}
+use Rattle.cord_plan.proofs.Common.{Expr, run, cat, Exprs, nothing, member, append, preceding, members, names, number_names, count, has}
+use Rattle.cord_plan.proofs.Common.{assigns_at, expr_with, each_from, preserves, numbers_named}
+use Rattle.cord_plan.specs.Exprs.{names_of}
 use Rattle.cord_plan.proofs.Chosen.{both_true, last_or}
 use Rattle.cord_plan.proofs.Flows.{or_true}
 

@@ -1,17 +1,11 @@
 -- The nearest line that assigns an operand, and what stands for the operand then.
-use Rattle.std.proofs.Common.{◌≡◌, ℕ, zero, suc, ◌+◌, ◌-◌, ◌<◌, Bool, true, false, ◌&&◌, ◌||◌, ◌==◌, List, ◌∷◌, ◌++◌, drop, length}
-use Rattle.std.proofs.Common.{get_or, map, Option, Some, None, refl, sym, ap, ◌∙◌, arith}
-use Rattle.std.specs.Prelude.{slice_get, not, if◌then◌else◌, option_map}
-use Rattle.std.proofs.Math.Bool.{and-false}
-use Rattle.std.proofs.lemmas.Option.{slice_get-map}
-use Rattle.std.proofs.lemmas.List.{at_drop_more}
-use Rattle.std.specs.Str.{bytes_eq}
-use Rattle.cord_syntax.specs.declared.statements.Statement.{Statement}
-use Rattle.cord_plan.specs.Exprs.{Expr, name, names}
-use Rattle.cord_plan.specs.Operands.{assigns, assigns_at, count, reads_at, read_by}
-use Rattle.cord_plan.specs.Inlined.{Choice, named, replaced, ChoiceTable, first_of, is_block_at, preserves, each_from, setter, is_small}
-use Rattle.cord_plan.specs.Inlined.{expr_of, expr_with, chosen_from, chosen_of}
-use Rattle.cord_plan.specs.inner.Choices.{nearest, is_spare, stands, expression_of, expression_in, simple_operands, Has, IsChoice}
+use Rattle.std.specs.Prelude.{◌≡◌, ◌+◌, ◌-◌, ◌<◌, ◌&&◌, ◌||◌, ◌==◌, ◌∷◌, ◌++◌, if◌then◌else◌}
+use Rattle.cord_plan.proofs.Common.{ℕ, zero, suc, Bool, true, false, List, drop, length, get_or, map, Option, Some, None, refl, sym, ap}
+use Rattle.cord_plan.proofs.Common.{◌∙◌, arith, slice_get, not, option_map, and-false, slice_get-map, at_drop_more, bytes_eq, Statement}
+use Rattle.cord_plan.proofs.Common.{Expr, name, names, assigns, assigns_at, count, reads_at, read_by, Choice, named, replaced, ChoiceTable}
+use Rattle.cord_plan.proofs.Common.{first_of, is_block_at, preserves, each_from, setter, is_small, expr_of, expr_with, chosen_from}
+use Rattle.cord_plan.proofs.Common.{chosen_of, nearest, is_spare, expression_of, expression_in, simple_operands, Has, IsChoice}
+use Rattle.cord_plan.specs.inner.Choices.{stands}
 use Rattle.cord_plan.proofs.Choices.{simple_reads}
 use Rattle.cord_plan.proofs.Chosen.{setter_is}
 

@@ -1,9 +1,7 @@
 -- Operations that lead to the next one.
-use Rattle.std.proofs.Common.{◌≡◌, ◌+◌, ℕ, List, Bool, false, Option, Some, None, drop, refl}
-use Rattle.std.specs.Prelude.{slice_get}
-use Rattle.cord_meaning.specs.Blocks.{Shape, jump, jump_at}
+use Rattle.std.specs.Prelude.{◌≡◌, ◌+◌}
+use Rattle.cord_plan.proofs.Common.{ℕ, List, Bool, false, Option, Some, None, drop, refl, slice_get, Shape, jump, jump_at, is_block}
 use Rattle.cord_meaning.specs.Blocks.Shape.{Straight}
-use Rattle.cord_plan.specs.Inlined.{is_block}
 
 -- whether a shape, where there is one, belongs to a block
 abbrev pub is_block_shape : Option Shape → Bool

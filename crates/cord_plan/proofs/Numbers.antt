@@ -1,25 +1,16 @@
 -- Names and their numbers.
-use Rattle.std.proofs.Common.{◌≡◌, ◌⊎◌, ℕ, suc, ◌+◌, ◌-◌, ◌<◌, ◌≤◌, Bool, true, false, ◌||◌, List, [], ◌∷◌, ◌++◌, take, drop}
-use Rattle.std.proofs.Common.{length, get_or, Option, Some, None, inl, inr, refl, sym, ap, ◌∙◌, subst, ⊎_elim, arith, if◌then◌else◌}
-use Rattle.std.proofs.Common.{append_assoc, append-nil, length-append}
-use Rattle.std.specs.Prelude.{slice_get, option_map, All, IfNone, IfSome}
+use Rattle.std.specs.Prelude.{◌≡◌, ◌⊎◌, ◌+◌, ◌-◌, ◌<◌, ◌≤◌, ◌||◌, ◌∷◌, ◌++◌, if◌then◌else◌}
+use Rattle.cord_plan.proofs.Common.{ℕ, suc, Bool, true, false, List, [], take, drop, length, get_or, Option, Some, None, inl, inr, refl}
+use Rattle.cord_plan.proofs.Common.{sym, ap, ◌∙◌, subst, ⊎_elim, arith, append_assoc, append-nil, length-append, slice_get, option_map, All}
+use Rattle.cord_plan.proofs.Common.{IfNone, IfSome, bytes_eq, eq-or-lt_of_le, cases_eq, cases_lt, true≢false, drop-append-le, length-drop}
+use Rattle.cord_plan.proofs.Common.{length-map, map-append, take-append-le, take_all, get_or_from_slice_get, slice_get-get_or}
+use Rattle.cord_plan.proofs.Common.{slice_get-map, slice_get_cases, slice_get_within, Statement, LineNumbers, NumberedLine, Numbering, has}
+use Rattle.cord_plan.proofs.Common.{read_by, reads_at, target_of, simple_operands, IsNumbered, IsNumbering, names_of, number_in, number_of}
+use Rattle.cord_plan.proofs.Common.{AddsPlaces, AddsLine, IsLineIn, AreNumbers, GainsNames, IsNumberedLine, IsNumber, TakesNumber, place_of}
 use Rattle.std.specs.List.{IsDistinct, list_any}
-use Rattle.std.specs.Str.{bytes_eq}
-use Rattle.std.proofs.Math.Nat.{eq-or-lt_of_le}
-use Rattle.std.proofs.lemmas.Bool.{cases_eq, cases_lt, true≢false}
 use Rattle.std.proofs.lemmas.Cmp.{nat_list_eq_equiv}
 use Rattle.std.proofs.Math.Seq.{drop-append_seam}
-use Rattle.std.proofs.lemmas.List.{drop-append-le, length-drop, length-map, map-append, take-append-le, take_all}
 use Rattle.std.proofs.lemmas.Map.Keys.{IsDistinct-push, apart_from_distinct}
-use Rattle.std.proofs.lemmas.Option.{get_or_from_slice_get, slice_get-get_or, slice_get-map, slice_get_cases, slice_get_within}
-use Rattle.cord_syntax.specs.declared.statements.Statement.{Statement}
-use Rattle.cord_plan.specs.declared.flow.numbering.LineNumbers.{LineNumbers}
-use Rattle.cord_plan.specs.declared.flow.numbering.NumberedLine.{NumberedLine}
-use Rattle.cord_plan.specs.declared.flow.numbering.Numbering.{Numbering}
-use Rattle.cord_plan.specs.Operands.{has, read_by, reads_at, target_of}
-use Rattle.cord_plan.specs.inner.Choices.{simple_operands}
-use Rattle.cord_plan.specs.inner.Numbering.{IsNumbered, IsNumbering, names_of, number_in, number_of}
-use Rattle.cord_plan.specs.inner.Places.{AddsPlaces, AddsLine, IsLineIn, AreNumbers, GainsNames, IsNumberedLine, IsNumber, TakesNumber, place_of}
 use Rattle.cord_plan.proofs.Choices.{simple_reads}
 use Rattle.cord_plan.proofs.Named.{has_at, same_bytes, own_bytes}
 use Rattle.cord_plan.proofs.Pushed.{get_before, get_last}

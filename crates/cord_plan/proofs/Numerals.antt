@@ -1,14 +1,12 @@
 -- The digits of a number that is too great to be counted down to, and the text of a plan that shows it.
-use Rattle.std.proofs.Common.{◌≡◌, ◌<◌, ℕ, List, [], ◌∷◌, ◌++◌, length, map, refl, ap, ◌∙◌, arith}
-use Rattle.std.specs.Prelude.{◌/◌, ◌%◌, ◌-◌, replicate, codes}
+use Rattle.std.specs.Prelude.{◌≡◌, ◌<◌, ◌∷◌, ◌++◌, ◌/◌, ◌%◌, ◌-◌}
+use Rattle.cord_plan.proofs.Common.{ℕ, List, [], length, map, refl, ap, ◌∙◌, arith, replicate, codes, numeral, Expr, name, run, cat, sub}
+use Rattle.cord_plan.proofs.Common.{nothing, member, Operation, Build, Measure, Write, Joined, Literal, decimal, spaced, called}
+use Rattle.cord_plan.proofs.Common.{text_of_plan}
 use Rattle.std.specs.Int.Digits.{digits_of}
 use Rattle.std.proofs.lemmas.Int.Digits.{digits_of_step}
 use Rattle.cord_printf.specs.declared.pieces.Radix.TheVariants.{Decimal}
 use Rattle.cord_printf.specs.PieceText.{figure}
-use Rattle.cord_meaning.specs.Examples.{numeral}
-use Rattle.cord_plan.specs.Exprs.{Expr, name, run, cat, sub, nothing, member}
-use Rattle.cord_plan.specs.Planned.{Operation, Build, Measure, Write, Joined, Literal}
-use Rattle.cord_plan.specs.PlanText.{decimal, spaced, called, text_of_plan}
 
 -- one digit more
 ends_with : (n : ℕ) (ds : List ℕ) → 0 < n → digits_of 10 (n / 10) ≡ ds → digits_of 10 n ≡ ds ++ n % 10 ∷ []

@@ -1,14 +1,8 @@
 -- Plans keep only statements that make no cord and put nothing.
-use Rattle.std.proofs.Common.{ℕ, ◌+◌, Bool, true, false, List, [], ◌∷◌}
-use Rattle.std.specs.Prelude.{All}
+use Rattle.std.specs.Prelude.{◌+◌, ◌∷◌}
+use Rattle.cord_plan.proofs.Common.{ℕ, Bool, true, false, List, [], All, Statement, Put, Expr, ChoiceTable, defining, exprs, KeepsNoOther}
+use Rattle.cord_plan.proofs.Common.{target_of, operation, operations, or_nothing, is_dead, is_first, planned, trivial}
 use Rattle.std.proofs.lemmas.List.Elements.{All-nil, All-cons}
-use Rattle.cord_syntax.specs.declared.statements.Statement.{Statement}
-use Rattle.cord_syntax.specs.declared.statements.Statement.TheVariants.{Put}
-use Rattle.cord_plan.specs.Exprs.{Expr}
-use Rattle.cord_plan.specs.Inlined.{ChoiceTable, defining, exprs}
-use Rattle.cord_plan.specs.Verbatim.{KeepsNoOther}
-use Rattle.cord_plan.specs.Operands.{target_of}
-use Rattle.cord_plan.specs.Planned.{operation, operations, or_nothing, is_dead, is_first, planned, trivial}
 
 -- a plan keeps only such statements
 kept_line : (l : Statement) (e : Expr) (dead paired : Bool) → KeepsNoOther (operation l e dead paired)

@@ -1,18 +1,10 @@
 -- What an operation does beside what its statement does, where texts, numbers and lengths are those of the script.
-use Rattle.std.proofs.Common.{◌≡◌, ℕ, pos, Bool, true, List, [], ◌∷◌, length, Option, Some, Result, Ok, Err, refl, sym, ap, ◌∙◌, subst}
-use Rattle.cord_io.specs.Device.{FileSystem}
-use Rattle.cord_syntax.specs.declared.statements.Statement.{Statement}
-use Rattle.cord_syntax.specs.declared.statements.Statement.TheVariants.{Len, Put}
-use Rattle.cord_meaning.specs.declared.ends.FaultKind.{FaultKind}
-use Rattle.cord_meaning.specs.State.{State, Outcome, and_then, with_value}
-use Rattle.cord_meaning.specs.Statements.{act}
-use Rattle.cord_meaning.specs.inner.Simulation.{Agree}
-use Rattle.cord_plan.specs.Operands.{read_by}
-use Rattle.cord_plan.specs.Planned.{Made, Build, Measure, Write, Keep}
-use Rattle.cord_plan.specs.Exprs.{Expr}
-use Rattle.cord_plan.specs.Values.{length_of, text_in, gives_text}
-use Rattle.cord_plan.specs.Meaning.{Text, Long, Holding, held_length, plain, gets, all_texts, cords, texts_to_build, texts_to_measure}
-use Rattle.cord_plan.specs.Meaning.{made_text, made_length, builds, measures, keeps, does, if_all}
+use Rattle.std.specs.Prelude.{◌≡◌, ◌∷◌}
+use Rattle.cord_plan.proofs.Common.{ℕ, pos, Bool, true, List, [], length, Option, Some, Result, Ok, Err, refl, sym, ap, ◌∙◌, subst}
+use Rattle.cord_plan.proofs.Common.{FileSystem, Statement, Len, Put, FaultKind, State, Outcome, and_then, with_value, act, Agree, read_by}
+use Rattle.cord_plan.proofs.Common.{Made, Build, Measure, Write, Keep, Expr, length_of, text_in, gives_text, Text, Long, Holding}
+use Rattle.cord_plan.proofs.Common.{held_length, plain, gets, all_texts, cords, texts_to_build, texts_to_measure, made_text, made_length}
+use Rattle.cord_plan.proofs.Common.{builds, measures, keeps, does, if_all}
 use Rattle.cord_plan.proofs.Keeps.{IsVerbatimButLen, Agrees, with_texts, kept_same}
 
 module _ (limit : ℕ) (files : FileSystem) (Related : State → Option Holding → Type 0) (s : State) (h : Holding) where

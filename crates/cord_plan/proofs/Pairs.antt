@@ -1,19 +1,11 @@
 -- What the expressions of inlined pairs name, and how great they are.
-use Rattle.std.proofs.Common.{◌≡◌, ◌⊎◌, ℕ, zero, suc, ◌+◌, ◌-◌, ◌<◌, ◌≤◌, Bool, true, false, ◌&&◌, ◌||◌, List, [], ◌∷◌, ◌++◌, map, Option}
-use Rattle.std.proofs.Common.{Some, None, refl, sym, ap, ◌∙◌, subst, inl, inr, ⊎_elim, arith, append-nil}
-use Rattle.std.specs.Prelude.{slice_get, not, ◌==◌, nat_le}
-use Rattle.std.specs.Str.{bytes_eq}
-use Rattle.std.proofs.lemmas.Bool.{leb-true, leb-false, eqb-true}
-use Rattle.cord_script.specs.Forms.{Grammar}
-use Rattle.cord_script.specs.Script.{ReadsBy}
-use Rattle.cord_syntax.specs.declared.statements.Statement.{Statement}
+use Rattle.std.specs.Prelude.{◌≡◌, ◌⊎◌, ◌+◌, ◌-◌, ◌<◌, ◌≤◌, ◌&&◌, ◌||◌, ◌∷◌, ◌++◌, ◌==◌}
+use Rattle.cord_plan.proofs.Common.{ℕ, zero, suc, Bool, true, false, List, [], map, Option, Some, None, refl, sym, ap, ◌∙◌, subst, inl, inr}
+use Rattle.cord_plan.proofs.Common.{⊎_elim, arith, append-nil, slice_get, not, nat_le, bytes_eq, leb-true, leb-false, eqb-true, Grammar}
+use Rattle.cord_plan.proofs.Common.{ReadsBy, Statement, Expr, parts, names, count, has, read_by, reads_at, assigns, assigns_at, ChoiceTable}
+use Rattle.cord_plan.proofs.Common.{Choice, named, replaced, expr_of, expr_with, is_small, is_block_at, each_from, preserves, first_of}
+use Rattle.cord_plan.proofs.Common.{defining, choices, operands_chosen, IsPair, numbers_named, numbers_named_at, IsNoNumber}
 use Rattle.cord_plan.specs.declared.TheConstants.{MAX_EXPR_PARTS}
-use Rattle.cord_plan.specs.Exprs.{Expr, parts, names}
-use Rattle.cord_plan.specs.Operands.{count, has, read_by, reads_at, assigns, assigns_at}
-use Rattle.cord_plan.specs.Inlined.{ChoiceTable, Choice, named, replaced, expr_of, expr_with, is_small, is_block_at, each_from, preserves}
-use Rattle.cord_plan.specs.Inlined.{first_of}
-use Rattle.cord_plan.specs.Inlined.{defining, choices, operands_chosen}
-use Rattle.cord_plan.specs.Pairs.{IsPair, numbers_named, numbers_named_at, IsNoNumber}
 use Rattle.cord_plan.proofs.Chosen.{both_true, Taken, Chosen, AreChosen, are_chosen, stay_small, EachEntry, IsPrefix, each_entry}
 use Rattle.cord_plan.proofs.Flows.{or_true}
 use Rattle.cord_plan.proofs.Named.{not_true, no_true, same_bytes, has_at, one_place, each_at, preserves_at, SomeNames, Names, with_names}

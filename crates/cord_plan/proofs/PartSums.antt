@@ -1,18 +1,11 @@
 -- The parts and the names of expressions, summed over members and operands.
-use Rattle.std.proofs.Common.{◌≡◌, ℕ, ◌+◌, ◌-◌, ◌<◌, ◌≤◌, Bool, true, false, ◌&&◌, List, [], ◌∷◌, ◌++◌, map, drop, length, get_or, pos}
-use Rattle.std.proofs.Common.{Option, Some, None, refl, sym, ap, ◌∙◌, arith, length-append, length-drop}
-use Rattle.std.specs.Prelude.{nat_le, not, sum_by, if◌then◌else◌}
-use Rattle.std.proofs.lemmas.Bool.{leb-false, leb-true, lt-leb, le-leb}
-use Rattle.std.proofs.lemmas.List.{at_drop_more, length-map}
+use Rattle.cord_plan.proofs.Common.{ℕ, Bool, true, false, List, [], map, drop, length, get_or, pos, Option, Some, None, refl, sym, ap, ◌∙◌}
+use Rattle.cord_plan.proofs.Common.{arith, length-append, nat_le, not, sum_by, leb-false, leb-true, lt-leb, le-leb, at_drop_more}
+use Rattle.cord_plan.proofs.Common.{length-map, Numeral, Statement, Chars, Nul, Cat, Catn, Catc, Substr, Put, Expr, Exprs, name, run, cat}
+use Rattle.cord_plan.proofs.Common.{parts, parts_of, append, preceding, members, Shared, members_of, shared_view, assigns_at, Choice}
+use Rattle.cord_plan.proofs.Common.{expr_of, preserves, is_small, expr_with, room_left, room_left_by, simple_operands, parts_beside}
+use Rattle.std.proofs.Common.{length-drop, ◌≡◌, ◌+◌, ◌-◌, ◌<◌, ◌≤◌, ◌&&◌, ◌∷◌, ◌++◌, if◌then◌else◌}
 use Rattle.std.proofs.lemmas.List.Sums.{sum_by-cons}
-use Rattle.cord_operands.specs.declared.operands.Number.TheVariants.{Numeral}
-use Rattle.cord_syntax.specs.declared.statements.Statement.{Statement}
-use Rattle.cord_syntax.specs.declared.statements.Statement.TheVariants.{Chars, Nul, Cat, Catn, Catc, Substr, Put}
-use Rattle.cord_plan.specs.Exprs.{Expr, Exprs, name, run, cat, parts, parts_of, append, preceding, members}
-use Rattle.cord_plan.specs.Views.{Shared, members_of, shared_view}
-use Rattle.cord_plan.specs.Operands.{assigns_at}
-use Rattle.cord_plan.specs.Inlined.{Choice, expr_of, preserves, is_small, expr_with}
-use Rattle.cord_plan.specs.inner.Choices.{room_left, room_left_by, simple_operands, parts_beside}
 use Rattle.cord_plan.proofs.Appending.{parts_append}
 
 -- where one count of parts is too large, so is it with more

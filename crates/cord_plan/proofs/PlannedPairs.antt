@@ -1,18 +1,12 @@
 -- The operations of inlined pairs.
-use Rattle.std.proofs.Common.{◌≡◌, ℕ, zero, suc, ◌+◌, Bool, true, false, ◌||◌, List, [], ◌∷◌, Option, Some, None, refl, sym, ap, ◌∙◌, subst}
-use Rattle.std.proofs.Common.{arith}
-use Rattle.std.specs.Prelude.{slice_get}
-use Rattle.std.specs.Str.{bytes_eq}
-use Rattle.std.proofs.lemmas.Bool.{or_left, or_right, eq-eqb}
+use Rattle.std.specs.Prelude.{◌≡◌, ◌+◌, ◌||◌, ◌∷◌}
+use Rattle.cord_plan.proofs.Common.{ℕ, zero, suc, Bool, true, false, List, [], Option, Some, None, refl, sym, ap, ◌∙◌, subst, arith}
+use Rattle.cord_plan.proofs.Common.{slice_get, bytes_eq, or_left, or_right, eq-eqb, Statement, Chars, Nul, Cat, Catn, Catc, Substr, Put}
+use Rattle.cord_plan.proofs.Common.{Expr, read_by, target_of, assigns, assigns_at, ChoiceTable, Choice, replaced, defining, choices}
+use Rattle.cord_plan.proofs.Common.{operands_chosen, exprs, Operation, Measure, Joined, gives, or_nothing, operation, is_from, some_from}
+use Rattle.cord_plan.proofs.Common.{is_first, is_dead, operations, planned, IsPair}
 use Rattle.cord_syntax.specs.Lines.{line_of}
-use Rattle.cord_syntax.specs.declared.statements.Statement.{Statement}
-use Rattle.cord_syntax.specs.declared.statements.Statement.TheVariants.{Chars, Nul, Cat, Catn, Catc, Substr, Put}
-use Rattle.cord_plan.specs.Exprs.{Expr}
-use Rattle.cord_plan.specs.Operands.{read_by, target_of, assigns, assigns_at}
-use Rattle.cord_plan.specs.Inlined.{ChoiceTable, Choice, replaced, defining, choices, operands_chosen, exprs}
-use Rattle.cord_plan.specs.Planned.{Operation, Measure, Joined, gives, or_nothing, operation, is_from, some_from, is_first, is_dead}
-use Rattle.cord_plan.specs.Planned.{operations, planned}
-use Rattle.cord_plan.specs.Pairs.{IsPair, expression_of}
+use Rattle.cord_plan.specs.Pairs.{expression_of}
 use Rattle.cord_plan.proofs.Chosen.{Taken, are_chosen, EachEntry, IsPrefix, each_entry, line_there}
 use Rattle.cord_plan.proofs.Named.{same_bytes}
 use Rattle.cord_plan.proofs.ReadNames.{HasDefining}

@@ -1,23 +1,13 @@
 -- What the plan of a script decides meets the conditions.
-use Rattle.std.proofs.Common.{◌≡◌, ◌⊎◌, ℕ, zero, suc, ◌+◌, ◌<◌, Bool, true, false, List, [], ◌∷◌, ◌++◌, map, length}
-use Rattle.std.proofs.Common.{Option, Some, None, refl, sym, ap, ◌∙◌, subst, inl, inr, ⊎_elim, arith}
-use Rattle.std.proofs.Common.{length-append}
-use Rattle.std.proofs.lemmas.Bool.{eqb-true}
-use Rattle.std.proofs.lemmas.Option.{slice_get_cases, slice_get_within}
-use Rattle.std.proofs.lemmas.Slice.Eq.{bytes_eq-Decides}
-use Rattle.std.specs.Prelude.{slice_get, ◌==◌, if◌then◌else◌}
-use Rattle.std.specs.Str.{bytes_eq}
-use Rattle.cord_syntax.specs.declared.statements.Statement.{Statement}
-use Rattle.cord_syntax.specs.declared.statements.Statement.TheVariants.{Chars, Nul, Cat, Catn, Catc, Substr, Put}
-use Rattle.cord_core.proofs.Places.{at_here, some_here}
-use Rattle.cord_plan.specs.Exprs.{Expr, name, names}
-use Rattle.cord_plan.specs.Operands.{count, read_by, target_of, is_this_name, assigns, assigns_at}
-use Rattle.cord_plan.specs.Liveness.{NotLive, IsLater}
-use Rattle.cord_plan.specs.Inlined.{ChoiceTable, Choice, named, replaced, expr_of, expr_with, first_of, defining, setter}
-use Rattle.cord_plan.specs.Inlined.{preserves, choices, operands_chosen, entry, grown, exprs}
-use Rattle.cord_plan.specs.Planned.{or_nothing, operation, operations, is_dead, is_first, some_from, planned}
-use Rattle.cord_plan.specs.Conditions.{Decisions, decided, decided_from, is_simple, is_simple_at, HasKinds, stands, stands_by, IsInlined}
-use Rattle.cord_plan.specs.Conditions.{MeetsConditions}
+use Rattle.std.specs.Prelude.{◌≡◌, ◌⊎◌, ◌+◌, ◌<◌, ◌∷◌, ◌++◌, ◌==◌, if◌then◌else◌}
+use Rattle.cord_plan.proofs.Common.{ℕ, zero, suc, Bool, true, false, List, [], map, length, Option, Some, None, refl, sym, ap, ◌∙◌, subst}
+use Rattle.cord_plan.proofs.Common.{inl, inr, ⊎_elim, arith, length-append, eqb-true, slice_get_cases, slice_get_within, bytes_eq-Decides}
+use Rattle.cord_plan.proofs.Common.{slice_get, bytes_eq, Statement, Chars, Nul, Cat, Catn, Catc, Substr, Put, at_here, some_here, Expr}
+use Rattle.cord_plan.proofs.Common.{name, names, count, read_by, target_of, is_this_name, assigns, assigns_at, NotLive, IsLater}
+use Rattle.cord_plan.proofs.Common.{ChoiceTable, Choice, named, replaced, expr_of, expr_with, first_of, defining, setter, preserves}
+use Rattle.cord_plan.proofs.Common.{choices, operands_chosen, entry, grown, exprs, or_nothing, operation, operations, is_dead, is_first}
+use Rattle.cord_plan.proofs.Common.{some_from, planned, Decisions, decided, decided_from, is_simple, is_simple_at, HasKinds, stands}
+use Rattle.cord_plan.proofs.Common.{stands_by, IsInlined, MeetsConditions}
 use Rattle.cord_plan.proofs.Chosen.{AreChosen, Chosen, EachEntry, IsPrefix, IsSetter, Taken, are_chosen, each_entry, line_there}
 use Rattle.cord_plan.proofs.Flows.{or_true}
 use Rattle.cord_plan.proofs.Named.{not_true, one_place}

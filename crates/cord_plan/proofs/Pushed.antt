@@ -1,9 +1,7 @@
 -- Lists that a loop fills, one item after the other.
-use Rattle.std.proofs.Common.{◌≡◌, ℕ, zero, suc, ◌+◌, ◌<◌, List, [], ◌∷◌, ◌++◌, map, take, length, get_or, Some, refl, sym, ap, ◌∙◌}
-use Rattle.std.proofs.Common.{length-append}
-use borrow.Author.Count.{below_more}
-use Rattle.std.proofs.lemmas.List.{map-append, take_more}
-use Rattle.std.specs.Prelude.{slice_get}
+use Rattle.std.specs.Prelude.{◌≡◌, ◌+◌, ◌<◌, ◌∷◌, ◌++◌}
+use Rattle.cord_plan.proofs.Common.{ℕ, zero, suc, List, [], map, take, length, get_or, Some, refl, sym, ap, ◌∙◌, length-append, below_more}
+use Rattle.cord_plan.proofs.Common.{map-append, take_more, slice_get}
 
 -- one item more, made of the next one of another list
 pub made_more : {A B C : Type 0} (f : A → C) (g : B → C) (xs : List B) (old new : List A) (made : A) (i : ℕ) (x : B) → i < length xs →

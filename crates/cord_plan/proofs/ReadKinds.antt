@@ -1,24 +1,15 @@
 -- In a script that is read, a name that a line assigns as a number or an extensible cord is read by no line as a cord.
-use Rattle.std.proofs.Common.{◌≡◌, ◌⊎◌, ℕ, ◌<◌, Bool, true, false, ◌&&◌, List, [], ◌∷◌, ◌++◌, map, length, Option, Some, None, refl, sym}
-use Rattle.std.proofs.Common.{ap, ◌∙◌, inl, inr}
-use Rattle.std.specs.Prelude.{slice_get, not, is_some, if◌then◌else◌}
-use Rattle.std.specs.Str.{bytes_eq}
-use Rattle.std.proofs.lemmas.Slice.Eq.{bytes_eq-Decides}
+use Rattle.std.specs.Prelude.{◌≡◌, ◌⊎◌, ◌<◌, ◌&&◌, ◌∷◌, ◌++◌, if◌then◌else◌}
+use Rattle.cord_plan.proofs.Common.{ℕ, Bool, true, false, List, [], map, length, Option, Some, None, refl, sym, ap, ◌∙◌, inl, inr}
+use Rattle.cord_plan.proofs.Common.{slice_get, not, is_some, bytes_eq, bytes_eq-Decides, Kind, Argument, Known, Statement, Cat, Catn, Catc}
+use Rattle.cord_plan.proofs.Common.{Substr, Balance, Sprintf, Len, Fetch, Cmp, Ncmp, Str, Chr, Rchr, Assign, Add, Sub, EcInit, EcCat, Put}
+use Rattle.cord_plan.proofs.Common.{Grammar, terms_of, argument_term, Scope, kind_of, with_name, names_after, after_all, AreAllowed}
+use Rattle.cord_plan.proofs.Common.{ReadsBy, start, has, read_by, cord_arguments, assigns, reads_at, makes_cord, assigns_other_at, HasKinds}
+use Rattle.cord_plan.proofs.Common.{numbers_named, numbers_named_at, IsNoNumber}
 use Rattle.cord_script.specs.declared.TheConstants.{MAX_NAMES}
-use Rattle.cord_script.specs.declared.kinds.Kind.{Kind}
 use Rattle.cord_script.specs.declared.kinds.Kind.TheVariants as kinds
-use Rattle.cord_operands.specs.declared.operands.Argument.{Argument}
 use Rattle.cord_operands.specs.declared.operands.Argument.TheVariants as arguments
-use Rattle.cord_script.specs.declared.table.Known.{Known}
-use Rattle.cord_syntax.specs.declared.statements.Statement.{Statement}
-use Rattle.cord_syntax.specs.declared.statements.Statement.TheVariants.{Cat, Catn, Catc, Substr, Balance, Sprintf, Len, Fetch, Cmp, Ncmp}
-use Rattle.cord_syntax.specs.declared.statements.Statement.TheVariants.{Str, Chr, Rchr, Assign, Add, Sub, EcInit, EcCat, Put}
-use Rattle.cord_script.specs.Forms.{Grammar, terms_of, argument_term}
 use Rattle.cord_script.specs.Forms.Term.{Operand}
-use Rattle.cord_script.specs.Script.{Scope, kind_of, with_name, names_after, after_all, AreAllowed, ReadsBy, start}
-use Rattle.cord_plan.specs.Operands.{has, read_by, cord_arguments, assigns, reads_at}
-use Rattle.cord_plan.specs.Conditions.{makes_cord, assigns_other_at, HasKinds}
-use Rattle.cord_plan.specs.Pairs.{numbers_named, numbers_named_at, IsNoNumber}
 use Rattle.cord_plan.proofs.Flows.{or_true}
 use Rattle.cord_plan.proofs.Named.{has_at, no_true}
 use Rattle.cord_plan.proofs.ReadNames.{HasScope, line_scope, numbers_known}

@@ -1,22 +1,12 @@
 -- In a script that is read, a name that a line reads as a cord is nowhere the name of a number.
-use Rattle.std.proofs.Common.{◌≡◌, ◌⊎◌, ℕ, zero, suc, ◌+◌, Bool, true, false, List, [], ◌∷◌, ◌++◌, Option, Some, None, sym, ap}
-use Rattle.std.proofs.Common.{◌∙◌, subst, inl, inr}
-use Rattle.std.specs.Prelude.{slice_get, is_some, if◌then◌else◌}
-use Rattle.std.specs.Str.{bytes_eq}
-use Rattle.cord_script.specs.declared.kinds.Kind.{Kind}
+use Rattle.std.specs.Prelude.{◌≡◌, ◌⊎◌, ◌+◌, ◌∷◌, ◌++◌, if◌then◌else◌}
+use Rattle.cord_plan.proofs.Common.{ℕ, zero, suc, Bool, true, false, List, [], Option, Some, None, sym, ap, ◌∙◌, subst, inl, inr, slice_get}
+use Rattle.cord_plan.proofs.Common.{is_some, bytes_eq, Kind, Number, Numeral, Named, Known, Statement, Chars, Nul, Catc, Substr, Grammar}
+use Rattle.cord_plan.proofs.Common.{Term, terms_of, Scope, kind_of, with_name, names_after, after_all, IsAllowed, AreAllowed, LinesSay}
+use Rattle.cord_plan.proofs.Common.{start, Expr, number_names, has, numbers_named}
 use Rattle.cord_script.specs.declared.kinds.Kind.TheVariants as kinds
-use Rattle.cord_operands.specs.declared.operands.Number.{Number}
-use Rattle.cord_operands.specs.declared.operands.Number.TheVariants.{Numeral, Named}
-use Rattle.cord_script.specs.declared.table.Known.{Known}
-use Rattle.cord_syntax.specs.declared.statements.Statement.{Statement}
-use Rattle.cord_syntax.specs.declared.statements.Statement.TheVariants.{Chars, Nul, Catc, Substr}
-use Rattle.cord_script.specs.Forms.{Grammar, Term, terms_of}
 use Rattle.cord_script.specs.Forms.Term.{Target, Value}
-use Rattle.cord_script.specs.Script.{Scope, kind_of, with_name, names_after, after, after_all, IsAllowed, AreAllowed, LinesSay}
-use Rattle.cord_script.specs.Script.{start}
-use Rattle.cord_plan.specs.Exprs.{Expr, number_names}
-use Rattle.cord_plan.specs.Operands.{has}
-use Rattle.cord_plan.specs.Pairs.{numbers_named}
+use Rattle.cord_script.specs.Script.{after}
 use Rattle.cord_plan.proofs.Flows.{or_true}
 use Rattle.cord_plan.proofs.Named.{has_append, same_bytes}
 

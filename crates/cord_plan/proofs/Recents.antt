@@ -1,14 +1,8 @@
 -- The last lines that assign and read a name: what a note does to the places, and what they tell.
-use Rattle.std.proofs.Common.{◌≡◌, ℕ, zero, suc, ◌+◌, ◌<◌, Bool, true, false, ◌||◌, List, [], ◌∷◌, take, length, get_or, set}
-use Rattle.std.proofs.Common.{Option, Some, None, refl, sym, ap, ◌∙◌, arith}
-use Rattle.std.specs.Prelude.{slice_get, unwrap_or, if◌then◌else◌, replicate}
-use Rattle.std.specs.Str.{bytes_eq}
-use Rattle.std.proofs.lemmas.Option.{slice_get_within}
-use Rattle.cord_plan.specs.Operands.{has, is_this_name}
-use Rattle.cord_plan.specs.inner.Numbering.{names_of, number_of}
-use Rattle.cord_plan.specs.inner.Places.{IsNumber}
-use Rattle.cord_plan.specs.inner.Recent.{AreFor, PutsPlaces, entry_at, entry_of}
-use Rattle.cord_plan.specs.declared.flow.numbering.Numbering.{Numbering}
+use Rattle.std.specs.Prelude.{◌≡◌, ◌+◌, ◌<◌, ◌||◌, ◌∷◌, if◌then◌else◌}
+use Rattle.cord_plan.proofs.Common.{ℕ, zero, suc, Bool, true, false, List, [], take, length, get_or, set, Option, Some, None, refl, sym, ap}
+use Rattle.cord_plan.proofs.Common.{◌∙◌, arith, slice_get, unwrap_or, replicate, bytes_eq, slice_get_within, has, is_this_name, names_of}
+use Rattle.cord_plan.proofs.Common.{number_of, IsNumber, AreFor, PutsPlaces, entry_at, entry_of, Numbering}
 use Rattle.cord_plan.proofs.Named.{same_bytes, own_bytes}
 use Rattle.cord_plan.proofs.Numbers.{number_there, place_at}
 use Rattle.cord_plan.proofs.MarkedNames.{has_more}

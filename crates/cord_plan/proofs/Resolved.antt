@@ -1,15 +1,10 @@
 -- A `sub` over a `cat`, resolved by the lengths of the members.
-use Rattle.std.proofs.Common.{◌≡◌, ℕ, ◌+◌, ◌-◌, ◌<◌, ◌≤◌, pos, Bool, true, false, List, [], ◌∷◌, ◌++◌, length, take, drop, Result, Ok, refl}
-use Rattle.std.proofs.Common.{sym, ap, ◌∙◌, arith, append-nil, length-append}
-use Rattle.std.specs.Prelude.{min, nat_le, nat_lt, ◌&&◌, if◌then◌else◌}
+use Rattle.std.specs.Prelude.{◌≡◌, ◌+◌, ◌-◌, ◌<◌, ◌≤◌, ◌∷◌, ◌++◌, ◌&&◌, if◌then◌else◌}
+use Rattle.cord_plan.proofs.Common.{ℕ, pos, Bool, true, false, List, [], length, take, drop, Result, Ok, refl, sym, ap, ◌∙◌, arith}
+use Rattle.cord_plan.proofs.Common.{append-nil, length-append, min, nat_le, nat_lt, leb-true, leb-false, ltb-false, length-take}
+use Rattle.cord_plan.proofs.Common.{length-drop, take-append-le, drop-append-le, drop_all, take_all, take_min, Numeral, FaultKind, State}
+use Rattle.cord_plan.proofs.Common.{number_value, and_then, Expr, cat, sub, Exprs, nothing, member, within, text_in, length_in, length_of}
 use Rattle.std.proofs.Math.Seq.{take-append-add, drop-append-add, take-nil, drop-nil}
-use Rattle.std.proofs.lemmas.Bool.{leb-true, leb-false, ltb-false}
-use Rattle.std.proofs.lemmas.List.{length-take, length-drop, take-append-le, drop-append-le, drop_all, take_all, take_min}
-use Rattle.cord_operands.specs.declared.operands.Number.TheVariants.{Numeral}
-use Rattle.cord_meaning.specs.declared.ends.FaultKind.{FaultKind}
-use Rattle.cord_meaning.specs.State.{State, number_value, and_then}
-use Rattle.cord_plan.specs.Exprs.{Expr, cat, sub, Exprs, nothing, member}
-use Rattle.cord_plan.specs.Values.{within, text_in, length_in, length_of}
 use Rattle.cord_plan.specs.Resolved.{picked, resolved, HaveLengths}
 use Rattle.cord_plan.proofs.Values.{passes, same_text, is_within, measure_is, joined_in, cat_joined}
 

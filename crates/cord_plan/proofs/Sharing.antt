@@ -1,18 +1,8 @@
 -- Members that share others.
-use Rattle.std.proofs.Common.{◌≡◌, ◌<◌, ◌+◌, ℕ, true, List, [], ◌∷◌, ◌++◌, length, get_or, take, map, Some, Global, refl, sym}
-use Rattle.std.proofs.Common.{ap, ◌∙◌, subst}
-use Rattle.std.specs.Prelude.{IfOk, Result}
-use Rattle.std.specs.declared.rc.Rc.{Rc}
-use Rattle.std.proofs.lemmas.List.{take_more}
-use Rattle.cord_plan.specs.Exprs.{Expr, Exprs, nothing, member, append}
-use Rattle.cord_plan.specs.inner.Views.{is_nothing}
-use Rattle.cord_plan.specs.Views.{Shared, expr_view, members_of, members_view, shared_view}
-use Rattle.cord_plan.specs.inner.Views.{rest_view}
-use Rattle.cord_plan.specs.declared.expressions.Expr.TheViews.{out-Members, roll-Members}
-use Rattle.cord_plan.specs.declared.expressions.Members.{Members}
-use Rattle.cord_plan.specs.declared.expressions.Rest.{Rest}
-use Rattle.cord_plan.specs.declared.expressions.Rest.TheVariants.{Nothing, One}
-use Rattle.cord_plan.specs.declared.expressions.Single.{Single}
+use Rattle.std.specs.Prelude.{◌≡◌, ◌<◌, ◌+◌, ◌∷◌, ◌++◌}
+use Rattle.cord_plan.proofs.Common.{ℕ, true, List, [], length, get_or, take, map, Some, Global, refl, sym, ap, ◌∙◌, subst, IfOk, Result, Rc}
+use Rattle.cord_plan.proofs.Common.{take_more, Expr, Exprs, nothing, member, append, is_nothing, Shared, expr_view, members_of}
+use Rattle.cord_plan.proofs.Common.{members_view, shared_view, rest_view, out-Members, roll-Members, Members, Rest, Nothing, One, Single}
 use Rattle.cord_plan.proofs.Appending.{append_nothing, append_thrice, views_both}
 use Rattle.cord_plan.proofs.ExprViews.{prefix_seen, members_made, members_there, view-Nothing, view-One}
 

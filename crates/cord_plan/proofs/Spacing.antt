@@ -1,9 +1,8 @@
 -- Words between blanks, with what stands after them.
-use Rattle.std.proofs.Common.{◌≡◌, ◌<◌, ℕ, zero, suc, ◌+◌, List, [], ◌∷◌, ◌++◌, length, take, drop, get_or, map, Ok, Err, refl, sym, ap, ◌∙◌}
-use Rattle.std.proofs.Common.{append-nil, append_assoc, arith}
+use Rattle.std.specs.Prelude.{◌≡◌, ◌<◌, ◌+◌, ◌∷◌, ◌++◌}
+use Rattle.cord_plan.proofs.Common.{ℕ, zero, suc, List, [], length, take, drop, get_or, map, Ok, Err, refl, sym, ap, ◌∙◌, append-nil}
+use Rattle.cord_plan.proofs.Common.{append_assoc, arith, Writes, spaced}
 use Rattle.cord_io.specs.declared.writing.Sink as sinks
-use Rattle.cord_iter.specs.Output.{Writes}
-use Rattle.cord_plan.specs.PlanText.{spaced}
 use Rattle.cord_plan.proofs.Writing.{AreJoined, joined_next, joined_all, writes_same, writes_then, writes_cut}
 
 pub two_words : (x y t : List ℕ) → (x ++ 32 ∷ y) ++ t ≡ x ++ 32 ∷ (y ++ t)

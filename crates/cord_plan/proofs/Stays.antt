@@ -1,17 +1,12 @@
 -- What holds of each state of a simulated run.
-use Rattle.std.proofs.Common.{◌≡◌, ℕ, zero, suc, ◌+◌, ℤ, pos, negsuc, Bool, true, false, List, [], ◌∷◌, map, Option, Some, None, Result, Ok}
-use Rattle.std.proofs.Common.{Err, refl, sym, ap, ◌∙◌, subst}
-use Rattle.std.specs.Prelude.{slice_get, if◌then◌else◌, nat_lt}
+use Rattle.std.specs.Prelude.{◌≡◌, ◌+◌, ◌∷◌, if◌then◌else◌}
+use Rattle.cord_plan.proofs.Common.{ℕ, zero, suc, ℤ, pos, negsuc, Bool, true, false, List, [], map, Option, Some, None, Result, Ok, Err}
+use Rattle.cord_plan.proofs.Common.{refl, sym, ap, ◌∙◌, subst, slice_get, nat_lt, slice_get-map, FaultKind, TooManyTurns, Shape, Straight}
+use Rattle.cord_plan.proofs.Common.{Loop, Branch, Otherwise, Close, IsNested, Next, Agree, IsControl, Simulates}
 use Rattle.std.specs.Option.{option_map}
-use Rattle.std.proofs.lemmas.Option.{slice_get-map}
 use Rattle.cord_meaning.specs.declared.ends.End.{End}
-use Rattle.cord_meaning.specs.declared.ends.FaultKind.{FaultKind}
-use Rattle.cord_meaning.specs.declared.ends.FaultKind.TheVariants.{TooManyTurns}
-use Rattle.cord_meaning.specs.Blocks.{Shape, Straight, Loop, Branch, Otherwise, Close, IsNested}
-use Rattle.cord_meaning.specs.Paths.{Next}
 use Rattle.cord_meaning.specs.Machine.{Rules, Block, Turns, Chosen, Config, notes, faults, acted, turned, begins, repeats, chooses, closes}
 use Rattle.cord_meaning.specs.Machine.{if_running, jump_from, runs_shape, runs, step, after}
-use Rattle.cord_meaning.specs.inner.Simulation.{Agree, IsControl, Simulates}
 use Rattle.cord_meaning.proofs.Follows.{follows}
 
 module _ {T : Type 0} (most : ℕ) (c : Config T) where

@@ -1,25 +1,11 @@
 -- On the way back over lines: which names they read before they assign them.
-use Rattle.std.proofs.Common.{◌≡◌, ◌⊎◌, ℕ, ◌+◌, ◌<◌, ◌≤◌, ◌==◌, Bool, true, false, ◌&&◌, ◌||◌}
-use Rattle.std.proofs.Common.{List, [], ◌∷◌, length, set}
-use Rattle.std.proofs.Common.{drop, Option, Some, None, inl, inr, refl, sym, ap, ◌∙◌, subst, arith, ◌*◌, ◌%◌, ◌^◌}
-use Rattle.std.specs.Prelude.{slice_get, is_some, if◌then◌else◌, replicate}
-use Rattle.std.specs.Int.{bit_at, w16}
-use Rattle.std.specs.Int.Bits.{or_zero_l}
-use Rattle.std.specs.Int.RustNames.{bit_or}
-use Rattle.std.proofs.Math.Bool.{and-false, and-true, or-false}
-use Rattle.std.proofs.Math.Nat.{eq-or-lt_of_le}
-use Rattle.std.proofs.lemmas.Bool.Decides.{eqb_tells}
-use Rattle.std.proofs.lemmas.Nat.Bits.{bit_at-zero, bit_at_set_same, bit_at_set_other}
-use Rattle.std.proofs.lemmas.List.{drop_more, length-replicate}
-use Rattle.std.proofs.lemmas.Option.{get_or_from_slice_get, slice_get_within}
-use Rattle.cord_syntax.specs.declared.statements.Statement.{Statement}
-use Rattle.cord_plan.specs.Operands.{assigns, read_by, reads, target_of}
-use Rattle.cord_plan.specs.inner.StraightLine.{AreNextReads, AreBits, AreReportedFrom, IsLineLater, flow, later_in}
-use Rattle.cord_plan.specs.inner.NameSets.{bit}
-use Rattle.cord_plan.specs.inner.Numbering.{names_of, number_in}
-use Rattle.cord_plan.specs.inner.Recent.{PutsPlaces, entry_at, entry_of}
-use Rattle.cord_plan.specs.declared.flow.straight_line.LineLater.{LineLater}
-use Rattle.cord_plan.specs.declared.flow.numbering.Numbering.{Numbering}
+use Rattle.std.specs.Prelude.{◌≡◌, ◌⊎◌, ◌+◌, ◌<◌, ◌≤◌, ◌==◌, ◌&&◌, ◌||◌, ◌∷◌, ◌*◌, ◌%◌, ◌^◌, if◌then◌else◌}
+use Rattle.cord_plan.proofs.Common.{ℕ, Bool, true, false, List, [], length, set, drop, Option, Some, None, inl, inr, refl, sym, ap, ◌∙◌}
+use Rattle.cord_plan.proofs.Common.{subst, arith, slice_get, is_some, replicate, bit_at, w16, or_zero_l, bit_or, and-false, and-true}
+use Rattle.cord_plan.proofs.Common.{or-false, eq-or-lt_of_le, eqb_tells, bit_at-zero, bit_at_set_same, bit_at_set_other, drop_more}
+use Rattle.cord_plan.proofs.Common.{length-replicate, get_or_from_slice_get, slice_get_within, Statement, assigns, read_by, reads}
+use Rattle.cord_plan.proofs.Common.{target_of, AreNextReads, AreBits, AreReportedFrom, IsLineLater, flow, later_in, bit, names_of}
+use Rattle.cord_plan.proofs.Common.{number_in, PutsPlaces, entry_at, entry_of, LineLater, Numbering}
 use Rattle.cord_plan.proofs.Choices.{simple_reads}
 use Rattle.cord_plan.proofs.Recents.{none_noted, set_apart, set_there}
 use Rattle.cord_plan.proofs.Words.{bit_or_is, bit_zero_is}

@@ -1,19 +1,9 @@
 -- What is read later in a script without blocks.
-use Rattle.std.proofs.Common.{◌≡◌, ◌⊎◌, ℕ, zero, suc, ◌+◌, ◌<◌, Bool, true, false, List, [], ◌∷◌, map, drop, get_or, length, inl, inr}
-use Rattle.std.proofs.Common.{Option, Some, None, refl, sym, ap, ◌∙◌, arith}
-use Rattle.std.specs.Prelude.{slice_get}
-use Rattle.std.proofs.Math.Bool.{and-false, and-true}
-use Rattle.std.proofs.lemmas.List.{at_drop_more}
-use Rattle.std.proofs.lemmas.Option.{slice_get-map, slice_get_cases}
-use Rattle.cord_syntax.specs.declared.statements.Statement.{Statement}
-use Rattle.cord_meaning.specs.Blocks.{Shape, Straight}
-use Rattle.cord_meaning.specs.Paths.{Next}
-use Rattle.cord_meaning.specs.Statements.{shape_of}
-use Rattle.cord_plan.specs.Inlined.{is_block, is_block_at}
-use Rattle.cord_plan.specs.Operands.{assigns, assigns_at, reads, reads_at}
-use Rattle.cord_plan.specs.Liveness.{IsLater, ReadBy, ReadLater}
-use Rattle.cord_plan.specs.inner.StraightLine.{flow, later_in}
-use Rattle.cord_plan.specs.inner.Liveness.{NoBlocks}
+use Rattle.std.specs.Prelude.{◌≡◌, ◌⊎◌, ◌+◌, ◌<◌, ◌∷◌}
+use Rattle.cord_plan.proofs.Common.{ℕ, zero, suc, Bool, true, false, List, [], map, drop, get_or, length, inl, inr, Option, Some, None}
+use Rattle.cord_plan.proofs.Common.{refl, sym, ap, ◌∙◌, arith, slice_get, and-false, and-true, at_drop_more, slice_get-map, slice_get_cases}
+use Rattle.cord_plan.proofs.Common.{Statement, Shape, Straight, Next, shape_of, is_block, is_block_at, assigns, assigns_at, reads, reads_at}
+use Rattle.cord_plan.proofs.Common.{IsLater, ReadBy, ReadLater, flow, later_in, NoBlocks}
 
 -- only a simple statement belongs to no block
 simple_alone : (x : Shape) → is_block x ≡ false → x ≡ Straight

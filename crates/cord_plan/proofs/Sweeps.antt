@@ -1,18 +1,9 @@
 -- Tables of places from which a name is read, as the backwards flow fills them.
-use Rattle.std.proofs.Common.{◌≡◌, ◌⊎◌, ℕ, zero, suc, ◌-◌, ◌<◌, ◌≤◌, Bool, true, false, ◌&&◌, List, [], ◌∷◌, map, length, set}
-use Rattle.std.proofs.Common.{None, refl, sym, ap, ◌∙◌, subst, inl, inr, ⊎_elim, arith, length-set}
-use Rattle.std.proofs.Math.Bool.{and-false}
-use Rattle.std.proofs.Math.Nat.{eq-or-lt_of_le}
-use Rattle.std.proofs.lemmas.List.{length-map, set-get_or}
-use Rattle.std.specs.Prelude.{slice_get, not}
-use Rattle.std.proofs.lemmas.Option.{slice_get_past}
-use Rattle.cord_syntax.specs.declared.statements.Statement.{Statement}
-use Rattle.cord_meaning.specs.Paths.{Next}
-use Rattle.cord_meaning.specs.Statements.{shape_of}
-use Rattle.cord_plan.specs.Operands.{reads, reads_at, assigns, assigns_at}
-use Rattle.cord_plan.specs.Liveness.{ReadBy, successors, some_of}
-use Rattle.cord_plan.specs.inner.Liveness.{at, finds, IsPartly, IsLive}
-use Rattle.cord_plan.specs.inner.StraightLine.{flow}
+use Rattle.std.specs.Prelude.{◌≡◌, ◌⊎◌, ◌-◌, ◌<◌, ◌≤◌, ◌&&◌, ◌∷◌}
+use Rattle.cord_plan.proofs.Common.{ℕ, zero, suc, Bool, true, false, List, [], map, length, set, None, refl, sym, ap, ◌∙◌, subst, inl, inr}
+use Rattle.cord_plan.proofs.Common.{⊎_elim, arith, length-set, and-false, eq-or-lt_of_le, length-map, set-get_or, slice_get, not}
+use Rattle.cord_plan.proofs.Common.{slice_get_past, Statement, Next, shape_of, reads, reads_at, assigns, assigns_at, ReadBy, successors}
+use Rattle.cord_plan.proofs.Common.{some_of, at, finds, IsPartly, IsLive, flow}
 use Rattle.cord_plan.proofs.Flows.{Found, shape_found, shape_held}
 
 -- the parts of a find

@@ -1,27 +1,13 @@
 -- The trivial plan is never stuck and does what the script does: each name of a cord holds its text.
-use Rattle.std.proofs.Common.{◌≡◌, ℕ, zero, suc, ◌+◌, pos, Bool, true, false, List, [], ◌∷◌, map, Option, Some, None, Result, refl, sym, ap}
-use Rattle.std.proofs.Common.{subst}
-use Rattle.std.specs.Prelude.{slice_get, if◌then◌else◌}
-use Rattle.std.specs.Str.{bytes_eq}
-use Rattle.cord_io.specs.Device.{FileSystem}
-use Rattle.cord_operands.specs.declared.operands.Number.TheVariants.{Numeral}
-use Rattle.cord_syntax.specs.declared.statements.Statement.{Statement}
-use Rattle.cord_syntax.specs.declared.statements.Statement.TheVariants.{Let, File, Eager, Lazy, Chars, Nul, FromFn, Cat, Catn, Catc, Substr}
-use Rattle.cord_syntax.specs.declared.statements.Statement.TheVariants.{Balance, EcToCord, Sprintf, Len}
-use Rattle.cord_syntax.specs.declared.statements.Statement.TheVariants.{Put}
-use Rattle.cord_meaning.specs.declared.ends.FaultKind.{FaultKind}
-use Rattle.cord_meaning.specs.State.{State, with_value}
-use Rattle.cord_meaning.specs.Statements.{act, rules, shape_of, line_of, file_text}
-use Rattle.cord_meaning.specs.inner.Simulation.{Agree, Simulates}
-use Rattle.cord_plan.specs.Exprs.{name, run, cat, sub, members}
-use Rattle.cord_plan.specs.Inlined.{defining}
-use Rattle.cord_plan.specs.Operands.{read_by}
-use Rattle.cord_plan.specs.Planned.{Made, Joined, Literal, OfFile, OfEager, OfLazy, OfFunction, Balanced, OfExtensible, Printed, Operation}
-use Rattle.cord_plan.specs.Planned.{Build, Keep, operation, or_nothing, trivial}
-use Rattle.cord_plan.specs.Values.{gives_text}
-use Rattle.cord_meaning.specs.Formats.{format_text}
-use Rattle.cord_plan.specs.Meaning.{Text, Holding, plain, gets, all_texts, texts_to_build, made_text, does, operation_shape, operation_line}
-use Rattle.cord_plan.specs.Meaning.{plan_rules}
+use Rattle.std.specs.Prelude.{◌≡◌, ◌+◌, ◌∷◌, if◌then◌else◌}
+use Rattle.cord_plan.proofs.Common.{ℕ, zero, suc, pos, Bool, true, false, List, [], map, Option, Some, None, Result, refl, sym, ap, subst}
+use Rattle.cord_plan.proofs.Common.{slice_get, bytes_eq, FileSystem, Numeral, Statement, Let, File, Eager, Lazy, Chars, Nul, FromFn, Cat}
+use Rattle.cord_plan.proofs.Common.{Catn, Catc, Substr, Balance, EcToCord, Sprintf, Len, Put, FaultKind, State, with_value, act, shape_of}
+use Rattle.cord_plan.proofs.Common.{line_of, file_text, Agree, Simulates, name, run, cat, sub, members, defining, read_by, Made, Joined}
+use Rattle.cord_plan.proofs.Common.{Literal, OfFile, OfEager, OfLazy, OfFunction, Balanced, OfExtensible, Printed, Operation, Build, Keep}
+use Rattle.cord_plan.proofs.Common.{operation, or_nothing, trivial, gives_text, format_text, Text, Holding, plain, gets, all_texts}
+use Rattle.cord_plan.proofs.Common.{texts_to_build, made_text, does, operation_shape, operation_line, plan_rules}
+use Rattle.cord_meaning.specs.Statements.{rules}
 use Rattle.cord_plan.proofs.Keeps.{IsVerbatimButLen, Agrees}
 use Rattle.cord_plan.proofs.Evaluation.{gives_after, function_gives}
 use Rattle.cord_plan.proofs.DefiningExpressions.{defining_means, sets_within}

@@ -1,11 +1,7 @@
 -- The trivial plan is the case without pairs, where no length alone is computed.
-use Rattle.std.proofs.Common.{◌≡◌, ℕ, suc, ◌+◌, false, List, [], ◌∷◌, Option, Some, None, refl, sym, ap, ◌∙◌, arith}
-use Rattle.std.specs.Prelude.{slice_get}
-use Rattle.cord_syntax.specs.declared.statements.Statement.{Statement}
-use Rattle.cord_plan.specs.Exprs.{Expr}
-use Rattle.cord_plan.specs.Inlined.{defining}
-use Rattle.cord_plan.specs.Planned.{operation, or_nothing, trivial}
-use Rattle.cord_plan.specs.Conditions.{Decisions, HasKinds, MeetsConditions, decided, decided_from}
+use Rattle.std.specs.Prelude.{◌≡◌, ◌+◌, ◌∷◌}
+use Rattle.cord_plan.proofs.Common.{ℕ, suc, false, List, [], Option, Some, None, refl, sym, ap, ◌∙◌, arith, slice_get, Statement, Expr}
+use Rattle.cord_plan.proofs.Common.{defining, operation, or_nothing, trivial, Decisions, HasKinds, MeetsConditions, decided, decided_from}
 use Rattle.cord_plan.proofs.Planning.{defining_simple}
 
 abbrev defining_at : Option Statement → Expr

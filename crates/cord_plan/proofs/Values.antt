@@ -1,16 +1,10 @@
 -- Texts and lengths of expressions.
-use Rattle.std.proofs.Common.{◌≡◌, ℕ, ℤ, ◌+◌, ◌-◌, ◌≤◌, Bool, true, false, List, ◌++◌, length, take, drop, Result, Ok, Err, refl, sym, ap}
-use Rattle.std.proofs.Common.{◌∙◌, length-append, subst}
-use Rattle.std.specs.Prelude.{min, nat_le, replicate, if◌then◌else◌}
-use Rattle.std.proofs.lemmas.Bool.{leb-true, le-leb}
-use Rattle.std.proofs.lemmas.List.{length-take, length-drop, length-replicate}
-use Rattle.cord_operands.specs.declared.operands.Number.{Number}
-use Rattle.cord_meaning.specs.declared.ends.FaultKind.{FaultKind}
-use Rattle.cord_meaning.specs.declared.ends.FaultKind.TheVariants.{TooLong}
-use Rattle.cord_meaning.specs.State.{State, number_value, and_then, as_index, as_byte, as_length}
-use Rattle.cord_plan.specs.Exprs.{Expr, name, run, cat, sub, Exprs, nothing, member}
-use Rattle.cord_plan.specs.Values.{within, part_of, copies, value, values, measured_copies, measured_part, measured, measured_members}
-use Rattle.cord_plan.specs.Values.{length_of, text_in}
+use Rattle.std.specs.Prelude.{◌≡◌, ◌+◌, ◌-◌, ◌≤◌, ◌++◌, if◌then◌else◌}
+use Rattle.cord_plan.proofs.Common.{ℕ, ℤ, Bool, true, false, List, length, take, drop, Result, Ok, Err, refl, sym, ap, ◌∙◌, length-append}
+use Rattle.cord_plan.proofs.Common.{subst, min, nat_le, replicate, leb-true, le-leb, length-take, length-drop, length-replicate, Number}
+use Rattle.cord_plan.proofs.Common.{FaultKind, TooLong, State, number_value, and_then, as_index, as_byte, as_length, Expr, name, run, cat}
+use Rattle.cord_plan.proofs.Common.{sub, Exprs, nothing, member, within, part_of, copies, value, values, measured_copies, measured_part}
+use Rattle.cord_plan.proofs.Common.{measured, measured_members, length_of, text_in}
 
 -- what comes after a result that is none of a fault
 pub record Passes {A B : Type 0} (r : Result A FaultKind) (f : A → Result B FaultKind) (b : B) : Type 0 where

@@ -1,18 +1,11 @@
 -- Words as sets of bits.
-use Rattle.std.proofs.Common.{◌≡◌, ◌≢◌, ℕ, zero, suc, ◌+◌, ◌-◌, ◌*◌, ◌%◌, ◌^◌, ◌<◌, ◌==◌, Bool, true, false, ◌&&◌, ◌||◌, List, ◌∷◌}
-use Rattle.std.proofs.Common.{length, set, get_or, Option, Some, refl, sym, ap, arith}
-use Rattle.std.specs.Prelude.{not, min, max}
-use Rattle.std.specs.Int.{bit_at, bit_not, w128}
-use Rattle.std.specs.Int.RustNames.{bit_and, bit_or}
-use Rattle.std.proofs.lemmas.Nat.Bits.{bit_at_or, bit_at_and, bit_at_not, bit_at-lt, bit_at-zero, bit_at_set_same, bit_at_set_other}
-use Rattle.std.specs.Int.Bits.{or_zero_l}
+use Rattle.std.specs.Prelude.{◌≡◌, ◌≢◌, ◌+◌, ◌-◌, ◌*◌, ◌%◌, ◌^◌, ◌<◌, ◌==◌, ◌&&◌, ◌||◌, ◌∷◌}
+use Rattle.cord_plan.proofs.Common.{ℕ, zero, suc, Bool, true, false, List, length, set, get_or, Option, Some, refl, sym, ap, arith, not}
+use Rattle.cord_plan.proofs.Common.{min, max, bit_at, bit_not, w128, bit_and, bit_or, bit_at_or, bit_at_and, bit_at_not, bit_at-lt}
+use Rattle.cord_plan.proofs.Common.{bit_at-zero, bit_at_set_same, bit_at_set_other, or_zero_l, or-false, some_of, bit, column, room, at}
+use Rattle.cord_plan.proofs.Common.{flow}
 use Rattle.std.proofs.lemmas.List.Sums.{sum_by-set}
 use Rattle.std.specs.Option.{option_to_list}
-use Rattle.std.proofs.Math.Bool.{or-false}
-use Rattle.cord_plan.specs.Liveness.{some_of}
-use Rattle.cord_plan.specs.inner.NameSets.{bit, column, room}
-use Rattle.cord_plan.specs.inner.Liveness.{at}
-use Rattle.cord_plan.specs.inner.StraightLine.{flow}
 
 -- a digit of two
 of_max : (a b : ℕ) → a < 2 → b < 2 → (max a b == 1) ≡ ((a == 1) || (b == 1))

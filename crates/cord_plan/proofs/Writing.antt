@@ -1,13 +1,10 @@
 -- Texts that a sink got, one after the other.
-use Rattle.std.proofs.Common.{◌≡◌, ◌<◌, ℕ, ◌+◌, List, [], ◌∷◌, ◌++◌, length, take, drop, get_or, Ok, Err, refl, sym, ap, subst, ◌∙◌}
-use Rattle.std.proofs.Common.{append-nil, append_assoc}
-use Rattle.std.proofs.lemmas.List.{take-append-drop, take_more}
-use Rattle.std.specs.Prelude.{IsErr}
+use Rattle.std.specs.Prelude.{◌≡◌, ◌<◌, ◌+◌, ◌∷◌, ◌++◌}
+use Rattle.cord_plan.proofs.Common.{ℕ, List, [], length, take, drop, get_or, Ok, Err, refl, sym, ap, subst, ◌∙◌, append-nil, append_assoc}
+use Rattle.cord_plan.proofs.Common.{take-append-drop, take_more, IsErr, raised, Writes}
 use Rattle.std.specs.declared.result.Result.{Result}
-use Rattle.cord_io.specs.Device.{raised}
 use Rattle.cord_io.specs.declared.writing.Sink as sinks
 use Rattle.cord_iter.proofs.Takes.{appends_both, prefix_join, prefix_more, writes_err}
-use Rattle.cord_iter.specs.Output.{Writes}
 
 module _ {S E : Type 0} {sink : sinks.Ghosts S} where
   -- the same text

@@ -1,4 +1,4 @@
-use Rattle.std.proofs.Common.{rules}
+use Rattle.cord_plan.proofs.Common.{rules}
 use Rattle.cord_plan.proofs.edits.pair_edit.Goals as goal
 
 -- a must-fail edit breaks it

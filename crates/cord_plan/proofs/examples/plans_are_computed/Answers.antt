@@ -1,5 +1,4 @@
-use Rattle.std.proofs.Common.{refl}
-use Rattle.std.specs.Prelude.{codes}
+use Rattle.cord_plan.proofs.Common.{refl, codes}
 use Rattle.cord_plan.specs.Examples.{substr_of_unread_cat_too_long, plan_of}
 use Rattle.cord_plan.proofs.Numerals.{greatest_length, unread_cat_shows}
 use Rattle.cord_plan.proofs.examples.plans_are_computed.Goals as goal

@@ -1,4 +1,4 @@
-use Rattle.std.proofs.Common.{refl}
+use Rattle.cord_plan.proofs.Common.{refl}
 use Rattle.cord_plan.proofs.examples.runs_of_plans_are_computed.Goals as goal
 
 pub returns : goal.returns

@@ -1,6 +1,4 @@
-use Rattle.std.proofs.Common.{ℕ, List, Option, Some, subst}
-use Rattle.cord_plan.specs.Operands.{target_of}
-use Rattle.cord_plan.specs.Exprs.{Expr}
+use Rattle.cord_plan.proofs.Common.{ℕ, List, Option, Some, subst, target_of, Expr}
 use Rattle.cord_plan.proofs.DefiningExpressions.{Means, defining_means}
 use Rattle.cord_plan.proofs.expression_laws.defining_expressions_mean_their_lines.Goals as goal
 

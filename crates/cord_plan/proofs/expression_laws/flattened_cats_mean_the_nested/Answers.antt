@@ -1,6 +1,4 @@
-use Rattle.std.proofs.Common.{Option, Some, subst}
-use Rattle.cord_plan.specs.Exprs.{Expr}
-use Rattle.cord_plan.specs.Inlined.{defining}
+use Rattle.cord_plan.proofs.Common.{Option, Some, subst, Expr, defining}
 use Rattle.cord_plan.proofs.Flattening.{flattened, MeanSame, replaced_means}
 use Rattle.cord_plan.proofs.expression_laws.flattened_cats_mean_the_nested.Goals as goal
 

@@ -1,4 +1,4 @@
-use Rattle.cord_meaning.specs.State.{number_value}
+use Rattle.cord_plan.proofs.Common.{number_value}
 use Rattle.cord_plan.proofs.Values.{measure_is}
 use Rattle.cord_plan.proofs.expression_laws.measures_are_lengths.Goals as goal
 

@@ -1,4 +1,4 @@
-use Rattle.std.proofs.Common.{refl}
+use Rattle.cord_plan.proofs.Common.{refl}
 use Rattle.cord_plan.proofs.Resolved.{resolves}
 use Rattle.cord_plan.proofs.expression_laws.subs_over_cats_are_resolved_by_lengths.Goals as goal
 

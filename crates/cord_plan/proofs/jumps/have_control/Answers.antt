@@ -1,10 +1,6 @@
-use borrow.Author.Count.{below_more}
-use Rattle.std.proofs.Common.{◌≡◌, Some, false, inl, inr, length, map, refl, sym, ap, ◌∙◌, arith}
-use Rattle.std.specs.Prelude.{option_map, slice_get}
-use Rattle.std.proofs.lemmas.Bool.Decides.{leb_tells}
-use Rattle.std.proofs.lemmas.Option.{slice_get-map, slice_get_past, slice_get_read}
-use Rattle.cord_plan.specs.Meaning.{operation_shape}
-use Rattle.cord_plan.specs.Views.{operation_view}
+use Rattle.std.specs.Prelude.{◌≡◌}
+use Rattle.cord_plan.proofs.Common.{below_more, Some, false, inl, inr, length, map, refl, sym, ap, ◌∙◌, arith, option_map, slice_get}
+use Rattle.cord_plan.proofs.Common.{leb_tells, slice_get-map, slice_get_past, slice_get_read, operation_shape, operation_view}
 use Rattle.cord_plan.proofs.Nexts.{all_next, is_block_shape}
 use Rattle.cord_plan.proofs.jumps.have_control.Goals as goal
 

@@ -1,7 +1,5 @@
-use Rattle.std.proofs.Common.{◌≡◌, ◌<◌, ℕ, false, map}
-use Rattle.std.specs.Prelude.{slice_get}
-use Rattle.cord_plan.specs.Meaning.{operation_shape}
-use Rattle.cord_plan.specs.Views.{operation_view}
+use Rattle.std.specs.Prelude.{◌≡◌, ◌<◌}
+use Rattle.cord_plan.proofs.Common.{ℕ, false, map, slice_get, operation_shape, operation_view}
 use Rattle.cord_plan.proofs.Nexts.{is_block_shape}
 use Rattle.cord_plan.proofs.jumps.have_control.Given as goal
 

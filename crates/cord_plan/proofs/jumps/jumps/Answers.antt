@@ -1,10 +1,7 @@
-use Rattle.std.proofs.Common.{◌≡◌, ◌<◌, List, Some, map, length, sym, ap, ◌∙◌, arith}
-use Rattle.std.proofs.lemmas.List.{length-map}
+use Rattle.std.specs.Prelude.{◌≡◌, ◌<◌}
+use Rattle.cord_plan.proofs.Common.{List, Some, map, length, sym, ap, ◌∙◌, arith, length-map, jump, shape_view, operation_shape}
+use Rattle.cord_plan.proofs.Common.{operation_view}
 use Rattle.cord_meaning.specs.Blocks as blocks
-use Rattle.cord_meaning.specs.Blocks.{jump}
-use Rattle.cord_plan.specs.inner.Liveness.{shape_view}
-use Rattle.cord_plan.specs.Meaning.{operation_shape}
-use Rattle.cord_plan.specs.Views.{operation_view}
 use Rattle.cord_plan.specs.declared.operations.Operation.{Operation}
 use Rattle.cord_plan.specs.declared.flow.successors.Shape.{Shape}
 use Rattle.cord_plan.proofs.Pushed.{reported_more, size_more}

@@ -1,7 +1,5 @@
-use Rattle.std.proofs.Common.{◌≡◌, ◌<◌, ℕ, Some, map, length}
-use Rattle.std.specs.Prelude.{slice_get}
-use Rattle.cord_meaning.specs.Blocks.{jump}
-use Rattle.cord_plan.specs.inner.Liveness.{shape_view}
+use Rattle.std.specs.Prelude.{◌≡◌, ◌<◌}
+use Rattle.cord_plan.proofs.Common.{ℕ, Some, map, length, slice_get, jump, shape_view}
 use Rattle.cord_plan.proofs.jumps.jumps.Given as goal
 
 -- the places so far

@@ -1,9 +1,5 @@
-use Rattle.std.proofs.Common.{◌≤◌, map, length, sym, ap, ◌∙◌, arith}
-use Rattle.std.proofs.lemmas.List.{take_all}
-use Rattle.std.proofs.lemmas.Simd.{map-map}
-use Rattle.cord_plan.specs.inner.Liveness.{shape_view}
-use Rattle.cord_plan.specs.Meaning.{operation_shape}
-use Rattle.cord_plan.specs.Views.{operation_view}
+use Rattle.std.specs.Prelude.{◌≤◌}
+use Rattle.cord_plan.proofs.Common.{map, length, sym, ap, ◌∙◌, arith, take_all, map-map, shape_view, operation_shape, operation_view}
 use Rattle.cord_plan.proofs.Pushed.{made_more}
 use Rattle.cord_plan.proofs.jumps.shapes_of.Goals as goal
 

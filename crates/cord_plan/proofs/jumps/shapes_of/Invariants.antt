@@ -1,7 +1,5 @@
-use Rattle.std.proofs.Common.{◌≡◌, map, take}
-use Rattle.cord_plan.specs.inner.Liveness.{shape_view}
-use Rattle.cord_plan.specs.Meaning.{operation_shape}
-use Rattle.cord_plan.specs.Views.{operation_view}
+use Rattle.std.specs.Prelude.{◌≡◌}
+use Rattle.cord_plan.proofs.Common.{map, take, shape_view, operation_shape, operation_view}
 use Rattle.cord_plan.proofs.jumps.shapes_of.Given as goal
 
 -- the shapes of the operations so far

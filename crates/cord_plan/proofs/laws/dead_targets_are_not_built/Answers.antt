@@ -1,5 +1,5 @@
-use Rattle.std.proofs.Common.{◌≡◌, ◌+◌, ℕ, true, subst, arith}
-use Rattle.cord_plan.specs.Inlined.{exprs}
+use Rattle.std.specs.Prelude.{◌≡◌, ◌+◌}
+use Rattle.cord_plan.proofs.Common.{ℕ, true, subst, arith, exprs}
 use Rattle.cord_plan.proofs.Built.{built_later}
 use Rattle.cord_plan.proofs.laws.dead_targets_are_not_built.Goals as goal
 

@@ -1,4 +1,4 @@
-use Rattle.cord_plan.specs.Inlined.{exprs}
+use Rattle.cord_plan.proofs.Common.{exprs}
 use Rattle.cord_plan.proofs.Flat.{exprs_flat, operations_flat}
 use Rattle.cord_plan.proofs.laws.no_cat_stands_in_a_cat.Goals as goal
 

@@ -1,6 +1,5 @@
-use Rattle.std.proofs.Common.{ap}
+use Rattle.cord_plan.proofs.Common.{ap, planned}
 use Rattle.std.proofs.Math.Path.{fun_ext}
-use Rattle.cord_plan.specs.Planned.{planned}
 use Rattle.cord_plan.proofs.Flows.{one_oracle}
 use Rattle.cord_plan.proofs.laws.plans_are_one.Goals as goal
 

@@ -1,4 +1,4 @@
-use Rattle.std.proofs.Common.{refl}
+use Rattle.cord_plan.proofs.Common.{refl}
 use Rattle.cord_plan.proofs.TrivialDecided.{plain_decisions, trivial_decided, trivial_meets}
 use Rattle.cord_plan.proofs.Planning.{decisions, meets, planned_decided}
 use Rattle.cord_plan.proofs.ReadKinds.{read_kinds}

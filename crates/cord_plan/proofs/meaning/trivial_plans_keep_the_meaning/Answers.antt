@@ -1,10 +1,6 @@
-use Rattle.std.proofs.Common.{Some, None, refl, Option}
-use Rattle.std.specs.Prelude.{ℕ, IsSome}
-use Rattle.cord_meaning.specs.State.{State, start_state}
+use Rattle.cord_plan.proofs.Common.{Some, None, refl, Option, ℕ, IsSome, State, start_state, reported_same, end_same, trivial, Holding}
+use Rattle.cord_plan.proofs.Common.{plan_rules, start_holding}
 use Rattle.cord_meaning.specs.Statements.{rules}
-use Rattle.cord_meaning.proofs.Simulating.{reported_same, end_same}
-use Rattle.cord_plan.specs.Planned.{trivial}
-use Rattle.cord_plan.specs.Meaning.{Holding, plan_rules, start_holding}
 use Rattle.cord_plan.proofs.Trivial.{Same, trivial_simulates}
 use Rattle.cord_plan.proofs.Stays.{each_related}
 use Rattle.cord_plan.proofs.meaning.trivial_plans_keep_the_meaning.Goals as goal

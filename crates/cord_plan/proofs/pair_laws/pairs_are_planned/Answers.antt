@@ -1,8 +1,5 @@
-use Rattle.std.proofs.Common.{[], ◌∷◌, refl}
-use Rattle.std.specs.Prelude.{codes}
-use Rattle.cord_syntax.specs.declared.statements.Statement.TheVariants.{Substr}
-use Rattle.cord_meaning.specs.Examples.{numeral}
-use Rattle.cord_plan.specs.Inlined.{replaced}
+use Rattle.std.specs.Prelude.{◌∷◌}
+use Rattle.cord_plan.proofs.Common.{[], refl, codes, Substr, numeral, replaced}
 use Rattle.cord_plan.specs.Examples.{joined_over_seam}
 use Rattle.cord_plan.proofs.PlannedPairs.{earlier_operation, later_operation}
 use Rattle.cord_plan.proofs.pair_laws.pairs_are_planned.Goals as goal

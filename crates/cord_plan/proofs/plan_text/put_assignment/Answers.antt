@@ -1,5 +1,4 @@
-use Rattle.cord_plan.specs.PlanText.{decimal, made}
-use Rattle.cord_plan.specs.Views.{made_view}
+use Rattle.cord_plan.proofs.Common.{decimal, made, made_view}
 use Rattle.cord_plan.proofs.Spacing.{given_line}
 use Rattle.cord_plan.proofs.Writing.{writes_same, writes_then, writes_stopped, writes_failed}
 use Rattle.cord_plan.proofs.plan_text.put_assignment.Goals as goal

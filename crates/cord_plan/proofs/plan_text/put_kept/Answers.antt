@@ -1,6 +1,5 @@
-use Rattle.std.proofs.Common.{[], ◌∷◌, ◌++◌, ap, ◌∙◌, append_assoc}
-use Rattle.cord_meaning.specs.Statements.{line_of}
-use Rattle.cord_plan.specs.PlanText.{decimal, statement}
+use Rattle.std.specs.Prelude.{◌∷◌, ◌++◌}
+use Rattle.cord_plan.proofs.Common.{[], ap, ◌∙◌, append_assoc, line_of, decimal, statement}
 use Rattle.cord_plan.proofs.Writing.{writes_same, writes_then, writes_stopped, writes_failed}
 use Rattle.cord_plan.proofs.plan_text.put_kept.Goals as goal
 

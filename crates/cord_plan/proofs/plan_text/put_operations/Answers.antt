@@ -1,7 +1,7 @@
-use Rattle.std.proofs.Common.{List, ℕ, [], ◌∷◌, ◌++◌, map, refl, ap, sym, append_assoc}
+use Rattle.std.specs.Prelude.{◌∷◌, ◌++◌}
+use Rattle.cord_plan.proofs.Common.{List, ℕ, [], map, refl, ap, sym, append_assoc, text_of_plan, operation_view}
 use Rattle.cord_plan.specs.declared.operations.Operation.{Operation}
-use Rattle.cord_plan.specs.PlanText.{operation, text_of_plan}
-use Rattle.cord_plan.specs.Views.{operation_view}
+use Rattle.cord_plan.specs.PlanText.{operation}
 use Rattle.cord_plan.proofs.Writing.{AreJoined, writes_failed, writes_next, writes_broken, writes_then, writes_stopped, writes_same}
 use Rattle.cord_plan.proofs.plan_text.put_operations.Goals as goal
 

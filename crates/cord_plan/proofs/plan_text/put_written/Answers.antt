@@ -1,7 +1,4 @@
-use Rattle.std.proofs.Common.{append_assoc}
-use Rattle.std.specs.Prelude.{codes}
-use Rattle.cord_plan.specs.PlanText.{decimal, expr}
-use Rattle.cord_plan.specs.Views.{expr_view}
+use Rattle.cord_plan.proofs.Common.{append_assoc, codes, decimal, expr, expr_view}
 use Rattle.cord_plan.proofs.Writing.{writes_same, writes_then, writes_stopped, writes_failed}
 use Rattle.cord_plan.proofs.plan_text.put_written.Goals as goal
 

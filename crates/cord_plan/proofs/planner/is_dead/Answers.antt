@@ -1,9 +1,7 @@
-use Rattle.std.proofs.Common.{◌≡◌, ℕ, Bool, List, Option, Some, None, refl, sym, ap, subst, ◌∙◌, not}
-use Rattle.cord_plan.specs.inner.Liveness.{reports}
-use Rattle.cord_plan.specs.inner.Numbering.{IsNumberIn, number_of}
-use Rattle.cord_plan.specs.Operands.{target_of}
+use Rattle.std.specs.Prelude.{◌≡◌}
+use Rattle.cord_plan.proofs.Common.{ℕ, Bool, List, Option, Some, None, refl, sym, ap, subst, ◌∙◌, not, reports, IsNumberIn, number_of}
+use Rattle.cord_plan.proofs.Common.{target_of, Later}
 use Rattle.cord_plan.specs.Planned as plan
-use Rattle.cord_plan.specs.declared.flow.liveness.Later.{Later}
 use Rattle.cord_plan.proofs.Numbers.{number_reported, unnamed}
 use Rattle.cord_plan.proofs.planner.is_dead.Goals as goal
 

@@ -1,11 +1,8 @@
-use Rattle.std.proofs.Common.{◌≡◌, ◌<◌, Some, map, length, refl, sym, ap, ◌∙◌, arith}
-use Rattle.std.specs.Prelude.{option_map, slice_get}
+use Rattle.std.specs.Prelude.{◌≡◌, ◌<◌}
+use Rattle.cord_plan.proofs.Common.{Some, map, length, refl, sym, ap, ◌∙◌, arith, option_map, slice_get, slice_get_read, reports}
+use Rattle.cord_plan.proofs.Common.{IsNumbered, expr_view, operation_view}
 use Rattle.std.proofs.lemmas.List.{length-set}
-use Rattle.std.proofs.lemmas.Option.{slice_get_read}
-use Rattle.cord_plan.specs.inner.Liveness.{reports}
-use Rattle.cord_plan.specs.inner.Numbering.{IsNumbered}
 use Rattle.cord_plan.specs.Planned as plan
-use Rattle.cord_plan.specs.Views.{expr_view, operation_view}
 use Rattle.cord_plan.proofs.Begun.{NextLeft, all_operations, as_many, left_then, next_left, operations_then}
 use Rattle.cord_plan.proofs.Numbers.{line_there}
 use Rattle.cord_plan.proofs.planner.operations_of.Goals as goal

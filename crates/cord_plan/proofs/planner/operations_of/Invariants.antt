@@ -1,8 +1,5 @@
-use Rattle.std.proofs.Common.{◌≡◌, ◌≤◌, ◌+◌, ◌-◌, ◌++◌, drop, map, length}
-use Rattle.std.specs.Prelude.{vec_len, vec_capacity}
-use Rattle.cord_plan.specs.inner.Liveness.{reports}
-use Rattle.cord_plan.specs.Planned.{planned}
-use Rattle.cord_plan.specs.Views.{operation_view}
+use Rattle.std.specs.Prelude.{◌≡◌, ◌≤◌, ◌+◌, ◌-◌, ◌++◌}
+use Rattle.cord_plan.proofs.Common.{drop, map, length, vec_len, vec_capacity, reports, planned, operation_view}
 use Rattle.cord_plan.proofs.Begun.{AreLeft, operations_left}
 use Rattle.cord_plan.proofs.planner.operations_of.Given as goal
 

@@ -1,12 +1,5 @@
-use Rattle.std.proofs.Common.{List, map, sym, ap, ◌∙◌, subst}
-use Rattle.std.specs.Prelude.{All}
-use Rattle.cord_syntax.specs.declared.statements.Statement.{Statement}
-use Rattle.cord_plan.specs.Verbatim.{KeepsNoOther}
-use Rattle.cord_plan.specs.inner.Extensions.{AreExtending}
-use Rattle.cord_plan.specs.inner.Liveness.{reports}
-use Rattle.cord_plan.specs.Planned.{Operation, planned}
-use Rattle.cord_plan.specs.Views.{operation_view}
-use Rattle.cord_plan.specs.Liveness.{IsLater}
+use Rattle.cord_plan.proofs.Common.{List, map, sym, ap, ◌∙◌, subst, All, Statement, KeepsNoOther, AreExtending, reports, Operation, planned}
+use Rattle.cord_plan.proofs.Common.{operation_view, IsLater}
 use Rattle.cord_plan.proofs.Extending.{all_extending}
 use Rattle.cord_plan.proofs.MeaningKept.{planned_keeps}
 use Rattle.cord_plan.proofs.OnlyKept.{kept_planned}

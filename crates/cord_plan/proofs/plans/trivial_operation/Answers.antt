@@ -1,8 +1,5 @@
-use Rattle.std.proofs.Common.{◌≡◌, false, Option, subst}
-use Rattle.std.specs.Prelude.{IfOk}
-use Rattle.cord_plan.specs.Exprs.{Expr}
-use Rattle.cord_plan.specs.Planned.{operation, or_nothing}
-use Rattle.cord_plan.specs.Views.{operation_view}
+use Rattle.std.specs.Prelude.{◌≡◌}
+use Rattle.cord_plan.proofs.Common.{false, Option, subst, IfOk, Expr, operation, or_nothing, operation_view}
 use Rattle.cord_plan.proofs.plans.trivial_operation.Goals as goal
 
 pub returns : goal.returns

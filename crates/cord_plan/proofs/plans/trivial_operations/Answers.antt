@@ -1,10 +1,7 @@
-use Rattle.std.proofs.Common.{◌≡◌, ℕ, ◌+◌, ◌<◌, false, List, [], ◌∷◌, ◌++◌, length, get_or, take, map, refl, sym, ap, ◌∙◌, arith}
-use Rattle.std.proofs.lemmas.List.{map-append, take_more}
-use Rattle.cord_syntax.specs.declared.statements.Statement.{Statement}
-use Rattle.cord_plan.specs.Inlined.{defining}
-use Rattle.cord_plan.specs.Planned.{operation, or_nothing, trivial}
+use Rattle.std.specs.Prelude.{◌≡◌, ◌+◌, ◌<◌, ◌∷◌, ◌++◌}
+use Rattle.cord_plan.proofs.Common.{ℕ, false, List, [], length, get_or, take, map, refl, sym, ap, ◌∙◌, arith, map-append, take_more}
+use Rattle.cord_plan.proofs.Common.{Statement, defining, operation, or_nothing, trivial, operation_view}
 use Rattle.cord_plan.specs.declared.operations.Operation.{Operation}
-use Rattle.cord_plan.specs.Views.{operation_view}
 use Rattle.cord_plan.proofs.plans.trivial_operations.Goals as goal
 
 -- the trivial plan of one line more

@@ -1,7 +1,5 @@
-use Rattle.std.proofs.Common.{◌≡◌, ◌≤◌, ◌+◌, ◌-◌, map, take, length}
-use Rattle.std.specs.Prelude.{vec_len, vec_capacity}
-use Rattle.cord_plan.specs.Planned.{trivial}
-use Rattle.cord_plan.specs.Views.{operation_view}
+use Rattle.std.specs.Prelude.{◌≡◌, ◌≤◌, ◌+◌, ◌-◌}
+use Rattle.cord_plan.proofs.Common.{map, take, length, vec_len, vec_capacity, trivial, operation_view}
 use Rattle.cord_plan.proofs.plans.trivial_operations.Given as goal
 
 -- the operations so far are those of the lines so far, with room for those to come

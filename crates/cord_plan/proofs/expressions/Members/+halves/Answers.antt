@@ -1,8 +1,4 @@
-use Rattle.std.proofs.Common.{[], map, Some, sym, ap, ◌∙◌}
-use Rattle.cord_plan.specs.Exprs.{append}
-use Rattle.cord_plan.specs.Views.{members_of, members_view, shared_view}
-use Rattle.cord_plan.specs.inner.Views.{rest_view}
-use Rattle.cord_plan.specs.declared.expressions.Members.{Members}
+use Rattle.cord_plan.proofs.Common.{[], map, Some, sym, ap, ◌∙◌, append, members_of, members_view, shared_view, rest_view, Members}
 use Rattle.cord_plan.proofs.Appending.{append_nothing}
 use Rattle.cord_plan.proofs.ExprViews.{members_reported, view-Nothing, view-One, view-Two}
 use Rattle.cord_plan.proofs.expressions.Members.+halves.Goals as goal

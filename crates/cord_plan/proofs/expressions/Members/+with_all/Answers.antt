@@ -1,6 +1,5 @@
-use Rattle.std.proofs.Common.{◌<◌, map, rules, sym, ap, ◌∙◌}
-use Rattle.cord_plan.specs.Exprs.{Exprs, append}
-use Rattle.cord_plan.specs.Views.{members_of, members_view, shared_view}
+use Rattle.std.specs.Prelude.{◌<◌}
+use Rattle.cord_plan.proofs.Common.{map, rules, sym, ap, ◌∙◌, Exprs, append, members_of, members_view, shared_view}
 use Rattle.cord_plan.proofs.Appending.{append_thrice}
 use Rattle.cord_plan.proofs.Halves.{prefix_lighter, halves_None, halves_Some}
 use Rattle.cord_plan.proofs.MemberTexts.{weights}

@@ -1,4 +1,4 @@
-use Rattle.cord_plan.specs.Views.{members_view}
+use Rattle.cord_plan.proofs.Common.{members_view}
 use Rattle.cord_plan.proofs.MemberTexts.{weights}
 use Rattle.cord_plan.proofs.expressions.Members.+with_all.Given as goal
 

@@ -1,5 +1,4 @@
-use Rattle.std.proofs.Common.{sym, ap, ◌∙◌}
-use Rattle.cord_plan.specs.inner.Views.{is_nothing}
+use Rattle.cord_plan.proofs.Common.{sym, ap, ◌∙◌, is_nothing}
 use Rattle.cord_plan.proofs.Halves.{nothing_reported}
 use Rattle.cord_plan.proofs.expressions.Members.is_nothing.Goals as goal
 

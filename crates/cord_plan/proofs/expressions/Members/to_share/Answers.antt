@@ -1,5 +1,4 @@
-use Rattle.std.proofs.Common.{ap, ◌∙◌}
-use Rattle.cord_plan.specs.Views.{members_view}
+use Rattle.cord_plan.proofs.Common.{ap, ◌∙◌, members_view}
 use Rattle.cord_plan.proofs.Sharing.{full_made}
 use Rattle.cord_plan.proofs.expressions.Members.to_share.Goals as goal
 

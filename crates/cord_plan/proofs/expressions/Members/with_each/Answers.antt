@@ -1,6 +1,4 @@
-use Rattle.std.proofs.Common.{sym, ap, ◌∙◌}
-use Rattle.cord_plan.specs.Exprs.{Exprs, append, member, nothing}
-use Rattle.cord_plan.specs.Views.{members_view, shared_view}
+use Rattle.cord_plan.proofs.Common.{sym, ap, ◌∙◌, Exprs, append, member, nothing, members_view, shared_view}
 use Rattle.cord_plan.proofs.Appending.{append_nothing}
 use Rattle.cord_plan.proofs.Sharing.{each_more}
 use Rattle.cord_plan.proofs.expressions.Members.with_each.Goals as goal

@@ -1,6 +1,5 @@
-use Rattle.std.proofs.Common.{◌≡◌, map, take}
-use Rattle.cord_plan.specs.Exprs.{append}
-use Rattle.cord_plan.specs.Views.{members_of, members_view, shared_view}
+use Rattle.std.specs.Prelude.{◌≡◌}
+use Rattle.cord_plan.proofs.Common.{map, take, append, members_of, members_view, shared_view}
 use Rattle.cord_plan.proofs.expressions.Members.with_each.Given as goal
 
 -- the first ones, and the others so far

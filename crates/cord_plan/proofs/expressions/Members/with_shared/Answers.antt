@@ -1,6 +1,4 @@
-use Rattle.std.proofs.Common.{sym, ap, ◌∙◌}
-use Rattle.cord_plan.specs.Exprs.{Exprs, append}
-use Rattle.cord_plan.specs.Views.{members_view}
+use Rattle.cord_plan.proofs.Common.{sym, ap, ◌∙◌, Exprs, append, members_view}
 use Rattle.cord_plan.proofs.Sharing.{made_as, nothing_is}
 use Rattle.cord_plan.proofs.expressions.Members.with_shared.Goals as goal
 

@@ -1,5 +1,4 @@
-use Rattle.std.proofs.Common.{sym, ap, ◌∙◌}
-use Rattle.cord_plan.specs.inner.Views.{rest_view}
+use Rattle.cord_plan.proofs.Common.{sym, ap, ◌∙◌, rest_view}
 use Rattle.cord_plan.proofs.ExprViews.{view-One, view-Two}
 use Rattle.cord_plan.proofs.expressions.Rest.as_slice.Goals as goal
 

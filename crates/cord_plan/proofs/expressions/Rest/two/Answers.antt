@@ -1,4 +1,5 @@
-use Rattle.std.proofs.Common.{[], ◌∷◌}
+use Rattle.std.specs.Prelude.{◌∷◌}
+use Rattle.cord_plan.proofs.Common.{[]}
 use Rattle.cord_plan.proofs.ExprViews.{view-Two}
 use Rattle.cord_plan.proofs.expressions.Rest.two.Goals as goal
 

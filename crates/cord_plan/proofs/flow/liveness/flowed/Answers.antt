@@ -1,6 +1,5 @@
-use Rattle.std.proofs.Common.{◌<◌, ◌≤◌, ◌^◌, arith}
-use Rattle.std.specs.Int.{bit_not, w128}
-use Rattle.std.specs.Int.RustNames.{bit_and}
+use Rattle.std.specs.Prelude.{◌<◌, ◌≤◌, ◌^◌}
+use Rattle.cord_plan.proofs.Common.{arith, bit_not, w128, bit_and}
 use Rattle.std.proofs.lemmas.Nat.{le_or_l, or_lt, and_le_l}
 use Rattle.cord_plan.proofs.Words.{flow_bits}
 use Rattle.cord_plan.proofs.flow.liveness.flowed.Goals as goal

@@ -1,5 +1,5 @@
-use Rattle.std.proofs.Common.{◌/◌, arith}
-use Rattle.cord_plan.specs.declared.flow.liveness.Group.{Group}
+use Rattle.std.specs.Prelude.{◌/◌}
+use Rattle.cord_plan.proofs.Common.{arith, Group}
 use Rattle.cord_plan.proofs.LivenessTables.{live_more}
 use Rattle.cord_plan.proofs.Pushed.{size_more}
 use Rattle.cord_plan.proofs.flow.liveness.groups_of.Goals as goal

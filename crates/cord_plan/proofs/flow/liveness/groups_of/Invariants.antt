@@ -1,4 +1,5 @@
-use Rattle.std.proofs.Common.{◌≡◌, length}
+use Rattle.std.specs.Prelude.{◌≡◌}
+use Rattle.cord_plan.proofs.Common.{length}
 use Rattle.cord_plan.proofs.LivenessTables.{LiveTo}
 use Rattle.cord_plan.proofs.flow.liveness.groups_of.Given as goal
 

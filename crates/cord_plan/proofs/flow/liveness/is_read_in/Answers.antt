@@ -1,7 +1,4 @@
-use Rattle.std.proofs.Common.{List, sym, ◌∙◌}
-use Rattle.std.proofs.lemmas.List.{at_drop_all}
-use Rattle.cord_syntax.specs.declared.statements.Statement.{Statement}
-use Rattle.cord_plan.specs.inner.StraightLine.{later_in}
+use Rattle.cord_plan.proofs.Common.{List, sym, ◌∙◌, at_drop_all, Statement, later_in}
 use Rattle.cord_plan.proofs.StraightLineReads.{assigned_here, passed_here, read_here}
 use Rattle.cord_plan.proofs.flow.liveness.is_read_in.Goals as goal
 

@@ -1,5 +1,5 @@
-use Rattle.std.proofs.Common.{◌≡◌, drop}
-use Rattle.cord_plan.specs.inner.StraightLine.{later_in}
+use Rattle.std.specs.Prelude.{◌≡◌}
+use Rattle.cord_plan.proofs.Common.{drop, later_in}
 use Rattle.cord_plan.proofs.flow.liveness.is_read_in.Given as goal
 
 -- the lines that are left tell it

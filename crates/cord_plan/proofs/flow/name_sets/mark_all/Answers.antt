@@ -1,10 +1,5 @@
-use Rattle.std.proofs.Common.{◌≡◌, ◌≤◌, ◌||◌, ◌+◌, Some, length, get_or, take, arith}
-use Rattle.std.specs.Prelude.{slice_get}
-use Rattle.std.specs.Int.RustNames.{bit_or}
-use Rattle.std.specs.Str.{bytes_eq}
-use Rattle.std.proofs.lemmas.List.{take_all}
-use Rattle.std.proofs.lemmas.Option.{slice_get-get_or}
-use Rattle.cord_plan.specs.Operands.{has}
+use Rattle.std.specs.Prelude.{◌≡◌, ◌≤◌, ◌||◌, ◌+◌}
+use Rattle.cord_plan.proofs.Common.{Some, length, get_or, take, arith, slice_get, bit_or, bytes_eq, take_all, slice_get-get_or, has}
 use Rattle.cord_plan.proofs.MarkedNames.{has_more, marks_or, marks_same}
 use Rattle.cord_plan.proofs.Numbers.{as_many, name_at}
 use Rattle.cord_plan.proofs.Words.{bit_zero_is}

@@ -1,9 +1,4 @@
-use Rattle.std.proofs.Common.{List, ℕ, take}
-use Rattle.cord_plan.specs.Operands.{has}
-use Rattle.cord_plan.specs.inner.NameSets.{Marks}
-use Rattle.cord_plan.specs.inner.Numbering.{names_of}
-use Rattle.cord_plan.specs.inner.Places.{AreNumbers}
-use Rattle.cord_plan.specs.declared.flow.numbering.Numbering.{Numbering}
+use Rattle.cord_plan.proofs.Common.{List, ℕ, take, has, Marks, names_of, AreNumbers, Numbering}
 use Rattle.cord_plan.proofs.flow.name_sets.mark_all.Given as goal
 
 abbrev pub invariant-loop-number : goal.invariant-loop-number

@@ -1,4 +1,4 @@
-use Rattle.std.proofs.Common.{sym, ◌∙◌}
+use Rattle.cord_plan.proofs.Common.{sym, ◌∙◌}
 use Rattle.cord_plan.proofs.MarkedNames.{marks_named, marks_unnamed}
 use Rattle.cord_plan.proofs.flow.name_sets.mark_target.Goals as goal
 

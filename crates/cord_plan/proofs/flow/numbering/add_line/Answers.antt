@@ -1,4 +1,4 @@
-use Rattle.std.proofs.Common.{List, ℕ, Some, Option, ap, ◌∙◌}
+use Rattle.cord_plan.proofs.Common.{List, ℕ, Some, Option, ap, ◌∙◌}
 use Rattle.std.specs.Option.{option_map}
 use Rattle.cord_plan.proofs.Numbers.{line_added, same_names}
 use Rattle.cord_plan.proofs.flow.numbering.add_line.Goals as goal

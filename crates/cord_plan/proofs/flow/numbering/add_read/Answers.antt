@@ -1,6 +1,5 @@
-use Rattle.std.proofs.Common.{◌≡◌, ◌++◌, ◌∷◌, [], List, ℕ, sym, ap, ◌∙◌, append_assoc, append-nil}
-use Rattle.cord_syntax.specs.Readings.{read_names}
-use Rattle.cord_plan.specs.Operands.{read_by}
+use Rattle.std.specs.Prelude.{◌≡◌, ◌++◌, ◌∷◌}
+use Rattle.cord_plan.proofs.Common.{[], List, ℕ, sym, ap, ◌∙◌, append_assoc, append-nil, read_names, read_by}
 use Rattle.cord_plan.proofs.Numbers.{both_added, none_added}
 use Rattle.cord_plan.proofs.flow.numbering.add_read.Goals as goal
 

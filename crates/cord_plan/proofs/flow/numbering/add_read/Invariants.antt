@@ -1,7 +1,5 @@
-use Rattle.std.proofs.Common.{◌≡◌, ◌++◌, List, ℕ, length}
-use Rattle.cord_syntax.specs.Readings.{read_names}
-use Rattle.cord_plan.specs.Operands.{read_by}
-use Rattle.cord_plan.specs.inner.Places.{AddsPlaces}
+use Rattle.std.specs.Prelude.{◌≡◌, ◌++◌}
+use Rattle.cord_plan.proofs.Common.{List, ℕ, length, read_names, read_by, AddsPlaces}
 use Rattle.cord_plan.proofs.flow.numbering.add_read.Given as goal
 
 -- the numbers of these are noted, and the others are left

@@ -1,4 +1,5 @@
-use Rattle.std.proofs.Common.{◌≡◌, List, ℕ, [], ◌∷◌, ◌++◌, ap, ◌∙◌, rules}
+use Rattle.std.specs.Prelude.{◌≡◌, ◌∷◌, ◌++◌}
+use Rattle.cord_plan.proofs.Common.{List, ℕ, [], ap, ◌∙◌, rules}
 use Rattle.cord_plan.proofs.Numbers.{name_added}
 use Rattle.cord_plan.proofs.flow.numbering.number_new.Goals as goal
 

@@ -1,5 +1,5 @@
-use Rattle.std.proofs.Common.{◌≡◌, drop}
-use Rattle.cord_plan.specs.Operands.{cord_arguments}
+use Rattle.std.specs.Prelude.{◌≡◌}
+use Rattle.cord_plan.proofs.Common.{drop, cord_arguments}
 use Rattle.cord_plan.proofs.flow.readings.first_cord.Given as goal
 
 -- none stands before the place

@@ -1,6 +1,5 @@
-use Rattle.std.proofs.Common.{◌≡◌, length}
-use Rattle.cord_syntax.specs.Readings.{read_names}
-use Rattle.cord_plan.specs.Operands.{has, reads}
+use Rattle.std.specs.Prelude.{◌≡◌}
+use Rattle.cord_plan.proofs.Common.{length, read_names, has, reads}
 use Rattle.cord_plan.proofs.flow.readings.reads.Given as goal
 
 -- those that are left tell it

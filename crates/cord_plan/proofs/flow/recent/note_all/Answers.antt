@@ -1,7 +1,5 @@
-use Rattle.std.proofs.Common.{◌≡◌, ◌≤◌, Some, length, get_or, ap, ◌∙◌, arith}
-use Rattle.std.specs.Prelude.{slice_get}
-use Rattle.std.proofs.lemmas.List.{take_all}
-use Rattle.std.proofs.lemmas.Option.{slice_get-get_or}
+use Rattle.std.specs.Prelude.{◌≡◌, ◌≤◌}
+use Rattle.cord_plan.proofs.Common.{Some, length, get_or, ap, ◌∙◌, arith, slice_get, take_all, slice_get-get_or}
 use Rattle.cord_plan.proofs.Numbers.{as_many, name_at, number_there}
 use Rattle.cord_plan.proofs.Recents.{puts_more, puts_nothing}
 use Rattle.cord_plan.proofs.flow.recent.note_all.Goals as goal

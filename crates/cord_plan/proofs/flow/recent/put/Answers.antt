@@ -1,5 +1,5 @@
-use Rattle.std.proofs.Common.{◌<◌, length, subst, arith, Option, ℕ}
-use Rattle.cord_plan.specs.inner.Numbering.{IsNumberIn}
+use Rattle.std.specs.Prelude.{◌<◌}
+use Rattle.cord_plan.proofs.Common.{length, subst, arith, Option, ℕ, IsNumberIn}
 use Rattle.cord_plan.proofs.Recents.{number_within, puts_none, puts_one}
 use Rattle.cord_plan.proofs.flow.recent.put.Goals as goal
 

@@ -1,11 +1,7 @@
-use Rattle.std.proofs.Common.{◌≡◌, ◌+◌, ◌-◌, ◌<◌, List, drop, length, subst, ◌∙◌, arith, length-set}
+use Rattle.std.specs.Prelude.{◌≡◌, ◌+◌, ◌-◌, ◌<◌}
+use Rattle.cord_plan.proofs.Common.{List, drop, length, subst, ◌∙◌, arith, length-set, slice_get_within, Statement, read_by, target_of}
+use Rattle.cord_plan.proofs.Common.{AreNextReads, IsLineLater, later_in, IsNumbered, LineLater}
 use Rattle.std.proofs.Math.Seq.{drop-length}
-use Rattle.std.proofs.lemmas.Option.{slice_get_within}
-use Rattle.cord_syntax.specs.declared.statements.Statement.{Statement}
-use Rattle.cord_plan.specs.Operands.{read_by, target_of}
-use Rattle.cord_plan.specs.inner.StraightLine.{AreNextReads, IsLineLater, later_in}
-use Rattle.cord_plan.specs.inner.Numbering.{IsNumbered}
-use Rattle.cord_plan.specs.declared.flow.straight_line.LineLater.{LineLater}
 use Rattle.cord_plan.proofs.StraightLine.{from_place, line_is, reported_more}
 use Rattle.cord_plan.proofs.Numbers.{line_there, number_reported}
 use Rattle.cord_plan.proofs.flow.straight_line.lines_later.Goals as goal

@@ -1,5 +1,5 @@
-use Rattle.std.proofs.Common.{◌≡◌, drop, length}
-use Rattle.cord_plan.specs.inner.StraightLine.{AreNextReads, AreReportedFrom}
+use Rattle.std.specs.Prelude.{◌≡◌}
+use Rattle.cord_plan.proofs.Common.{drop, length, AreNextReads, AreReportedFrom}
 use Rattle.cord_plan.proofs.flow.straight_line.lines_later.Given as goal
 
 -- the lines from a place on are reported

@@ -1,4 +1,5 @@
-use Rattle.std.proofs.Common.{◌&&◌, ◌==◌, Bool, ap, sym, ◌∙◌}
+use Rattle.std.specs.Prelude.{◌&&◌, ◌==◌}
+use Rattle.cord_plan.proofs.Common.{Bool, ap, sym, ◌∙◌}
 use Rattle.cord_plan.proofs.StraightLine.{one_bit}
 use Rattle.cord_plan.proofs.Words.{bit_zero_is}
 use Rattle.cord_plan.proofs.flow.straight_line.operand_bit.Goals as goal

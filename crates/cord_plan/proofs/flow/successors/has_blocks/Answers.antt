@@ -1,9 +1,6 @@
-use borrow.Author.Count.{below_more}
-use Rattle.std.proofs.Common.{◌≡◌, Some, false, inl, inr, length, refl, sym, ap, ◌∙◌, arith}
-use Rattle.std.specs.Prelude.{slice_get}
-use Rattle.std.proofs.lemmas.Bool.Decides.{leb_tells}
-use Rattle.std.proofs.lemmas.Option.{slice_get_past, slice_get_read}
-use Rattle.cord_plan.specs.Inlined.{is_block_at}
+use Rattle.std.specs.Prelude.{◌≡◌}
+use Rattle.cord_plan.proofs.Common.{below_more, Some, false, inl, inr, length, refl, sym, ap, ◌∙◌, arith, slice_get, leb_tells}
+use Rattle.cord_plan.proofs.Common.{slice_get_past, slice_get_read, is_block_at}
 use Rattle.cord_plan.proofs.flow.successors.has_blocks.Goals as goal
 
 pub loop-statement-preserved : goal.loop-statement-preserved

@@ -1,6 +1,5 @@
-use Rattle.std.proofs.Common.{◌≡◌, ◌<◌, ℕ, false}
-use Rattle.std.specs.Prelude.{slice_get}
-use Rattle.cord_plan.specs.Inlined.{is_block_at}
+use Rattle.std.specs.Prelude.{◌≡◌, ◌<◌}
+use Rattle.cord_plan.proofs.Common.{ℕ, false, slice_get, is_block_at}
 use Rattle.cord_plan.proofs.flow.successors.has_blocks.Given as goal
 
 -- no line so far belongs to a block

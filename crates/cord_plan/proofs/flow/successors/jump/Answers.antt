@@ -1,5 +1,5 @@
-use Rattle.std.proofs.Common.{ap, ◌∙◌, ◌+◌}
-use Rattle.cord_meaning.specs.Blocks.{to_end, to_else}
+use Rattle.std.specs.Prelude.{◌+◌}
+use Rattle.cord_plan.proofs.Common.{ap, ◌∙◌, to_end, to_else}
 use Rattle.cord_plan.specs.declared.flow.successors.Shape.TheVariants.{Straight}
 use Rattle.cord_plan.proofs.Followers.{shape_there, shapes_after, jump_simple, jump_loop, jump_branch, jump_otherwise, jump_close}
 use Rattle.cord_plan.proofs.flow.successors.jump.Goals as goal

@@ -1,6 +1,4 @@
-use Rattle.std.proofs.Common.{arith}
-use Rattle.cord_meaning.specs.Statements.{shape_of}
-use Rattle.cord_plan.specs.inner.Liveness.{shape_view}
+use Rattle.cord_plan.proofs.Common.{arith, shape_of, shape_view}
 use Rattle.cord_plan.proofs.Pushed.{made_more}
 use Rattle.cord_plan.proofs.flow.successors.shapes_of.Goals as goal
 

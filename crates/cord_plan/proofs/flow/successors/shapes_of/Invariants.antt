@@ -1,7 +1,5 @@
-use Rattle.std.proofs.Common.{◌≡◌, ◌≤◌, ◌+◌, ◌-◌, map, take, length}
-use Rattle.std.specs.Prelude.{vec_len, vec_capacity}
-use Rattle.cord_meaning.specs.Statements.{shape_of}
-use Rattle.cord_plan.specs.inner.Liveness.{shape_view}
+use Rattle.std.specs.Prelude.{◌≡◌, ◌≤◌, ◌+◌, ◌-◌}
+use Rattle.cord_plan.proofs.Common.{map, take, length, vec_len, vec_capacity, shape_of, shape_view}
 use Rattle.cord_plan.proofs.flow.successors.shapes_of.Given as goal
 
 abbrev pub invariant-loop-statement : goal.invariant-loop-statement

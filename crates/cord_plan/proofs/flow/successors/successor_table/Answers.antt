@@ -1,8 +1,6 @@
-use Rattle.std.proofs.Common.{map, ap, ◌∙◌, sym, ◌<◌, ◌≡◌, reverse, length, arith, length-append}
-use Rattle.std.proofs.lemmas.List.{length-map}
+use Rattle.std.specs.Prelude.{◌<◌, ◌≡◌}
+use Rattle.cord_plan.proofs.Common.{map, ap, ◌∙◌, sym, reverse, length, arith, length-append, length-map, shape_view, successors}
 use Rattle.cord_plan.specs.declared.flow.successors.Shape.TheVariants.{Straight}
-use Rattle.cord_plan.specs.inner.Liveness.{shape_view}
-use Rattle.cord_plan.specs.Liveness.{successors}
 use Rattle.cord_plan.proofs.Followers.{open_more, reported_more, all_after}
 use Rattle.cord_plan.proofs.flow.successors.successor_table.Goals as goal
 

@@ -1,8 +1,5 @@
-use Rattle.std.proofs.Common.{◌≡◌, ℕ, ◌<◌, ◌≤◌, ◌+◌, ◌-◌, map, reverse, length}
-use Rattle.std.specs.Prelude.{vec_len, vec_capacity}
-use Rattle.cord_meaning.specs.Paths.{open_at}
-use Rattle.cord_plan.specs.Liveness.{successors}
-use Rattle.cord_plan.specs.inner.Liveness.{shape_view, places_at}
+use Rattle.std.specs.Prelude.{◌≡◌, ◌<◌, ◌≤◌, ◌+◌, ◌-◌}
+use Rattle.cord_plan.proofs.Common.{ℕ, map, reverse, length, vec_len, vec_capacity, open_at, successors, shape_view, places_at}
 use Rattle.cord_plan.proofs.flow.successors.successor_table.Given as goal
 
 abbrev pub invariant-loop-p : goal.invariant-loop-p

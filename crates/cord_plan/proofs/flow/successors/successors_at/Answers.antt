@@ -1,6 +1,6 @@
-use Rattle.std.proofs.Common.{map, ◌∙◌, sym, ◌<◌, arith}
+use Rattle.std.specs.Prelude.{◌<◌}
+use Rattle.cord_plan.proofs.Common.{map, ◌∙◌, sym, arith, shape_view}
 use Rattle.cord_plan.specs.declared.flow.successors.Shape.TheVariants.{Straight}
-use Rattle.cord_plan.specs.inner.Liveness.{shape_view}
 use Rattle.cord_plan.proofs.Followers.{shape_there, after_simple, after_loop, after_branch, after_otherwise, after_branch_end}
 use Rattle.cord_plan.proofs.Followers.{after_loop_end, block_below}
 use Rattle.cord_plan.proofs.flow.successors.successors_at.Goals as goal

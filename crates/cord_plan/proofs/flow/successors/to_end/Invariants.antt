@@ -1,6 +1,5 @@
-use Rattle.std.proofs.Common.{◌≡◌, ◌+◌, ◌≤◌, map, drop}
-use Rattle.cord_meaning.specs.Blocks.{to_end}
-use Rattle.cord_plan.specs.inner.Liveness.{shape_view}
+use Rattle.std.specs.Prelude.{◌≡◌, ◌+◌, ◌≤◌}
+use Rattle.cord_plan.proofs.Common.{map, drop, to_end, shape_view}
 use Rattle.cord_plan.proofs.flow.successors.to_end.Given as goal
 
 abbrev pub invariant-loop-i : goal.invariant-loop-i

@@ -1,7 +1,5 @@
-use Rattle.std.proofs.Common.{◌≡◌, ◌+◌, take, map, Ok}
-use Rattle.cord_io.specs.declared.faults.WriteFault.{WriteFault}
-use Rattle.cord_iter.specs.Output.{Writes}
-use Rattle.cord_plan.specs.Views.{expr_view, members_of, members_view, shared_view}
+use Rattle.std.specs.Prelude.{◌≡◌, ◌+◌}
+use Rattle.cord_plan.proofs.Common.{take, map, Ok, WriteFault, Writes, expr_view, members_of, members_view, shared_view}
 use Rattle.cord_plan.proofs.MemberTexts.{weight, weights, members_text}
 use Rattle.cord_plan.proofs.Spacing.{blank_at}
 use Rattle.cord_plan.proofs.plan_text.expressions.+printed_expressions.Given as goal

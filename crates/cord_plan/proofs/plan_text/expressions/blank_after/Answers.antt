@@ -1,5 +1,5 @@
-use Rattle.std.proofs.Common.{ℕ, List, [], ◌∷◌, Bool, ap, sym, ◌∙◌}
-use Rattle.std.specs.Prelude.{if◌then◌else◌}
+use Rattle.std.specs.Prelude.{◌∷◌, if◌then◌else◌}
+use Rattle.cord_plan.proofs.Common.{ℕ, List, [], Bool, ap, sym, ◌∙◌}
 use Rattle.cord_plan.proofs.plan_text.expressions.blank_after.Goals as goal
 
 abbrev blank : Bool → List ℕ

@@ -1,6 +1,5 @@
-use Rattle.std.proofs.Common.{List, ℕ, ◌∷◌, refl, ap}
-use Rattle.cord_operands.specs.declared.operands.Argument.{Argument}
-use Rattle.cord_plan.specs.PlanText.{argument, printed_arguments}
+use Rattle.std.specs.Prelude.{◌∷◌}
+use Rattle.cord_plan.proofs.Common.{List, ℕ, refl, ap, Argument, argument, printed_arguments}
 use Rattle.cord_plan.proofs.Writing.{AreJoined, writes_failed, writes_next, writes_broken, writes_then, writes_stopped, writes_same}
 use Rattle.cord_plan.proofs.plan_text.fragments.put_arguments.Goals as goal
 

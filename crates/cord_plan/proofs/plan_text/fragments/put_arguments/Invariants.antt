@@ -1,7 +1,4 @@
-use Rattle.std.proofs.Common.{take, Ok}
-use Rattle.cord_io.specs.declared.faults.WriteFault.{WriteFault}
-use Rattle.cord_iter.specs.Output.{Writes}
-use Rattle.cord_plan.specs.PlanText.{printed_arguments}
+use Rattle.cord_plan.proofs.Common.{take, Ok, WriteFault, Writes, printed_arguments}
 use Rattle.cord_plan.proofs.plan_text.fragments.put_arguments.Given as goal
 
 abbrev pub invariant-loop-argument : goal.invariant-loop-argument

@@ -1,4 +1,4 @@
-use Rattle.std.proofs.Common.{◌∙◌}
+use Rattle.cord_plan.proofs.Common.{◌∙◌}
 use Rattle.cord_plan.proofs.Decimals.{decimal_is}
 use Rattle.cord_plan.proofs.Writing.{writes_same}
 use Rattle.cord_plan.proofs.plan_text.fragments.put_count.Goals as goal

@@ -1,5 +1,4 @@
-use Rattle.std.proofs.Common.{refl, ap}
-use Rattle.cord_plan.specs.inner.Fragments.{fragment_text, fragments_text}
+use Rattle.cord_plan.proofs.Common.{refl, ap, fragment_text, fragments_text}
 use Rattle.cord_plan.proofs.Writing.{AreJoined, writes_failed, writes_next, writes_broken, writes_same}
 use Rattle.cord_plan.proofs.plan_text.fragments.put_fragments.Goals as goal
 

@@ -1,7 +1,4 @@
-use Rattle.std.proofs.Common.{take, Ok}
-use Rattle.cord_io.specs.declared.faults.WriteFault.{WriteFault}
-use Rattle.cord_iter.specs.Output.{Writes}
-use Rattle.cord_plan.specs.inner.Fragments.{fragments_text}
+use Rattle.cord_plan.proofs.Common.{take, Ok, WriteFault, Writes, fragments_text}
 use Rattle.cord_plan.proofs.plan_text.fragments.put_fragments.Given as goal
 
 abbrev pub invariant-loop-fragment : goal.invariant-loop-fragment

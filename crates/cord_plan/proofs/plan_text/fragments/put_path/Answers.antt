@@ -1,5 +1,5 @@
-use Rattle.std.proofs.Common.{[], ◌∷◌, ◌++◌, flat_map, ◌∙◌, ap}
-use Rattle.cord_plan.specs.PlanText.{path_byte}
+use Rattle.std.specs.Prelude.{◌∷◌, ◌++◌}
+use Rattle.cord_plan.proofs.Common.{[], flat_map, ◌∙◌, ap, path_byte}
 use Rattle.cord_plan.proofs.Writing.{writes_same, writes_then, writes_stopped, writes_failed}
 use Rattle.cord_plan.proofs.plan_text.fragments.put_path.Goals as goal
 

@@ -1,5 +1,4 @@
-use Rattle.std.proofs.Common.{flat_map, refl}
-use Rattle.cord_plan.specs.PlanText.{path_byte}
+use Rattle.cord_plan.proofs.Common.{flat_map, refl, path_byte}
 use Rattle.cord_plan.proofs.Writing.{AreJoined, writes_failed, writes_broken}
 use Rattle.cord_plan.proofs.plan_text.fragments.put_path_bytes.Goals as goal
 

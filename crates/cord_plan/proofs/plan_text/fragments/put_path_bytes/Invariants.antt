@@ -1,7 +1,4 @@
-use Rattle.std.proofs.Common.{take, flat_map, Ok}
-use Rattle.cord_io.specs.declared.faults.WriteFault.{WriteFault}
-use Rattle.cord_iter.specs.Output.{Writes}
-use Rattle.cord_plan.specs.PlanText.{path_byte}
+use Rattle.cord_plan.proofs.Common.{take, flat_map, Ok, WriteFault, Writes, path_byte}
 use Rattle.cord_plan.proofs.plan_text.fragments.put_path_bytes.Given as goal
 
 abbrev pub invariant-loop-byte : goal.invariant-loop-byte

@@ -1,7 +1,5 @@
-use Rattle.std.proofs.Common.{[], List, ℕ, map}
+use Rattle.cord_plan.proofs.Common.{[], List, ℕ, map, spaced, fragment_text}
 use Rattle.cord_plan.specs.declared.plan_text.fragments.Fragment.{Fragment}
-use Rattle.cord_plan.specs.PlanText.{spaced}
-use Rattle.cord_plan.specs.inner.Fragments.{fragment_text}
 use Rattle.cord_plan.proofs.Spacing.{blank_later, after_words, words_spaced, spaced_writes, spaced_broken}
 use Rattle.cord_plan.proofs.Writing.{writes_same, writes_then, writes_stopped, writes_failed}
 use Rattle.cord_plan.proofs.plan_text.fragments.put_words.Goals as goal

@@ -1,8 +1,5 @@
-use Rattle.std.proofs.Common.{◌≡◌, [], take, map, Ok}
-use Rattle.cord_io.specs.declared.faults.WriteFault.{WriteFault}
-use Rattle.cord_iter.specs.Output.{Writes}
-use Rattle.cord_plan.specs.PlanText.{spaced}
-use Rattle.cord_plan.specs.inner.Fragments.{fragment_text}
+use Rattle.std.specs.Prelude.{◌≡◌}
+use Rattle.cord_plan.proofs.Common.{[], take, map, Ok, WriteFault, Writes, spaced, fragment_text}
 use Rattle.cord_plan.proofs.Spacing.{blank_at}
 use Rattle.cord_plan.proofs.plan_text.fragments.put_words.Given as goal
 

@@ -1,7 +1,5 @@
-use Rattle.std.proofs.Common.{◌≡◌, List, ℕ, [], ◌∷◌, ◌++◌, map, sym, ap, ◌∙◌, append_assoc}
-use Rattle.std.specs.Prelude.{codes}
-use Rattle.cord_plan.specs.PlanText.{called, spaced}
-use Rattle.cord_plan.specs.inner.Fragments.{fragment_text}
+use Rattle.std.specs.Prelude.{◌≡◌, ◌∷◌, ◌++◌}
+use Rattle.cord_plan.proofs.Common.{List, ℕ, [], map, sym, ap, ◌∙◌, append_assoc, codes, called, spaced, fragment_text}
 use Rattle.cord_plan.proofs.Spacing.{two_words}
 use Rattle.cord_plan.proofs.Writing.{writes_same, writes_then, writes_stopped, writes_failed}
 use Rattle.cord_plan.proofs.plan_text.statements.put_counted.Goals as goal

@@ -1,7 +1,5 @@
-use Rattle.std.proofs.Common.{ap}
+use Rattle.cord_plan.proofs.Common.{ap, Statement, statement}
 use Rattle.cord_syntax.specs.Lines.{line_of}
-use Rattle.cord_syntax.specs.declared.statements.Statement.{Statement}
-use Rattle.cord_plan.specs.PlanText.{statement}
 use Rattle.cord_plan.proofs.Writing.{writes_same}
 use Rattle.cord_plan.proofs.plan_text.statements.put_statement.Goals as goal
 

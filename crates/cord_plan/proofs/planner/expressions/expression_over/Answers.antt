@@ -1,15 +1,8 @@
-use Rattle.std.proofs.Common.{◌≡◌, ℕ, List, [], ◌∷◌, ◌++◌, Option, Some, option_map, refl, ap, sym, subst, ◌∙◌}
-use Rattle.std.specs.Prelude.{IfOk, Result}
+use Rattle.std.specs.Prelude.{◌≡◌, ◌∷◌, ◌++◌}
+use Rattle.cord_plan.proofs.Common.{ℕ, List, [], Option, Some, option_map, refl, ap, sym, subst, ◌∙◌, IfOk, Result, length-map, Expr}
+use Rattle.cord_plan.proofs.Common.{Choice, choices, choice_view, simple_operands, IsChoice, operand_names, IsChoiceOf, AreFactsOf, reports}
+use Rattle.cord_plan.proofs.Common.{table_view, IsStep, expr_view}
 use Rattle.std.proofs.lemmas.Result.{IfOk-weaker}
-use Rattle.std.proofs.lemmas.List.{length-map}
-use Rattle.cord_plan.specs.Exprs.{Expr}
-use Rattle.cord_plan.specs.Inlined.{Choice, choices}
-use Rattle.cord_plan.specs.inner.Choices.{choice_view, simple_operands, IsChoice}
-use Rattle.cord_syntax.specs.Readings.{operand_names}
-use Rattle.cord_plan.specs.inner.ExpressionFacts.{IsChoiceOf, AreFactsOf}
-use Rattle.cord_plan.specs.inner.Liveness.{reports}
-use Rattle.cord_plan.specs.inner.Steps.{table_view, IsStep}
-use Rattle.cord_plan.specs.Views.{expr_view}
 use Rattle.cord_plan.specs.declared.planner.expressions.NextExpression.{NextExpression}
 use Rattle.cord_plan.proofs.Begun.{step_with}
 use Rattle.cord_plan.proofs.ExpressionFacts.{choice_from, known_more}

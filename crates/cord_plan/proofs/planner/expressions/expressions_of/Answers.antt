@@ -1,13 +1,7 @@
-use Rattle.std.proofs.Common.{◌≡◌, [], ◌∷◌, ◌++◌, Some, length, refl, sym, ap, ◌∙◌, subst, arith, rules}
-use Rattle.std.specs.Prelude.{option_map, slice_get}
-use Rattle.std.proofs.lemmas.Option.{slice_get_read}
-use Rattle.std.proofs.lemmas.List.{length-map, map-append}
-use Rattle.cord_plan.specs.inner.ExpressionFacts.{AreFactsOf}
-use Rattle.cord_plan.specs.inner.Liveness.{reports, IsReported}
-use Rattle.cord_plan.specs.inner.Numbering.{IsNumbered}
-use Rattle.cord_plan.specs.inner.Steps.{IsStep, IsReportedLonger, table_view}
-use Rattle.cord_plan.specs.Views.{expr_view}
-use Rattle.cord_plan.specs.declared.flow.liveness.Later.{Later}
+use Rattle.std.specs.Prelude.{◌≡◌, ◌∷◌, ◌++◌}
+use Rattle.cord_plan.proofs.Common.{[], Some, length, refl, sym, ap, ◌∙◌, subst, arith, rules, option_map, slice_get, slice_get_read}
+use Rattle.cord_plan.proofs.Common.{length-map, map-append, AreFactsOf, reports, IsReported, IsNumbered, IsStep, IsReportedLonger}
+use Rattle.cord_plan.proofs.Common.{table_view, expr_view, Later}
 use Rattle.cord_plan.proofs.Begun.{all_begun, begun_long, begun_none, begun_then, longer_then, written_back}
 use Rattle.cord_plan.proofs.Numbers.{line_there}
 use Rattle.cord_plan.proofs.planner.expressions.expressions_of.Goals as goal

@@ -1,9 +1,5 @@
-use Rattle.std.proofs.Common.{◌≡◌, ◌≤◌, ◌+◌, ◌-◌, length}
-use Rattle.std.specs.Prelude.{vec_len, vec_capacity}
-use Rattle.cord_plan.specs.inner.ExpressionFacts.{AreFactsOf}
-use Rattle.cord_plan.specs.inner.Liveness.{reports}
-use Rattle.cord_plan.specs.inner.Recent.{IsRecent}
-use Rattle.cord_plan.specs.inner.Steps.{AreLonger, IsBegun, table_view}
+use Rattle.std.specs.Prelude.{◌≡◌, ◌≤◌, ◌+◌, ◌-◌}
+use Rattle.cord_plan.proofs.Common.{length, vec_len, vec_capacity, AreFactsOf, reports, IsRecent, AreLonger, IsBegun, table_view}
 use Rattle.cord_plan.proofs.planner.expressions.expressions_of.Given as goal
 
 -- the expressions of the lines so far, with room for those to come, and what was noted of those lines

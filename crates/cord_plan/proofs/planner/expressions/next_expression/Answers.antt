@@ -1,7 +1,5 @@
-use Rattle.std.proofs.Common.{◌≡◌, None, rules}
-use Rattle.cord_plan.specs.inner.Choices.{simple_operands}
-use Rattle.cord_plan.specs.inner.Liveness.{reports}
-use Rattle.cord_plan.specs.inner.Steps.{table_view}
+use Rattle.std.specs.Prelude.{◌≡◌}
+use Rattle.cord_plan.proofs.Common.{None, rules, simple_operands, reports, table_view}
 use Rattle.cord_plan.proofs.Begun.{never_reported, next_without}
 use Rattle.cord_plan.proofs.ExpressionFacts.{known_more}
 use Rattle.cord_plan.proofs.planner.expressions.next_expression.Goals as goal

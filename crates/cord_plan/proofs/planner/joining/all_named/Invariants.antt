@@ -1,6 +1,6 @@
-use Rattle.std.proofs.Common.{◌≡◌, map, take}
+use Rattle.std.specs.Prelude.{◌≡◌}
+use Rattle.cord_plan.proofs.Common.{map, take, choice_view}
 use Rattle.cord_plan.specs.Inlined as plain
-use Rattle.cord_plan.specs.inner.Choices.{choice_view}
 use Rattle.cord_plan.proofs.planner.joining.all_named.Given as goal
 
 abbrev pub invariant-loop-name : goal.invariant-loop-name

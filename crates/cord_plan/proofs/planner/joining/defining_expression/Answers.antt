@@ -1,11 +1,8 @@
-use Rattle.std.proofs.Common.{◌≡◌, Option, Some, map, option_map, sym, ap, ◌∙◌, subst}
-use Rattle.std.specs.Prelude.{IfOk}
-use Rattle.cord_syntax.specs.Readings.{operand_names}
+use Rattle.std.specs.Prelude.{◌≡◌}
+use Rattle.cord_plan.proofs.Common.{Option, Some, map, option_map, sym, ap, ◌∙◌, subst, IfOk, operand_names, Expr, expr_view, choice_view}
+use Rattle.cord_plan.proofs.Common.{simple_operands}
 use Rattle.cord_syntax.specs.declared.readings.Operands.{Operands}
-use Rattle.cord_plan.specs.Exprs.{Expr}
 use Rattle.cord_plan.specs.Inlined as plain
-use Rattle.cord_plan.specs.Views.{expr_view}
-use Rattle.cord_plan.specs.inner.Choices.{choice_view, simple_operands}
 use Rattle.cord_plan.proofs.Choices.{defining_named}
 use Rattle.cord_plan.proofs.planner.joining.defining_expression.Goals as goal
 

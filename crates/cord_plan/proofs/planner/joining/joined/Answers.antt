@@ -1,7 +1,4 @@
-use Rattle.std.proofs.Common.{ap, ◌∙◌}
-use Rattle.cord_plan.specs.Exprs.{Exprs, append, preceding, nothing}
-use Rattle.cord_plan.specs.Inlined.{expr_of}
-use Rattle.cord_plan.specs.inner.Choices.{choice_view}
+use Rattle.cord_plan.proofs.Common.{ap, ◌∙◌, Exprs, append, preceding, nothing, expr_of, choice_view}
 use Rattle.cord_plan.proofs.Joined.{more_joined}
 use Rattle.cord_plan.proofs.planner.joining.joined.Goals as goal
 

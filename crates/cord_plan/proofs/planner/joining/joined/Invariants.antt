@@ -1,8 +1,5 @@
-use Rattle.std.proofs.Common.{◌≡◌, map, take}
-use Rattle.cord_plan.specs.Exprs.{members}
-use Rattle.cord_plan.specs.Inlined.{expr_of}
-use Rattle.cord_plan.specs.inner.Choices.{choice_view}
-use Rattle.cord_plan.specs.Views.{members_view}
+use Rattle.std.specs.Prelude.{◌≡◌}
+use Rattle.cord_plan.proofs.Common.{map, take, members, expr_of, choice_view, members_view}
 use Rattle.cord_plan.proofs.planner.joining.joined.Given as goal
 
 -- the members of the choices so far

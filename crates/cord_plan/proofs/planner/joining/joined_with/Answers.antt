@@ -1,8 +1,4 @@
-use Rattle.std.proofs.Common.{map, pos, ◌∙◌}
-use Rattle.cord_operands.specs.declared.operands.Number.TheVariants.{Numeral}
-use Rattle.cord_plan.specs.Inlined.{expr_of}
-use Rattle.cord_plan.specs.inner.Choices.{choice_view}
-use Rattle.cord_plan.specs.Views.{members_view, shared_view}
+use Rattle.cord_plan.proofs.Common.{map, pos, ◌∙◌, Numeral, expr_of, choice_view, members_view, shared_view}
 use Rattle.cord_plan.proofs.Joined.{joined_more}
 use Rattle.cord_plan.proofs.planner.joining.joined_with.Goals as goal
 

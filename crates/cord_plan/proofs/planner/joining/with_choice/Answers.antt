@@ -1,7 +1,4 @@
-use Rattle.std.proofs.Common.{ap}
-use Rattle.cord_plan.specs.Inlined.{expr_of}
-use Rattle.cord_plan.specs.inner.Choices.{choice_view}
-use Rattle.cord_plan.specs.Views.{members_view, shared_view}
+use Rattle.cord_plan.proofs.Common.{ap, expr_of, choice_view, members_view, shared_view}
 use Rattle.cord_plan.specs.declared.planner.operand_choices.Choice.{Choice}
 use Rattle.cord_plan.proofs.Joined.{added_name}
 use Rattle.cord_plan.proofs.Sharing.{made_as}

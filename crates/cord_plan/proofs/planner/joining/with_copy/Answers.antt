@@ -1,5 +1,4 @@
-use Rattle.std.proofs.Common.{ap, ◌∙◌}
-use Rattle.cord_plan.specs.Views.{expr_view, members_view}
+use Rattle.cord_plan.proofs.Common.{ap, ◌∙◌, expr_view, members_view}
 use Rattle.cord_plan.proofs.ExprViews.{view-Cat}
 use Rattle.cord_plan.proofs.Joined.{added_all}
 use Rattle.cord_plan.proofs.Sharing.{made_as}

@@ -1,11 +1,7 @@
-use Rattle.std.proofs.Common.{◌≡◌, ◌+◌, Bool, true, false, ◌&&◌, ◌∷◌, ◌++◌, map, drop, length, sym, ap, ◌∙◌}
-use Rattle.cord_plan.specs.Exprs.{name}
-use Rattle.cord_plan.specs.Inlined.{expr_of, expr_with, is_small}
-use Rattle.cord_plan.specs.inner.Liveness.{reports}
-use Rattle.cord_plan.specs.inner.Steps.{table_view}
-use Rattle.cord_plan.specs.Views.{expr_view}
-use Rattle.cord_plan.specs.inner.Choices.{choice_view, stands}
-use Rattle.cord_syntax.specs.Readings.{operand_names}
+use Rattle.std.specs.Prelude.{◌≡◌, ◌+◌, ◌&&◌, ◌∷◌, ◌++◌}
+use Rattle.cord_plan.proofs.Common.{Bool, true, false, map, drop, length, sym, ap, ◌∙◌, name, expr_of, expr_with, is_small, reports}
+use Rattle.cord_plan.proofs.Common.{table_view, expr_view, choice_view, operand_names}
+use Rattle.cord_plan.specs.inner.Choices.{stands}
 use Rattle.cord_plan.proofs.Numbers.{operand_number}
 use Rattle.cord_plan.proofs.Nearest.{bare_choice, far_choice, tested_choice}
 use Rattle.cord_plan.proofs.planner.operand_choices.choose.Goals as goal

@@ -1,13 +1,9 @@
-use Rattle.std.proofs.Common.{◌≡◌, ℕ, ◌+◌, List, [], ◌∷◌, map, drop, length, Some, refl, sym, ap, subst, ◌∙◌, arith, length-append}
-use Rattle.std.specs.Prelude.{slice_get}
-use Rattle.std.proofs.lemmas.Option.{slice_get_read}
-use Rattle.std.proofs.lemmas.List.{map-append, at_drop_all, length-map}
+use Rattle.std.specs.Prelude.{◌≡◌, ◌+◌, ◌∷◌}
+use Rattle.cord_plan.proofs.Common.{ℕ, List, [], map, drop, length, Some, refl, sym, ap, subst, ◌∙◌, arith, length-append, slice_get}
+use Rattle.cord_plan.proofs.Common.{slice_get_read, map-append, at_drop_all, length-map, choice_view, IsChoice, operand_names, reports}
+use Rattle.cord_plan.proofs.Common.{table_view}
 use Rattle.cord_plan.specs.declared.planner.operand_choices.Choice.{Choice}
-use Rattle.cord_plan.specs.inner.Choices.{choice_view, IsChoice}
-use Rattle.cord_syntax.specs.Readings.{operand_names}
 use Rattle.cord_plan.specs.Inlined as plain
-use Rattle.cord_plan.specs.inner.Liveness.{reports}
-use Rattle.cord_plan.specs.inner.Steps.{table_view}
 use Rattle.cord_plan.proofs.Choices.{more_chosen, simple_reads}
 use Rattle.cord_plan.proofs.planner.operand_choices.choose_all.Goals as goal
 

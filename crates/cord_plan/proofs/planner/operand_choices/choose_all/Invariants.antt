@@ -1,8 +1,5 @@
-use Rattle.std.proofs.Common.{◌≡◌, [], map, drop, length}
-use Rattle.cord_plan.specs.inner.Choices.{choice_view, Has}
-use Rattle.cord_plan.specs.Inlined.{ChoiceTable, choices}
-use Rattle.cord_plan.specs.inner.Liveness.{reports}
-use Rattle.cord_plan.specs.inner.Steps.{table_view}
+use Rattle.std.specs.Prelude.{◌≡◌}
+use Rattle.cord_plan.proofs.Common.{[], map, drop, length, choice_view, Has, ChoiceTable, choices, reports, table_view}
 use Rattle.cord_plan.proofs.planner.operand_choices.choose_all.Given as goal
 
 -- what was chosen so far, and the operands that are left

@@ -1,9 +1,6 @@
-use Rattle.std.proofs.Common.{◌≡◌, ℕ, List, Option, sym, ap, ◌∙◌}
-use Rattle.std.specs.Prelude.{option_map, slice_get}
-use Rattle.std.proofs.lemmas.Option.{slice_get-map}
-use Rattle.cord_plan.specs.inner.Choices.{expression_in, expression_of}
-use Rattle.cord_plan.specs.inner.Steps.{table_view}
-use Rattle.cord_plan.specs.Views.{expr_view}
+use Rattle.std.specs.Prelude.{◌≡◌}
+use Rattle.cord_plan.proofs.Common.{ℕ, List, Option, sym, ap, ◌∙◌, option_map, slice_get, slice_get-map, expression_in, expression_of}
+use Rattle.cord_plan.proofs.Common.{table_view, expr_view}
 use Rattle.cord_plan.specs.declared.expressions.Expr.{Expr}
 
 there : (es : List (Option Expr)) (p : ℕ) (o : Option (Option Expr)) → o ≡ slice_get es p →

@@ -1,8 +1,5 @@
-use Rattle.std.proofs.Common.{◌≡◌, ℕ, true, false, drop, ap, arith}
-use Rattle.std.specs.Prelude.{◌==◌}
-use Rattle.std.specs.Str.{bytes_eq}
-use Rattle.std.proofs.lemmas.List.{at_drop_all}
-use Rattle.cord_plan.specs.Operands.{count}
+use Rattle.std.specs.Prelude.{◌≡◌, ◌==◌}
+use Rattle.cord_plan.proofs.Common.{ℕ, true, false, drop, ap, arith, bytes_eq, at_drop_all, count}
 use Rattle.cord_plan.proofs.Nearest.{count_here}
 use Rattle.cord_plan.proofs.planner.operand_choices.is_once_in.Goals as goal
 use Rattle.cord_plan.proofs.planner.operand_choices.is_once_in.Goals.{then-is, else-is}

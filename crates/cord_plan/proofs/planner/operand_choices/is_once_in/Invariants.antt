@@ -1,5 +1,5 @@
-use Rattle.std.proofs.Common.{◌≡◌, ◌+◌, ◌≤◌, drop}
-use Rattle.cord_plan.specs.Operands.{count}
+use Rattle.std.specs.Prelude.{◌≡◌, ◌+◌, ◌≤◌}
+use Rattle.cord_plan.proofs.Common.{drop, count}
 use Rattle.cord_plan.proofs.planner.operand_choices.is_once_in.Given as goal
 
 abbrev pub invariant-loop-operand : goal.invariant-loop-operand

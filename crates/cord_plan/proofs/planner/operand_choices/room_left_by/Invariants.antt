@@ -1,5 +1,5 @@
-use Rattle.std.proofs.Common.{◌≡◌, map, drop}
-use Rattle.cord_plan.specs.inner.Choices.{room_left_by, choice_view}
+use Rattle.std.specs.Prelude.{◌≡◌}
+use Rattle.cord_plan.proofs.Common.{map, drop, room_left_by, choice_view}
 use Rattle.cord_plan.proofs.planner.operand_choices.room_left_by.Given as goal
 
 abbrev pub invariant-loop-choice : goal.invariant-loop-choice

@@ -1,4 +1,4 @@
-use Rattle.cord_plan.specs.Views.{expr_view}
+use Rattle.cord_plan.proofs.Common.{expr_view}
 use Rattle.cord_plan.proofs.planner.operand_choices.room_left_known.Goals as goal
 
 pub returns-in-Some : goal.returns-in-Some

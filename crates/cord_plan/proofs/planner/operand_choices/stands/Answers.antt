@@ -1,7 +1,4 @@
-use Rattle.std.proofs.Common.{sym, ◌∙◌}
-use Rattle.cord_syntax.specs.Readings.{operand_names}
-use Rattle.cord_plan.specs.inner.Liveness.{reports}
-use Rattle.cord_plan.specs.Views.{expr_view}
+use Rattle.cord_plan.proofs.Common.{sym, ◌∙◌, operand_names, reports, expr_view}
 use Rattle.cord_plan.proofs.Nearest.{needed_stands, spare_stands}
 use Rattle.cord_plan.proofs.planner.operand_choices.stands.Goals as goal
 

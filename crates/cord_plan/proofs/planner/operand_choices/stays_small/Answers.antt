@@ -1,9 +1,5 @@
-use Rattle.std.proofs.lemmas.List.{length-map}
-use Rattle.std.proofs.Common.{◌+◌, ◌-◌, ℕ, map, length, ap, ◌∙◌}
-use Rattle.std.specs.Prelude.{nat_le}
-use Rattle.cord_plan.specs.Views.{expr_view}
-use Rattle.cord_plan.specs.inner.Choices.{choice_view}
-use Rattle.cord_syntax.specs.Readings.{operand_names}
+use Rattle.std.specs.Prelude.{◌+◌, ◌-◌}
+use Rattle.cord_plan.proofs.Common.{length-map, ℕ, map, length, ap, ◌∙◌, nat_le, expr_view, choice_view, operand_names}
 use Rattle.cord_plan.proofs.PartSums.{small_none, small_some_none, small_some_some}
 use Rattle.cord_plan.proofs.planner.operand_choices.stays_small.Goals as goal
 

@@ -1,9 +1,8 @@
-use Rattle.std.proofs.Common.{◌≡◌, ℕ, ◌<◌, ◌+◌, map, drop, sym, ap, subst, ◌∙◌, rules}
+use Rattle.std.specs.Prelude.{◌≡◌, ◌<◌, ◌+◌}
+use Rattle.cord_plan.proofs.Common.{ℕ, map, drop, sym, ap, subst, ◌∙◌, rules, parts, parts_of, room_left, expr_view, members_of}
+use Rattle.cord_plan.proofs.Common.{members_view, shared_view}
 use Rattle.cord_plan.specs.Exprs as plain
 use Rattle.cord_plan.specs.declared.expressions.Expr.{Expr}
-use Rattle.cord_plan.specs.Exprs.{parts, parts_of}
-use Rattle.cord_plan.specs.inner.Choices.{room_left}
-use Rattle.cord_plan.specs.Views.{expr_view, members_of, members_view, shared_view}
 use Rattle.cord_plan.proofs.ExprViews.{view-Name}
 use Rattle.cord_plan.proofs.Halves.{prefix_falls, halves_None, halves_Some, rest_falls}
 use Rattle.cord_plan.proofs.PartSums.{none_for_more, room_for_more, parts_both, parts_member}

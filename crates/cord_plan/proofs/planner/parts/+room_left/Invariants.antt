@@ -1,7 +1,5 @@
-use Rattle.std.proofs.Common.{◌≡◌, ◌+◌, map, drop}
-use Rattle.cord_plan.specs.Exprs.{parts_of}
-use Rattle.cord_plan.specs.inner.Choices.{room_left}
-use Rattle.cord_plan.specs.Views.{expr_view, members_of, members_view, shared_view}
+use Rattle.std.specs.Prelude.{◌≡◌, ◌+◌}
+use Rattle.cord_plan.proofs.Common.{map, drop, parts_of, room_left, expr_view, members_of, members_view, shared_view}
 use Rattle.cord_plan.proofs.MemberTexts.{weight, weights}
 use Rattle.cord_plan.proofs.planner.parts.+room_left.Given as goal
 

@@ -1,10 +1,9 @@
-use Rattle.std.proofs.Common.{◌≡◌, ◌<◌, ◌+◌, Bool, true, false, ◌&&◌, List, ◌++◌, map, drop, sym, ap, subst, ◌∙◌, rules}
-use Rattle.std.proofs.lemmas.List.{at_drop_all}
+use Rattle.std.specs.Prelude.{◌≡◌, ◌<◌, ◌+◌, ◌&&◌, ◌++◌}
+use Rattle.cord_plan.proofs.Common.{Bool, true, false, List, map, drop, sym, ap, subst, ◌∙◌, rules, at_drop_all, names, number_names, stay}
+use Rattle.cord_plan.proofs.Common.{Shared, expr_view, members_of, members_view, shared_view}
 use Rattle.cord_plan.specs.Exprs as plain
 use Rattle.cord_plan.specs.declared.expressions.Expr.{Expr}
-use Rattle.cord_plan.specs.Exprs.{names, names_of, number_names}
-use Rattle.cord_plan.specs.inner.Recent.{stay}
-use Rattle.cord_plan.specs.Views.{Shared, expr_view, members_of, members_view, shared_view}
+use Rattle.cord_plan.specs.Exprs.{names_of}
 use Rattle.cord_plan.proofs.ExprViews.{view-Sub}
 use Rattle.cord_plan.proofs.MemberTexts.{weight, weights, member_there}
 use Rattle.cord_plan.proofs.Halves.{prefix_falls, halves_None, halves_Some, rest_falls}

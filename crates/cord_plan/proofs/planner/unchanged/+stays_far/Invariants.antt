@@ -1,7 +1,6 @@
-use Rattle.std.proofs.Common.{◌≡◌, ◌+◌, map, drop}
+use Rattle.std.specs.Prelude.{◌≡◌, ◌+◌}
+use Rattle.cord_plan.proofs.Common.{map, drop, stay, expr_view, members_of, members_view, shared_view}
 use Rattle.cord_plan.specs.Exprs.{names_of}
-use Rattle.cord_plan.specs.inner.Recent.{stay}
-use Rattle.cord_plan.specs.Views.{expr_view, members_of, members_view, shared_view}
 use Rattle.cord_plan.proofs.MemberTexts.{weight, weights}
 use Rattle.cord_plan.proofs.planner.unchanged.+stays_far.Given as goal
 

@@ -1,6 +1,5 @@
-use Rattle.std.proofs.Common.{◌≡◌, List, ℕ, Option, sym, ap, ◌∙◌}
-use Rattle.cord_plan.specs.Inlined.{setter}
-use Rattle.cord_plan.specs.inner.Recent.{entry_at, is_before}
+use Rattle.std.specs.Prelude.{◌≡◌}
+use Rattle.cord_plan.proofs.Common.{List, ℕ, Option, sym, ap, ◌∙◌, setter, entry_at, is_before}
 use Rattle.cord_plan.proofs.Lasts.{stay_by_last}
 use Rattle.cord_plan.proofs.planner.unchanged.name_stays.Goals as goal
 

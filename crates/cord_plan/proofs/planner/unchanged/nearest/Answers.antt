@@ -1,6 +1,5 @@
-use Rattle.std.proofs.Common.{◌≡◌, List, ℕ, Option, sym, ap, ◌∙◌}
-use Rattle.cord_plan.specs.Inlined.{setter}
-use Rattle.cord_plan.specs.inner.Recent.{entry_at, entry_of, reader, unless_after}
+use Rattle.std.specs.Prelude.{◌≡◌}
+use Rattle.cord_plan.proofs.Common.{List, ℕ, Option, sym, ap, ◌∙◌, setter, entry_at, entry_of, reader, unless_after}
 use Rattle.cord_plan.proofs.Lasts.{nearest_by_last}
 use Rattle.cord_plan.proofs.planner.unchanged.nearest.Goals as goal
 

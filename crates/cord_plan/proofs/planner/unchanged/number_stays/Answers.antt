@@ -1,7 +1,4 @@
-use Rattle.std.proofs.Common.{sym, ap, ◌∙◌}
-use Rattle.cord_operands.specs.declared.operands.Number.{Number}
-use Rattle.cord_plan.specs.Exprs.{number_names}
-use Rattle.cord_plan.specs.inner.Recent.{stay}
+use Rattle.cord_plan.proofs.Common.{sym, ap, ◌∙◌, Number, number_names, stay}
 use Rattle.cord_plan.proofs.Lasts.{stay_nothing}
 use Rattle.cord_plan.proofs.planner.unchanged.number_stays.Goals as goal
 

@@ -1,6 +1,5 @@
-use Rattle.std.proofs.Common.{Bool, ◌&&◌, sym, ap, ◌∙◌}
-use Rattle.cord_plan.specs.Exprs.{number_names}
-use Rattle.cord_plan.specs.inner.Recent.{stay}
+use Rattle.std.specs.Prelude.{◌&&◌}
+use Rattle.cord_plan.proofs.Common.{Bool, sym, ap, ◌∙◌, number_names, stay}
 use Rattle.cord_plan.proofs.Lasts.{stay_append}
 use Rattle.cord_plan.proofs.planner.unchanged.numbers_stay.Goals as goal
 

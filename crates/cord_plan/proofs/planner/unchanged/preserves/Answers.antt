@@ -1,7 +1,4 @@
-use Rattle.std.proofs.Common.{ℕ, Option, subst, sym, ◌∙◌}
-use Rattle.cord_plan.specs.Exprs.{names}
-use Rattle.cord_plan.specs.Operands.{target_of}
-use Rattle.cord_plan.specs.inner.Numbering.{IsNumberIn}
+use Rattle.cord_plan.proofs.Common.{ℕ, Option, subst, sym, ◌∙◌, names, target_of, IsNumberIn}
 use Rattle.cord_plan.proofs.Lacking.{preserves_all, preserves_lacking}
 use Rattle.cord_plan.proofs.Numbers.{NamedBy, named_by, unnamed}
 use Rattle.cord_plan.proofs.planner.unchanged.preserves.Goals as goal

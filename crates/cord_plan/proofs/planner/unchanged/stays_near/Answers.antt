@@ -1,12 +1,6 @@
-use Rattle.std.proofs.Common.{◌≡◌, ℕ, ◌+◌, ◌-◌, ◌<◌, ◌≤◌, Bool, true, false, ◌&&◌, length, Some, sym, ap, ◌∙◌, arith}
-use Rattle.std.specs.Prelude.{slice_get}
-use Rattle.cord_syntax.specs.declared.statements.Statement.{Statement}
-use Rattle.cord_plan.specs.Exprs.{Expr, names}
-use Rattle.cord_plan.specs.Inlined.{each_from, preserves}
-use Rattle.cord_plan.specs.Operands.{target_of}
-use Rattle.cord_plan.specs.inner.Numbering.{IsNumbered, IsNumberIn}
-use Rattle.cord_plan.specs.inner.Recent.{IsRecent, stay}
-use Rattle.cord_plan.specs.declared.flow.numbering.LineNumbers.{LineNumbers}
+use Rattle.std.specs.Prelude.{◌≡◌, ◌+◌, ◌-◌, ◌<◌, ◌≤◌, ◌&&◌}
+use Rattle.cord_plan.proofs.Common.{ℕ, Bool, true, false, length, Some, sym, ap, ◌∙◌, arith, slice_get, Statement, Expr, names, each_from}
+use Rattle.cord_plan.proofs.Common.{preserves, target_of, IsNumbered, IsNumberIn, IsRecent, stay, LineNumbers}
 use Rattle.cord_plan.specs.declared.planner.operand_choices.Line.{Line}
 use Rattle.cord_plan.proofs.Nearest.{keep_here}
 use Rattle.cord_plan.proofs.Numbers.{IsLineAt, line_there}

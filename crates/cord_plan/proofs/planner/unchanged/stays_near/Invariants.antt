@@ -1,7 +1,5 @@
-use Rattle.std.proofs.Common.{◌≡◌}
-use Rattle.cord_plan.specs.Exprs.{Expr, names}
-use Rattle.cord_plan.specs.inner.ExpressionFacts.{IsFacts}
-use Rattle.cord_plan.specs.inner.Recent.{stay}
+use Rattle.std.specs.Prelude.{◌≡◌}
+use Rattle.cord_plan.proofs.Common.{Expr, names, IsFacts, stay}
 use Rattle.cord_plan.proofs.planner.unchanged.stays_near.Given as goal
 
 abbrev pub invariant-loop-p : goal.invariant-loop-p

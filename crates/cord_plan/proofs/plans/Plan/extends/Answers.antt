@@ -1,7 +1,6 @@
-use Rattle.std.proofs.Common.{◌≡◌, Bool, true, false, List, get_or, map, sym, ap, ◌∙◌, subst}
+use Rattle.std.specs.Prelude.{◌≡◌}
+use Rattle.cord_plan.proofs.Common.{Bool, true, false, List, get_or, map, sym, ap, ◌∙◌, subst, Extends, operation_view}
 use Rattle.cord_plan.specs.declared.operations.Operation.{Operation}
-use Rattle.cord_plan.specs.Extending.{Extends}
-use Rattle.cord_plan.specs.Views.{operation_view}
 use Rattle.cord_plan.proofs.Extending.{reported_there}
 use Rattle.cord_plan.proofs.plans.Plan.extends.Goals as goal
 

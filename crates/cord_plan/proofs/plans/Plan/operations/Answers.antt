@@ -1,4 +1,4 @@
-use Rattle.std.proofs.Common.{rules}
+use Rattle.cord_plan.proofs.Common.{rules}
 use Rattle.cord_plan.proofs.plans.Plan.operations.Goals as goal
 
 pub returns-clause-listed : goal.returns-clause-listed

@@ -1,7 +1,4 @@
-use Rattle.std.proofs.Common.{List, sym, subst}
-use Rattle.std.specs.Prelude.{All}
-use Rattle.cord_plan.specs.Verbatim.{KeepsNoOther}
-use Rattle.cord_plan.specs.Planned.{Operation}
+use Rattle.cord_plan.proofs.Common.{List, sym, subst, All, KeepsNoOther, Operation}
 use Rattle.cord_plan.proofs.MeaningKept.{trivial_keeps}
 use Rattle.cord_plan.proofs.OnlyKept.{kept_trivial}
 use Rattle.cord_plan.proofs.plans.Plan.trivial.Goals as goal

@@ -1,7 +1,4 @@
-use Rattle.std.proofs.Common.{List, ℕ, ap, ◌∙◌}
-use Rattle.cord_plan.specs.inner.NameSets.{column}
-use Rattle.cord_plan.specs.inner.Liveness.{at}
-use Rattle.cord_plan.specs.Liveness.{some_of}
+use Rattle.cord_plan.proofs.Common.{List, ℕ, ap, ◌∙◌, column, at, some_of}
 use Rattle.cord_plan.proofs.Words.{flow_same}
 use Rattle.cord_plan.proofs.flow.liveness.Flow.flow_at.Goals as goal
 

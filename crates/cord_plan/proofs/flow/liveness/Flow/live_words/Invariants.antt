@@ -1,5 +1,4 @@
-use Rattle.cord_plan.specs.inner.Liveness.{ArePartly}
-use Rattle.cord_plan.specs.inner.NameSets.{room}
+use Rattle.cord_plan.proofs.Common.{ArePartly, room}
 use Rattle.cord_plan.proofs.flow.liveness.Flow.live_words.Given as goal
 
 abbrev pub invariant-sweeps : goal.invariant-sweeps

@@ -1,7 +1,5 @@
-use Rattle.std.proofs.Common.{◌≡◌, ℕ, ◌≤◌, ◌<◌, ◌-◌, ◌^◌, length, false, set, sym, ap, ◌∙◌, length-set, get_or, arith}
-use Rattle.std.proofs.lemmas.List.{map-set}
-use Rattle.cord_plan.specs.inner.Liveness.{finds}
-use Rattle.cord_plan.specs.inner.NameSets.{bit, column, room}
+use Rattle.std.specs.Prelude.{◌≡◌, ◌≤◌, ◌<◌, ◌-◌, ◌^◌}
+use Rattle.cord_plan.proofs.Common.{ℕ, length, false, set, sym, ap, ◌∙◌, length-set, get_or, arith, map-set, finds, bit, column, room}
 use Rattle.cord_plan.proofs.Words.{room_less}
 use Rattle.cord_plan.proofs.Sweeps.{flow_partly, flow_resting, rests_from, rests_past}
 use Rattle.cord_plan.proofs.flow.liveness.Flow.sweep.Goals as goal

@@ -1,6 +1,5 @@
-use Rattle.std.proofs.Common.{◌≡◌, ◌≤◌, ◌<◌, List, ℕ, true, false}
-use Rattle.cord_plan.specs.inner.Liveness.{ArePartly, finds}
-use Rattle.cord_plan.specs.inner.NameSets.{IsBit, column, room}
+use Rattle.std.specs.Prelude.{◌≡◌, ◌≤◌, ◌<◌}
+use Rattle.cord_plan.proofs.Common.{List, ℕ, true, false, ArePartly, finds, IsBit, column, room}
 use Rattle.cord_plan.proofs.flow.liveness.Flow.sweep.Given as goal
 
 abbrev pub invariant-loop-p : goal.invariant-loop-p

@@ -1,11 +1,6 @@
-use Rattle.std.proofs.Common.{◌≡◌, ◌≤◌, Bool, List, length, map, get_or, sym, ap, ◌∙◌, arith}
-use Rattle.std.proofs.lemmas.List.{take_all}
-use Rattle.std.proofs.lemmas.Option.{get_or_from_slice_get}
-use Rattle.cord_syntax.specs.declared.statements.Statement.{Statement}
-use Rattle.cord_plan.specs.Operands.{assigns, read_by, reads, target_of}
-use Rattle.cord_plan.specs.inner.Liveness.{at}
-use Rattle.cord_plan.specs.inner.NameSets.{bit, column}
-use Rattle.cord_plan.specs.inner.Numbering.{IsNumbered}
+use Rattle.std.specs.Prelude.{◌≡◌, ◌≤◌}
+use Rattle.cord_plan.proofs.Common.{Bool, List, length, map, get_or, sym, ap, ◌∙◌, arith, take_all, get_or_from_slice_get, Statement}
+use Rattle.cord_plan.proofs.Common.{assigns, read_by, reads, target_of, at, bit, column, IsNumbered}
 use Rattle.cord_plan.proofs.Numbers.{line_there, number_reported}
 use Rattle.cord_plan.proofs.Pushed.{made_more, size_more}
 use Rattle.cord_plan.proofs.Sweeps.{assigned_at, readers_partly}

@@ -1,7 +1,5 @@
-use Rattle.std.proofs.Common.{◌≡◌, ◌≤◌, ◌+◌, ◌-◌, List, ℕ, length, map, take}
-use Rattle.std.specs.Prelude.{vec_len, vec_capacity}
-use Rattle.cord_plan.specs.Operands.{assigns, reads}
-use Rattle.cord_plan.specs.inner.NameSets.{IsBit, column}
+use Rattle.std.specs.Prelude.{◌≡◌, ◌≤◌, ◌+◌, ◌-◌}
+use Rattle.cord_plan.proofs.Common.{List, ℕ, length, map, take, vec_len, vec_capacity, assigns, reads, IsBit, column}
 use Rattle.cord_plan.proofs.flow.liveness.Flow.words.Given as goal
 
 abbrev pub invariant-loop-place : goal.invariant-loop-place

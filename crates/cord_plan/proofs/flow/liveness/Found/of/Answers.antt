@@ -1,7 +1,5 @@
-use Rattle.std.proofs.Common.{◌≡◌, ◌+◌, Some, Global, Vec, drop, subst, arith}
-use Rattle.std.specs.Prelude.{slice_get}
-use Rattle.cord_plan.specs.inner.StraightLine.{IsLineLater, later_in}
-use Rattle.cord_plan.specs.declared.flow.straight_line.LineLater.{LineLater}
+use Rattle.std.specs.Prelude.{◌≡◌, ◌+◌}
+use Rattle.cord_plan.proofs.Common.{Some, Global, Vec, drop, subst, arith, slice_get, IsLineLater, later_in, LineLater}
 use Rattle.cord_plan.proofs.Numbers.{covers}
 use Rattle.cord_plan.proofs.StraightLineReads.{lines_report}
 use Rattle.cord_plan.proofs.LivenessTables.{reports_exactly}

@@ -1,7 +1,6 @@
-use Rattle.std.proofs.Common.{◌≡◌, ◌-◌, List, ℕ, Some, drop, length, take, refl, ap, ◌∙◌}
-use Rattle.std.specs.Prelude.{slice_get}
-use Rattle.std.proofs.lemmas.Option.{slice_get_read, slice_get_within}
-use Rattle.cord_plan.specs.declared.flow.numbering.NumberedLine.{NumberedLine}
+use Rattle.std.specs.Prelude.{◌≡◌, ◌-◌}
+use Rattle.cord_plan.proofs.Common.{List, ℕ, Some, drop, length, take, refl, ap, ◌∙◌, slice_get, slice_get_read, slice_get_within}
+use Rattle.cord_plan.proofs.Common.{NumberedLine}
 use Rattle.cord_plan.proofs.Numbers.{line_numbered}
 use Rattle.cord_plan.proofs.flow.numbering.Numbering.line.Goals as goal
 

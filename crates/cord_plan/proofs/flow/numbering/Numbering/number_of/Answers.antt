@@ -1,4 +1,4 @@
-use Rattle.cord_plan.specs.inner.Numbering.{names_of}
+use Rattle.cord_plan.proofs.Common.{names_of}
 use Rattle.cord_plan.proofs.Numbers.{place_reported}
 use Rattle.cord_plan.proofs.flow.numbering.Numbering.number_of.Goals as goal
 

@@ -1,5 +1,5 @@
-use Rattle.std.proofs.Common.{◌≡◌, ◌+◌, ◌<◌, length, arith, length-append, ap, ◌∙◌}
-use Rattle.std.proofs.lemmas.Option.{slice_get_within}
+use Rattle.std.specs.Prelude.{◌≡◌, ◌+◌, ◌<◌}
+use Rattle.cord_plan.proofs.Common.{length, arith, length-append, ap, ◌∙◌, slice_get_within}
 use Rattle.cord_plan.proofs.Numbers.{lines_more, none_distinct}
 use Rattle.cord_plan.proofs.flow.numbering.Numbering.of.Goals as goal
 

@@ -1,6 +1,6 @@
-use Rattle.std.proofs.Common.{◌≡◌, length}
+use Rattle.std.specs.Prelude.{◌≡◌}
+use Rattle.cord_plan.proofs.Common.{length, bytes_eq}
 use Rattle.std.specs.List.{IsDistinct}
-use Rattle.std.specs.Str.{bytes_eq}
 use Rattle.cord_plan.proofs.Numbers.{LinesTo}
 use Rattle.cord_plan.proofs.flow.numbering.Numbering.of.Given as goal
 

@@ -1,6 +1,5 @@
-use Rattle.std.proofs.Common.{◌≡◌, Some, length, refl, ap, ◌∙◌}
-use Rattle.cord_plan.specs.Operands.{assigns, read_by, reads, target_of}
-use Rattle.cord_plan.specs.inner.Recent.{PutsPlaces}
+use Rattle.std.specs.Prelude.{◌≡◌}
+use Rattle.cord_plan.proofs.Common.{Some, length, refl, ap, ◌∙◌, assigns, read_by, reads, target_of, PutsPlaces}
 use Rattle.cord_plan.proofs.Begun.{written_back}
 use Rattle.cord_plan.proofs.Lasts.{assigned_then, read_then, block_then}
 use Rattle.cord_plan.proofs.flow.recent.Recent.note.Goals as goal

@@ -1,6 +1,5 @@
-use Rattle.std.proofs.Common.{◌≡◌, None, refl, ◌∙◌, rules}
-use Rattle.std.specs.Prelude.{replicate}
-use Rattle.std.proofs.lemmas.List.{length-replicate}
+use Rattle.std.specs.Prelude.{◌≡◌}
+use Rattle.cord_plan.proofs.Common.{None, refl, ◌∙◌, rules, replicate, length-replicate}
 use Rattle.cord_plan.proofs.Recents.{none_noted}
 use Rattle.cord_plan.proofs.flow.recent.Recent.of.Goals as goal
 

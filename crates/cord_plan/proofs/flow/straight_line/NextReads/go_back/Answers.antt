@@ -1,6 +1,6 @@
-use Rattle.std.proofs.Common.{◌≡◌, List, ℕ, Option, Some, None, ◌++◌, take, drop, length, ap, ◌∙◌, subst}
-use Rattle.cord_plan.specs.Operands.{assigns, read_by, reads, target_of}
-use Rattle.cord_plan.specs.inner.Recent.{AreFor, PutsPlaces}
+use Rattle.std.specs.Prelude.{◌≡◌, ◌++◌}
+use Rattle.cord_plan.proofs.Common.{List, ℕ, Option, Some, None, take, drop, length, ap, ◌∙◌, subst, assigns, read_by, reads, target_of}
+use Rattle.cord_plan.proofs.Common.{AreFor, PutsPlaces}
 use Rattle.cord_plan.proofs.StraightLine.{line_more}
 use Rattle.cord_plan.proofs.Begun.{written_back}
 use Rattle.cord_plan.proofs.flow.straight_line.NextReads.go_back.Goals as goal

@@ -1,6 +1,5 @@
-use Rattle.std.proofs.Common.{◌≡◌, [], List, ℕ, Option, None, sym, ap, ◌∙◌, subst, rules}
-use Rattle.std.specs.Prelude.{replicate}
-use Rattle.cord_plan.specs.inner.StraightLine.{AreNextReads}
+use Rattle.std.specs.Prelude.{◌≡◌}
+use Rattle.cord_plan.proofs.Common.{[], List, ℕ, Option, None, sym, ap, ◌∙◌, subst, rules, replicate, AreNextReads}
 use Rattle.cord_plan.proofs.StraightLine.{none_read_next}
 use Rattle.cord_plan.proofs.flow.straight_line.NextReads.of.Goals as goal
 

@@ -1,7 +1,6 @@
-use Rattle.std.proofs.Common.{◌≡◌, ◌<◌, ℕ, Option, Some, length, get_or, sym, ap, ◌∙◌, arith}
-use Rattle.std.specs.Prelude.{is_some, slice_get}
-use Rattle.std.proofs.lemmas.Option.{slice_get-get_or, slice_get_within}
-use Rattle.cord_plan.specs.inner.Recent.{entry_at, entry_of}
+use Rattle.std.specs.Prelude.{◌≡◌, ◌<◌}
+use Rattle.cord_plan.proofs.Common.{ℕ, Option, Some, length, get_or, sym, ap, ◌∙◌, arith, is_some, slice_get, slice_get-get_or}
+use Rattle.cord_plan.proofs.Common.{slice_get_within, entry_at, entry_of}
 use Rattle.cord_plan.proofs.StraightLine.{bits_more, bits_start}
 use Rattle.cord_plan.proofs.Numbers.{as_many, name_at}
 use Rattle.cord_plan.proofs.flow.straight_line.NextReads.operand_bits.Goals as goal

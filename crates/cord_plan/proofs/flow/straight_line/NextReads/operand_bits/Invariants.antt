@@ -1,9 +1,4 @@
-use Rattle.std.proofs.Common.{List, ℕ}
-use Rattle.std.specs.Prelude.{is_some}
-use Rattle.cord_plan.specs.inner.Numbering.{names_of}
-use Rattle.cord_plan.specs.inner.Places.{AreNumbers}
-use Rattle.cord_plan.specs.inner.Recent.{entry_of}
-use Rattle.cord_plan.specs.declared.flow.numbering.Numbering.{Numbering}
+use Rattle.cord_plan.proofs.Common.{List, ℕ, is_some, names_of, AreNumbers, entry_of, Numbering}
 use Rattle.cord_plan.proofs.StraightLine.{BitsTo}
 use Rattle.cord_plan.proofs.flow.straight_line.NextReads.operand_bits.Given as goal
 

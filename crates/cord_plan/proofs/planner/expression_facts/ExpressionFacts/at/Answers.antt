@@ -1,7 +1,5 @@
-use Rattle.std.proofs.Common.{◌≡◌, Some, length, refl, ap, ◌∙◌}
-use Rattle.std.specs.Prelude.{slice_get}
-use Rattle.std.proofs.lemmas.Option.{slice_get_read}
-use Rattle.cord_plan.specs.inner.Choices.{expression_in}
+use Rattle.std.specs.Prelude.{◌≡◌}
+use Rattle.cord_plan.proofs.Common.{Some, length, refl, ap, ◌∙◌, slice_get, slice_get_read, expression_in}
 use Rattle.cord_plan.proofs.ExpressionFacts.{facts_are}
 use Rattle.cord_plan.proofs.planner.expression_facts.ExpressionFacts.at.Goals as goal
 

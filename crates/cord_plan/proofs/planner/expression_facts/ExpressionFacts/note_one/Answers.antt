@@ -1,10 +1,6 @@
-use Rattle.std.proofs.Common.{◌≡◌, [], ◌∷◌, ◌++◌, Option, refl, sym, ◌∙◌, subst}
-use Rattle.std.proofs.lemmas.Option.{IfSome_then}
-use Rattle.cord_plan.specs.Exprs.{Expr}
-use Rattle.cord_plan.specs.Inlined.{expr_of, expr_with}
-use Rattle.cord_plan.specs.inner.Choices.{choice_view}
-use Rattle.cord_plan.specs.inner.ExpressionFacts.{HasFacts}
-use Rattle.cord_plan.specs.inner.Numbering.{number_of}
+use Rattle.std.specs.Prelude.{◌≡◌, ◌∷◌, ◌++◌}
+use Rattle.cord_plan.proofs.Common.{[], Option, refl, sym, ◌∙◌, subst, IfSome_then, Expr, expr_of, expr_with, choice_view, HasFacts}
+use Rattle.cord_plan.proofs.Common.{number_of}
 use Rattle.cord_plan.proofs.ExpressionFacts.{known_more, last_in}
 use Rattle.cord_plan.proofs.Numbers.{operand_number}
 use Rattle.cord_plan.proofs.planner.expression_facts.ExpressionFacts.note_one.Goals as goal

@@ -1,9 +1,5 @@
-use Rattle.std.proofs.Common.{◌≡◌, [], ◌∷◌, ◌++◌, refl, ◌∙◌}
-use Rattle.std.proofs.lemmas.Option.{IfSome_then}
-use Rattle.cord_plan.specs.Exprs.{cat, members}
-use Rattle.cord_plan.specs.Inlined.{expr_of, expr_with}
-use Rattle.cord_plan.specs.inner.Choices.{choice_view}
-use Rattle.cord_plan.specs.inner.Numbering.{number_of}
+use Rattle.std.specs.Prelude.{◌≡◌, ◌∷◌, ◌++◌}
+use Rattle.cord_plan.proofs.Common.{[], refl, ◌∙◌, IfSome_then, cat, members, expr_of, expr_with, choice_view, number_of}
 use Rattle.cord_plan.proofs.ExpressionFacts.{known_more, last_in, two_joined}
 use Rattle.cord_plan.proofs.Numbers.{operand_number}
 use Rattle.cord_plan.proofs.planner.expression_facts.ExpressionFacts.note_two.Goals as goal

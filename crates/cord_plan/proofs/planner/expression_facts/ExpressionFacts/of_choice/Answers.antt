@@ -1,8 +1,6 @@
-use Rattle.std.proofs.Common.{◌≡◌, Some, ap, subst}
+use Rattle.std.specs.Prelude.{◌≡◌}
+use Rattle.cord_plan.proofs.Common.{Some, ap, subst, expr_view, choice_view, expression_in, IsChoiceOf}
 use Rattle.cord_plan.specs.Inlined as plain
-use Rattle.cord_plan.specs.Views.{expr_view}
-use Rattle.cord_plan.specs.inner.Choices.{choice_view, expression_in}
-use Rattle.cord_plan.specs.inner.ExpressionFacts.{IsChoiceOf}
 use Rattle.cord_plan.proofs.planner.expression_facts.ExpressionFacts.of_choice.Goals as goal
 
 pub returns-in_ok-at-in-Replaced : goal.returns-in_ok-at-in-Replaced

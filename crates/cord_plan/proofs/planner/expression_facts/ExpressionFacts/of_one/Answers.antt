@@ -1,10 +1,5 @@
-use Rattle.std.proofs.Common.{[], ◌∷◌, pos, ap}
-use Rattle.std.proofs.lemmas.Option.{IfSome_then}
-use Rattle.cord_operands.specs.declared.operands.Number.TheVariants.{Numeral}
-use Rattle.cord_syntax.specs.declared.statements.Statement.{Statement}
-use Rattle.cord_plan.specs.Exprs.{Expr, cat, members, run}
-use Rattle.cord_plan.specs.Inlined.{expr_of, expr_with}
-use Rattle.cord_plan.specs.inner.Choices.{choice_view}
+use Rattle.std.specs.Prelude.{◌∷◌}
+use Rattle.cord_plan.proofs.Common.{[], pos, ap, IfSome_then, Numeral, Statement, Expr, cat, members, run, expr_of, expr_with, choice_view}
 use Rattle.cord_plan.proofs.planner.expression_facts.ExpressionFacts.of_one.Goals as goal
 
 pub returns-in-Some-Some : goal.returns-in-Some-Some

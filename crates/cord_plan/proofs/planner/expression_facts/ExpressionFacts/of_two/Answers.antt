@@ -1,5 +1,4 @@
-use Rattle.cord_plan.specs.Inlined.{expr_of}
-use Rattle.cord_plan.specs.inner.Choices.{choice_view}
+use Rattle.cord_plan.proofs.Common.{expr_of, choice_view}
 use Rattle.cord_plan.proofs.planner.expression_facts.ExpressionFacts.of_two.Goals as goal
 
 pub returns-in-Some-Some : goal.returns-in-Some-Some

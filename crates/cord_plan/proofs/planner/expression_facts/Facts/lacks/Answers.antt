@@ -1,4 +1,5 @@
-use Rattle.std.proofs.Common.{◌≡◌, ◌+◌, ◌*◌, ◌-◌, ◌<◌, not, ap, ◌∙◌, arith}
+use Rattle.std.specs.Prelude.{◌≡◌, ◌+◌, ◌*◌, ◌-◌, ◌<◌}
+use Rattle.cord_plan.proofs.Common.{not, ap, ◌∙◌, arith}
 use Rattle.cord_plan.proofs.ExpressionFacts.{reported_lacks}
 use Rattle.cord_plan.proofs.planner.expression_facts.Facts.lacks.Goals as goal
 

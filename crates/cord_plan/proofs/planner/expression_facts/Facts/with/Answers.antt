@@ -1,4 +1,4 @@
-use Rattle.std.proofs.Common.{arith}
+use Rattle.cord_plan.proofs.Common.{arith}
 use Rattle.cord_plan.proofs.ExpressionFacts.{marks_both, parts_two}
 use Rattle.cord_plan.proofs.planner.expression_facts.Facts.with.Goals as goal
 
