@@ -4,9 +4,6 @@
 ghost use Rattle.std.specs.Prelude.{◌≡◌, ◌⊎◌, IfErr};
 ghost use Rattle.cord_shell.specs.declared.outcome.Outcome.TheVariants.{BadCommandLine, NoMemory};
 
-#[cfg(test)]
-mod tests;
-
 use cord_io::StdSink;
 use cord_shell::{Outcome, report, run_on_machine};
 use std::env;

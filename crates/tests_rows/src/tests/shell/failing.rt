@@ -1,5 +1,6 @@
 //! Devices that fail after some calls, under `drive`: the status, the line that is reported, and what is written until
 //! then.
+use super::super::refused::texts::pattern;
 use super::{ALL, Come, FILE_TWICE, Hostile, WAYS, come_of};
 use cord_io::Sink;
 use std::process::Abort;
@@ -19,15 +20,6 @@ const SHORT: &[Hostile<'static>] = &[
         puts: &[(6, 3), (8, 7)],
     },
 ];
-
-// So many bytes: those from 0 to 249 in turn, so 20,000 are 10,000 twice.
-fn numbered(rt: &(impl AllocGlobal + Abort), count: usize) -> Vec<u8> {
-    let mut bytes = Vec::new(rt.alloc());
-    for k in 0..count {
-        bytes.push((k % 250) as u8).expect(rt, "no memory");
-    }
-    bytes
-}
 
 // The line that is reported with a cause, where nothing else is reported.
 fn reported_line(reported: &[u8], cause: &[u8]) -> Option<u32> {
@@ -144,15 +136,16 @@ fn fuses_at_each_call(rt: HostRuntime) {
     }
 }
 
+// The pattern begins again after 251 bytes, so the file is 40 of it, and all that is written 80.
 #[test]
 fn fuses_over_a_long_file(rt: HostRuntime) {
-    let file = numbered(&rt, 10_000);
-    let twice = numbered(&rt, 20_000);
+    let file = pattern(&rt, rt.alloc(), 10_040);
+    let twice = pattern(&rt, rt.alloc(), 20_080);
     let lazy_twice = Hostile {
         script: b"lazy x \"p\"\nput x\nput x\n",
         file: &file,
         written: &twice,
-        puts: &[(2, 10_000), (3, 20_000)],
+        puts: &[(2, 10_040), (3, 20_080)],
     };
     fuse_each(&rt, &lazy_twice, 4_096);
 }
@@ -160,7 +153,7 @@ fn fuses_over_a_long_file(rt: HostRuntime) {
 // Of the file not more is written than its first block.
 #[test]
 fn drive_files_fail(rt: HostRuntime) {
-    let file = numbered(&rt, 200_000);
+    let file = pattern(&rt, rt.alloc(), 200_000);
     let lazy = Hostile {
         script: b"lazy x \"p\"\nput x\n",
         file: &file,

@@ -1,21 +1,12 @@
 //! The program over devices in memory that fail, or are refused memory: the status, what is written and what is
 //! reported. What it answers where nothing fails, the tool `cases` shows.
 
-// The value of a call, which is made again where it was refused memory.
-macro_rules! again {
-    ($rt:expr, $call:expr) => {
-        match $call {
-            Ok(value) => value,
-            Err(_) => $call.expect($rt, "no memory"),
-        }
-    };
-}
-
 mod failing;
 mod refused;
 mod words;
 
-use cord_io::{Files, FuseFiles, FuseSink, MemFiles, MemSink};
+use super::refused::files::two_files;
+use cord_io::{Files, FuseFiles, FuseSink, MemSink};
 use cord_shell::drive;
 use std::process::Abort;
 
@@ -67,16 +58,8 @@ fn words_of(rt: &(impl AllocGlobal + Abort), words: &[&str]) -> Vec<String> {
     all
 }
 
-// Files with the script at "s", and the file at "p".
-fn files_of(rt: &(impl AllocGlobal + Abort), hostile: &Hostile<'_>) -> MemFiles {
-    let alloc = rt.alloc();
-    let mut files = MemFiles::new(alloc);
-    again!(rt, files.add(alloc, "s", hostile.script));
-    again!(rt, files.add(alloc, "p", hostile.file));
-    files
-}
-
-// Drives words over files that pass so many calls and an output that passes so many of at most so many bytes.
+// Drives words over the script at "s" and the file at "p", which pass so many calls, and an output that passes so many
+// of at most so many bytes.
 fn come_of(
     rt: &(impl AllocGlobal + Abort),
     hostile: &Hostile<'_>,
@@ -87,7 +70,8 @@ fn come_of(
     let alloc = rt.alloc();
     let words = words_of(rt, words);
     assert!(rt; most >= 1);
-    let files = FuseFiles::new(files_of(rt, hostile), passes.0);
+    let files = two_files(rt, alloc, [("s", hostile.script), ("p", hostile.file)]);
+    let files = FuseFiles::new(files, passes.0);
     let mut out = FuseSink::new(MemSink::new(alloc), passes.1, most);
     let mut err = MemSink::new(alloc);
     let (status, files) = drive(alloc, &words, files, &mut out, &mut err);
