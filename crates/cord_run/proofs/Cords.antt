@@ -1,16 +1,8 @@
 -- Cords of the texts that names hold.
-use Rattle.std.proofs.Common.{◌≡◌, ℕ, List, Ok, refl, sym, ap, subst, ◌∙◌}
-use Rattle.std.specs.Prelude.{Option, None}
-use Rattle.cord_io.specs.Table.{Lengths}
-use Rattle.cord_node.specs.declared.Node.{Node}
-use Rattle.cord_node.specs.Tree.{Cell}
-use Rattle.cord_node.specs.Tables.{lengths_of}
-use Rattle.cord_core.specs.Cord.{bytes_of, CordFitsIn, IsCord}
-use Rattle.cord_core.specs.Equations.{IsSameText}
-use Rattle.cord_run.specs.declared.store.Entry.{Entry}
-use Rattle.cord_run.specs.inner.Contents.{IsExtended, IsTextOver}
-use Rattle.cord_run.specs.inner.Entries.{content_in, cord_in, extensible_in, ExtensibleFits, IsOver}
-use Rattle.cord_run.specs.inner.Holdings.{extended_over}
+use Rattle.std.specs.Prelude.{◌≡◌}
+use Rattle.cord_run.proofs.Common.{ℕ, List, Ok, refl, sym, ap, subst, ◌∙◌, Option, None, Lengths, Node, Cell, lengths_of, bytes_of}
+use Rattle.cord_run.proofs.Common.{CordFitsIn, IsCord, IsSameText, Entry, IsExtended, IsTextOver, content_in, cord_in, extensible_in}
+use Rattle.cord_run.proofs.Common.{ExtensibleFits, IsOver, extended_over}
 use Rattle.cord_run.proofs.Lengths.{content_text, cord_fits}
 
 module _ (entries : List Entry) (name : List ℕ) where

@@ -1,25 +1,9 @@
 -- The cords of a whole expression.
-use Rattle.std.proofs.Common.{◌≡◌, ℕ, true, List, [], ◌∷◌, ◌++◌, length, take, drop, Result, Ok, Err, refl, sym, ap, subst, ◌∙◌, arith}
-use Rattle.std.specs.Prelude.{Option}
-use Rattle.std.proofs.lemmas.List.{take_all}
-use Rattle.cord_io.specs.Table.{Table}
-use Rattle.cord_io.specs.declared.TheConstants.{MAX_LEN}
-use Rattle.cord_node.specs.declared.Node.{Node}
-use Rattle.cord_node.specs.Tables.{lengths_of}
-use Rattle.cord_node.specs.PartsFrom.{PartsFrom}
-use Rattle.cord_core.specs.Cord.{all_bytes, all_parts, parts_of, AllFitIn, IsCord}
-use Rattle.cord_core.specs.Equations.{IsAllOf}
-use Rattle.cord_meaning.specs.declared.ends.FaultKind.{FaultKind}
-use Rattle.cord_plan.specs.Exprs.{Expr}
-use Rattle.cord_plan.specs.Meaning.{all_texts, cords}
-use Rattle.cord_plan.specs.Values.{length_of, text_in}
-use Rattle.cord_run.specs.declared.store.Entry.{Entry}
-use Rattle.cord_run.specs.inner.Extents.{extent_in}
-use Rattle.cord_run.specs.inner.Entries.{IsOver}
-use Rattle.cord_run.specs.inner.Holdings.{holding_of, plain_of}
-use Rattle.cord_run.specs.inner.Ranges.{AddsExpression}
-use Rattle.cord_run.specs.inner.Origins.{AddsInTurn, InTurn, origins}
-use Rattle.cord_run.specs.inner.Expressions.{AreWhole, IsBuilt}
+use Rattle.std.specs.Prelude.{◌≡◌, ◌∷◌, ◌++◌}
+use Rattle.cord_run.proofs.Common.{ℕ, true, List, [], length, take, drop, Result, Ok, Err, refl, sym, ap, subst, ◌∙◌, arith, Option}
+use Rattle.cord_run.proofs.Common.{take_all, Table, MAX_LEN, Node, lengths_of, PartsFrom, all_bytes, all_parts, parts_of, AllFitIn, IsCord}
+use Rattle.cord_run.proofs.Common.{IsAllOf, FaultKind, Expr, all_texts, cords, length_of, text_in, Entry, extent_in, IsOver, holding_of}
+use Rattle.cord_run.proofs.Common.{plain_of, AddsExpression, AddsInTurn, InTurn, origins, AreWhole, IsBuilt}
 use Rattle.cord_run.proofs.Lengths.{text_reported}
 
 -- a text that has a length

@@ -1,13 +1,9 @@
 -- Runs whose events report the same have the same faithful ends.
-use Rattle.std.proofs.Common.{◌≡◌, ◌<◌, inl, inr, ⊎_elim, ℕ, List, [], ◌∷◌, ◌++◌, map, refl, sym, ap, ◌∙◌}
-use Rattle.std.specs.Prelude.{All, flat_map}
-use Rattle.std.proofs.lemmas.List.{map-append}
-use Rattle.std.proofs.lemmas.List.Elements.{All-cons, All-head, All-map, All-nil, All-same, All-tail}
-use Rattle.cord_meaning.specs.declared.ends.End.{End}
+use Rattle.std.specs.Prelude.{◌≡◌, ◌<◌, ◌∷◌, ◌++◌}
+use Rattle.cord_run.proofs.Common.{inl, inr, ⊎_elim, ℕ, List, [], map, refl, sym, ap, ◌∙◌, All, flat_map, map-append, All-cons, All-head}
+use Rattle.cord_run.proofs.Common.{All-map, All-nil, All-same, All-tail, End, FaithfulEnd, FaithfulOutput, IsComplete, StopsAt, Event}
+use Rattle.cord_run.proofs.Common.{output, reported}
 use Rattle.cord_meaning.specs.declared.ends.End.TheVariants.{Done, Fault, NoMemory, ReadFailed, WriteFailed}
-use Rattle.cord_meaning.specs.Ends.{FaithfulEnd, FaithfulOutput, IsComplete, StopsAt}
-use Rattle.cord_meaning.specs.Machine.{Event, output}
-use Rattle.cord_meaning.specs.Machine.{reported}
 
 -- what an event reports
 abbrev Reported : Type 0

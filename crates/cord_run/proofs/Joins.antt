@@ -1,21 +1,15 @@
 -- Cords are put one after another, short leaves first.
-use Rattle.std.proofs.Common.{◌≡◌, ◌<◌, ◌≤◌, ◌+◌, ◌-◌, ℕ, zero, suc, List, [], ◌∷◌, ◌++◌, drop, length, get_or, map}
-use Rattle.std.proofs.Common.{refl, arith, ◌∙◌, sym, ap, subst}
-use Rattle.std.proofs.Common.{append_assoc, append-nil, length-append}
-use Rattle.std.proofs.lemmas.List.{drop-drop, drop_all, length-drop, map-append, take_all, take_more}
-use Rattle.std.specs.Prelude.{Option, None, Some, take}
+use Rattle.std.specs.Prelude.{◌≡◌, ◌<◌, ◌≤◌, ◌+◌, ◌-◌, ◌∷◌, ◌++◌}
+use Rattle.cord_run.proofs.Common.{ℕ, zero, suc, List, [], drop, length, get_or, map, refl, arith, ◌∙◌, sym, ap, subst, append_assoc}
+use Rattle.cord_run.proofs.Common.{append-nil, length-append, drop-drop, drop_all, map-append, take_all, take_more, Option, None, Some}
+use Rattle.cord_run.proofs.Common.{take, Node, Cell, known, Part, leaf_part, PartsFrom, IsFrom-small, PartsFrom-both, PartsFrom-self}
+use Rattle.cord_run.proofs.Common.{PartsFrom-trans, PartsFrom_same, text, text_len, parts_of, IsCord, all_text, all_len, all_parts}
+use Rattle.cord_run.proofs.Common.{IsLeafOf, IsCatting, catting_step, ArePreceding, IsJoinOfFirst}
+use Rattle.std.proofs.lemmas.List.{length-drop}
 use Rattle.std.specs.Rc.{rc_slice_items}
-use Rattle.cord_node.specs.declared.Node.{Node}
 use Rattle.cord_node.specs.declared.Node.TheVariants.{Leaf, Run, Func, Cat'}
 use Rattle.cord_node.specs.declared.TheConstants.{SMALL_LEN}
-use Rattle.cord_node.specs.Tree.{Cell, known}
-use Rattle.cord_node.specs.PartsFrom.{Part, leaf_part, PartsFrom}
-use Rattle.cord_node.proofs.PartsFromLemmas.{IsFrom-small, PartsFrom-both, PartsFrom-self, PartsFrom-trans, PartsFrom_same}
-use Rattle.cord_core.specs.Cord.{text, text_len, parts_of, IsCord, all_text, all_len, all_parts}
-use Rattle.cord_core.specs.Forms.{IsLeafOf}
-use Rattle.cord_core.proofs.Catting.{IsCatting, catting_step}
 use Rattle.cord_core.proofs.Parts.{leaf_text, leaf_len}
-use Rattle.cord_run.specs.inner.Joins.{ArePreceding, IsJoinOfFirst}
 use Rattle.cord_run.proofs.Ranges.{all_len_more}
 
 -- the first so many, and those after them

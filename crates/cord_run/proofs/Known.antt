@@ -1,27 +1,14 @@
 -- Lengths that are known without being computed.
-use Rattle.std.proofs.Common.{◌≡◌, ◌+◌, ◌-◌, ◌^◌, ℕ, suc, Bool, true, false, ◌&&◌, List, [], ◌∷◌, ◌++◌, Result, Ok, Err, refl}
-use Rattle.std.proofs.Common.{length, map, sym, ap, subst, ◌∙◌, arith}
-use Rattle.std.specs.Prelude.{Some, min, not, slice_get, if◌then◌else◌}
-use Rattle.std.specs.Str.{bytes_eq}
-use Rattle.std.proofs.lemmas.Slice.Eq.{bytes_eq-Decides}
-use Rattle.cord_io.specs.declared.TheConstants.{MAX_LEN}
-use Rattle.cord_operands.specs.declared.operands.Number.{Number}
-use Rattle.cord_operands.specs.declared.operands.Number.TheVariants.{Numeral, Named}
-use Rattle.cord_meaning.specs.declared.ends.FaultKind.{FaultKind}
-use Rattle.cord_meaning.specs.State.{and_then, as_length}
-use Rattle.cord_plan.specs.Exprs.{Expr, Exprs, name, run, cat, sub, nothing, member, append, lacks, names, names_of, number_names}
+use Rattle.std.specs.Prelude.{◌≡◌, ◌+◌, ◌-◌, ◌^◌, ◌&&◌, ◌∷◌, ◌++◌, if◌then◌else◌}
+use Rattle.cord_run.proofs.Common.{ℕ, suc, Bool, true, false, List, [], Result, Ok, Err, refl, length, map, sym, ap, subst, ◌∙◌, arith}
+use Rattle.cord_run.proofs.Common.{Some, min, not, slice_get, bytes_eq, bytes_eq-Decides, MAX_LEN, Number, Numeral, Named, FaultKind}
+use Rattle.cord_run.proofs.Common.{and_then, as_length, Expr, Exprs, name, run, cat, sub, nothing, member, append, lacks, names, names_of}
+use Rattle.cord_run.proofs.Common.{number_names, Made, Joined, Operation, Measure, measured_copies, measured_part, Shared, members_of}
+use Rattle.cord_run.proofs.Common.{shared_view, Long, Entry, Reading, ByLength, file_made, HasContent, content_in, content_length}
+use Rattle.cord_run.proofs.Common.{length_in, operand_in, extent_in, members_extent, EndsInName, IsExtent, IsKnownAt, IsKnownOf, Measures}
+use Rattle.cord_run.proofs.Common.{StaysKnown}
 use Rattle.cord_plan.specs.Extending.{Extends, IsLonger, joined_at, joined_by}
-use Rattle.cord_plan.specs.Planned.{Made, Joined, Operation, Measure}
-use Rattle.cord_plan.specs.Values.{measured_copies, measured_part}
-use Rattle.cord_plan.specs.Views.{Shared, members_of, shared_view}
-use Rattle.cord_run.specs.declared.store.Content.TheVariants.{Long}
-use Rattle.cord_run.specs.declared.store.Entry.{Entry}
-use Rattle.cord_run.specs.declared.targets.files.Reading.{Reading}
-use Rattle.cord_run.specs.declared.targets.files.Reading.TheVariants.{ByLength, Eager, Lazy}
-use Rattle.cord_run.specs.inner.Definitions.{file_made}
-use Rattle.cord_run.specs.inner.Entries.{HasContent, content_in, content_length, length_in, operand_in}
-use Rattle.cord_run.specs.inner.Extents.{extent_in, members_extent}
-use Rattle.cord_run.specs.inner.Known.{EndsInName, IsExtent, IsKnownAt, IsKnownOf, Measures, StaysKnown}
+use Rattle.cord_run.specs.declared.targets.files.Reading.TheVariants.{Eager, Lazy}
 use Rattle.cord_run.proofs.Prefixes.{added, extent_both}
 use Rattle.cord_run.proofs.Lengths.{Both, both, length_passed}
 use Rattle.cord_run.proofs.Members.{counted_length}

@@ -1,31 +1,14 @@
 -- The lengths known of expressions are those of their texts, over every table that the names fit.
-use Rattle.std.proofs.Common.{◌≡◌, ◌≤◌, ◌-◌, ℕ, ℤ, Bool, true, false, ◌&&◌, List, [], ◌∷◌, ◌++◌, length, replicate, Result, Ok, Err, refl, sym}
-use Rattle.std.proofs.Common.{ap, subst, ◌∙◌, inl, inr, arith}
-use Rattle.std.specs.Prelude.{nat_le, min, if◌then◌else◌, Some, None}
-use Rattle.std.proofs.lemmas.Bool.{leb-true}
-use Rattle.std.proofs.lemmas.List.{length-replicate}
-use Rattle.cord_io.specs.Table.{Table, Lengths}
-use Rattle.cord_io.specs.declared.TheConstants.{MAX_LEN}
-use Rattle.cord_node.specs.Tables.{lengths_of}
-use Rattle.cord_node.proofs.TreeLemmas.{len_limit}
-use Rattle.cord_core.specs.Cord.{bytes_of, CordFitsIn}
-use Rattle.cord_core.proofs.OverLemmas.{length-bytes}
-use Rattle.cord_operands.specs.declared.operands.Number.{Number}
-use Rattle.cord_operands.specs.declared.operands.Number.TheVariants.{Numeral, Named}
-use Rattle.cord_meaning.specs.declared.ends.FaultKind.{FaultKind}
-use Rattle.cord_meaning.specs.declared.ends.FaultKind.TheVariants.{TooLong}
-use Rattle.cord_meaning.specs.State.{State, number_value, and_then, as_index, as_byte, as_length}
-use Rattle.cord_plan.specs.Exprs.{Expr, name, run, cat, sub}
-use Rattle.cord_plan.specs.Values.{measured, measured_members, length_of, text_in}
-use Rattle.cord_plan.specs.Meaning.{Held, Text, Holding, plain, is_text, held_text, held_length, all_texts, cords, extent}
+use Rattle.std.specs.Prelude.{◌≡◌, ◌≤◌, ◌-◌, ◌&&◌, ◌∷◌, ◌++◌, if◌then◌else◌}
+use Rattle.cord_run.proofs.Common.{ℕ, ℤ, Bool, true, false, List, [], length, replicate, Result, Ok, Err, refl, sym, ap, subst, ◌∙◌, inl}
+use Rattle.cord_run.proofs.Common.{inr, arith, nat_le, min, Some, None, leb-true, length-replicate, Table, Lengths, MAX_LEN, lengths_of}
+use Rattle.cord_run.proofs.Common.{len_limit, bytes_of, CordFitsIn, length-bytes, Number, Numeral, Named, FaultKind, TooLong, State}
+use Rattle.cord_run.proofs.Common.{number_value, and_then, as_index, as_byte, as_length, Expr, name, run, cat, sub, measured}
+use Rattle.cord_run.proofs.Common.{measured_members, length_of, text_in, Held, Text, Holding, plain, is_text, held_text, held_length}
+use Rattle.cord_run.proofs.Common.{all_texts, cords, extent, Content, Whole, Long, Entry, extent_in, content_in, length_in, operand_in}
+use Rattle.cord_run.proofs.Common.{content_length, cord_in, ContentFits, IsOver, held_over, holding_of, plain_of}
 use Rattle.cord_plan.specs.Meaning as meaning
 use Rattle.cord_plan.proofs.Evaluation.{In, value_same, extent_is}
-use Rattle.cord_run.specs.declared.store.Content.{Content}
-use Rattle.cord_run.specs.declared.store.Content.TheVariants.{Whole, Long}
-use Rattle.cord_run.specs.declared.store.Entry.{Entry}
-use Rattle.cord_run.specs.inner.Extents.{extent_in}
-use Rattle.cord_run.specs.inner.Entries.{content_in, length_in, operand_in, content_length, cord_in, ContentFits, IsOver}
-use Rattle.cord_run.specs.inner.Holdings.{held_over, holding_of, plain_of}
 
 -- the cord of a content that fits
 pub cord_fits : (lengths : Lengths) (c : Content) → ContentFits lengths c → CordFitsIn lengths (cord_in c)

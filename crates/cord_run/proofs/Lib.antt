@@ -1,3 +1,4 @@
+pub mod Common
 pub mod Entries
 pub mod Splices
 pub mod Members

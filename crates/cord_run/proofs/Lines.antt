@@ -1,15 +1,10 @@
 -- The members of a run stand on the lines of its statements, which are counted from 1.
-use Rattle.std.proofs.Common.{◌≡◌, ◌<◌, ℕ, zero, suc, ℤ, pos, negsuc, Bool, true, false, List, [], ◌∷◌, Result, Ok, Err, refl, sym, subst}
-use Rattle.std.proofs.Common.{nat_lt}
-use Rattle.std.specs.Prelude.{Option, Some, None, All, slice_get, if◌then◌else◌}
-use Rattle.std.proofs.lemmas.List.Elements.{All-nil, All-push}
-use Rattle.std.proofs.lemmas.Option.{get_or_from_slice_get, slice_get_within}
-use Rattle.cord_meaning.specs.declared.ends.End.{End}
-use Rattle.cord_meaning.specs.declared.ends.FaultKind.{FaultKind}
-use Rattle.cord_meaning.specs.declared.ends.FaultKind.TheVariants.{Negative, TooManyTurns}
-use Rattle.cord_meaning.specs.Blocks.{Shape, Straight, Loop, Branch, Otherwise, Close}
-use Rattle.cord_meaning.specs.Machine.{Rules, Block, Turns, Chosen, Config, acted, after, begins, chooses, closes, enough, faults}
-use Rattle.cord_meaning.specs.Machine.{if_running, jump_from, notes, repeats, run_trace, runs, runs_shape, turned}
+use Rattle.std.specs.Prelude.{◌≡◌, ◌<◌, ◌∷◌, if◌then◌else◌}
+use Rattle.cord_run.proofs.Common.{ℕ, zero, suc, ℤ, pos, negsuc, Bool, true, false, List, [], Result, Ok, Err, refl, sym, subst, nat_lt}
+use Rattle.cord_run.proofs.Common.{Option, Some, None, All, slice_get, All-nil, All-push, get_or_from_slice_get, slice_get_within, End}
+use Rattle.cord_run.proofs.Common.{FaultKind, Negative, TooManyTurns, Shape, Straight, Loop, Branch, Otherwise, Close, Rules, Block, Turns}
+use Rattle.cord_run.proofs.Common.{Chosen, Config, acted, after, begins, chooses, closes, enough, faults, if_running, jump_from, notes}
+use Rattle.cord_run.proofs.Common.{repeats, run_trace, runs, runs_shape, turned}
 use Rattle.cord_meaning.proofs.Terminates.{ends, settles}
 
 -- the lines of the open blocks

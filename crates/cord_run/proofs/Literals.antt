@@ -1,20 +1,11 @@
 -- Cords of literals and of functions.
-use Rattle.std.proofs.Common.{◌≡◌, ◌≤◌, ◌+◌, ℕ, List, [], ◌++◌, length, take, drop, sym, ap, subst, ◌∙◌, inl, arith}
-use Rattle.std.specs.Prelude.{Option}
-use Rattle.cord_io.specs.declared.TheConstants.{MAX_LEN}
-use Rattle.cord_io.specs.FunctionTexts.{text_of, digit_at, byte_value_at, length-text_of}
+use Rattle.std.specs.Prelude.{◌≡◌, ◌≤◌, ◌+◌, ◌++◌}
+use Rattle.cord_run.proofs.Common.{ℕ, List, [], length, take, drop, sym, ap, subst, ◌∙◌, inl, arith, Option, MAX_LEN, digit_at}
+use Rattle.cord_run.proofs.Common.{byte_value_at, length-text_of, Lengths, Node, Cell, AreHeldIn, lengths_of, IsCord, IsSourceRange}
+use Rattle.cord_run.proofs.Common.{bytes_of_cells, IsCordOf, IsGrownBy, lengths_in, table_in, Function, Digits, Bytes, IsStartOf}
+use Rattle.cord_run.proofs.Common.{IsCordOfText, function_source}
+use Rattle.cord_io.specs.FunctionTexts.{text_of}
 use Rattle.cord_io.proofs.FunctionRanges.{range-text_of}
-use Rattle.cord_io.specs.Table.{Lengths}
-use Rattle.cord_node.specs.declared.Node.{Node}
-use Rattle.cord_node.specs.Tree.{Cell}
-use Rattle.cord_node.specs.Tables.{AreHeldIn, lengths_of}
-use Rattle.cord_core.specs.Cord.{IsCord}
-use Rattle.cord_core.specs.Equations.{IsSourceRange}
-use Rattle.cord_ec.specs.Grown.{bytes_of_cells, IsCordOf, IsGrownBy}
-use Rattle.cord_file.specs.FileTable.{lengths_in, table_in}
-use Rattle.cord_operands.specs.declared.operands.Function.{Function}
-use Rattle.cord_operands.specs.declared.operands.Function.TheVariants.{Digits, Bytes}
-use Rattle.cord_run.specs.inner.Contents.{IsStartOf, IsCordOfText, function_source}
 
 -- an extensible cord of no bytes that has grown by a text
 pub gathered_text : (text : List ℕ) (before after : List Cell) (cord : Option Node) → before ≡ [] → length before + length text ≤ MAX_LEN →

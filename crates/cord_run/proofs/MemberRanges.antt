@@ -1,26 +1,12 @@
 -- A walk over the members of a `cat` that adds what is wanted of their joined text.
-use Rattle.std.proofs.Common.{◌≡◌, ◌+◌, ◌-◌, ◌<◌, ◌≤◌, ℕ, Bool, true, false, List, [], ◌++◌, length, take, drop, Result, Ok, Err, refl}
-use Rattle.std.proofs.Common.{sym, ap, subst, ◌∙◌, append-nil, append_assoc, length-drop, arith}
-use Rattle.std.specs.Prelude.{min, nat_le, Option}
-use Rattle.std.proofs.lemmas.Bool.{leb-true, leb-false}
-use Rattle.std.proofs.lemmas.List.{take_min}
-use Rattle.cord_io.specs.Table.{Table, Lengths}
-use Rattle.cord_io.specs.declared.TheConstants.{MAX_LEN}
-use Rattle.cord_node.specs.declared.Node.{Node}
-use Rattle.cord_node.specs.Tables.{lengths_of}
+use Rattle.std.specs.Prelude.{◌≡◌, ◌+◌, ◌-◌, ◌<◌, ◌≤◌, ◌++◌}
+use Rattle.cord_run.proofs.Common.{ℕ, Bool, true, false, List, [], length, take, drop, Result, Ok, Err, refl, sym, ap, subst, ◌∙◌}
+use Rattle.cord_run.proofs.Common.{append-nil, append_assoc, length-drop, arith, min, nat_le, Option, leb-true, leb-false, take_min, Table}
+use Rattle.cord_run.proofs.Common.{Lengths, MAX_LEN, Node, lengths_of, all_bytes, AllFitIn, FaultKind, Expr, Exprs, append, member, nothing}
+use Rattle.cord_run.proofs.Common.{all_texts, cords, cords_of, text_in, Wanted, Entry, extent_in, members_extent, IsOver, holding_of}
+use Rattle.cord_run.proofs.Common.{plain_of, Origin, origins, origins_of, AddsExpression, AddsMembers, AddsRange, IsAfter, IsPast}
+use Rattle.cord_run.proofs.Common.{joined_over}
 use Rattle.cord_node.proofs.Ranges.{range_left, range_right, range_both}
-use Rattle.cord_core.specs.Cord.{all_bytes, AllFitIn}
-use Rattle.cord_meaning.specs.declared.ends.FaultKind.{FaultKind}
-use Rattle.cord_plan.specs.Exprs.{Expr, Exprs, append, member, nothing}
-use Rattle.cord_plan.specs.Meaning.{all_texts, cords, cords_of}
-use Rattle.cord_plan.specs.Values.{text_in}
-use Rattle.cord_run.specs.declared.expressions.ranges.Wanted.{Wanted}
-use Rattle.cord_run.specs.declared.store.Entry.{Entry}
-use Rattle.cord_run.specs.inner.Extents.{extent_in, members_extent}
-use Rattle.cord_run.specs.inner.Entries.{IsOver}
-use Rattle.cord_run.specs.inner.Holdings.{holding_of, plain_of}
-use Rattle.cord_run.specs.inner.Origins.{Origin, origins, origins_of}
-use Rattle.cord_run.specs.inner.Ranges.{AddsExpression, AddsMembers, AddsRange, IsAfter, IsPast, joined_over}
 use Rattle.cord_run.proofs.Prefixes.{IsPrefix, added, extent_both, member_prefix, members_prefix, origins_both, parts_of}
 use Rattle.cord_run.proofs.Origins.{TurnsSoFar, turns_added, turns_end, turns_go_on, turns_start}
 

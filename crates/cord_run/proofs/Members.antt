@@ -1,18 +1,10 @@
 -- The members of a `cat` on a walk over them.
-use Rattle.std.proofs.Common.{◌≡◌, ◌<◌, ◌≤◌, Bool, true, false, ℕ, ◌+◌, ◌-◌, ◌^◌, List, ◌∷◌, length, drop, get_or, Result, Ok, Err, refl}
-use Rattle.std.proofs.Common.{sym, ap, ◌∙◌, arith}
-use Rattle.std.specs.Prelude.{min, nat_le}
-use Rattle.std.proofs.lemmas.Bool.{leb-true, leb-false}
-use Rattle.std.proofs.lemmas.List.{drop_more, drop_all}
-use Rattle.cord_io.specs.declared.TheConstants.{MAX_LEN}
-use Rattle.cord_meaning.specs.declared.ends.FaultKind.{FaultKind}
-use Rattle.cord_meaning.specs.State.{and_then, as_length}
-use Rattle.cord_meaning.proofs.Checks.{length_above}
+use Rattle.std.specs.Prelude.{◌≡◌, ◌<◌, ◌≤◌, ◌+◌, ◌-◌, ◌^◌, ◌∷◌}
+use Rattle.cord_run.proofs.Common.{Bool, true, false, ℕ, List, length, drop, get_or, Result, Ok, Err, refl, sym, ap, ◌∙◌, arith, min}
+use Rattle.cord_run.proofs.Common.{nat_le, leb-true, leb-false, drop_more, drop_all, MAX_LEN, FaultKind, and_then, as_length, length_above}
+use Rattle.cord_run.proofs.Common.{Shared, shared_view, Entry, counted, extent_in, members_extent, members_seen}
 use Rattle.cord_plan.specs.Exprs as plain
-use Rattle.cord_plan.specs.Views.{Shared, shared_view}
 use Rattle.cord_plan.proofs.MemberTexts as texts
-use Rattle.cord_run.specs.declared.store.Entry.{Entry}
-use Rattle.cord_run.specs.inner.Extents.{counted, extent_in, members_extent, members_seen}
 
 abbrev pub weight : plain.Expr → ℕ
 weight e = texts.weight e

@@ -1,10 +1,7 @@
 -- Pieces that come from origins in turn.
-use Rattle.std.proofs.Common.{◌≡◌, List, [], ◌∷◌, ◌++◌, sym, ap, subst, ◌∙◌, append-nil, append_assoc, inl, inr, ⊎_elim}
-use Rattle.std.specs.Prelude.{Option}
-use Rattle.cord_node.specs.declared.Node.{Node}
-use Rattle.cord_plan.specs.Exprs.{Exprs}
-use Rattle.cord_run.specs.declared.store.Entry.{Entry}
-use Rattle.cord_run.specs.inner.Origins.{Origin, origins_of, InTurn, IsPieceFrom, AddsAtMostOne, AddsInTurn}
+use Rattle.std.specs.Prelude.{◌≡◌, ◌∷◌, ◌++◌}
+use Rattle.cord_run.proofs.Common.{List, [], sym, ap, subst, ◌∙◌, append-nil, append_assoc, inl, inr, ⊎_elim, Option, Node, Exprs, Entry}
+use Rattle.cord_run.proofs.Common.{Origin, origins_of, InTurn, IsPieceFrom, AddsAtMostOne, AddsInTurn}
 
 -- no pieces
 pub none_in_turn : (entries : List Entry) (os : List Origin) → InTurn entries os []

@@ -1,29 +1,15 @@
 -- Cords that a sink is handed one after another.
-use Rattle.std.proofs.Common.{◌≡◌, ◌+◌, ◌<◌, ◌≤◌, ℕ, zero, suc, true, List, [], ◌∷◌, ◌++◌, length, take, drop, get_or, Result, Ok, Err}
-use Rattle.std.proofs.Common.{refl, sym, ap, subst, ◌∙◌, append-nil, arith}
-use Rattle.std.specs.Prelude.{Option}
-use Rattle.std.proofs.lemmas.List.{take_all}
-use Rattle.cord_io.specs.Table.{Table, Lengths, HasLengths}
-use Rattle.cord_io.specs.declared.TheConstants.{MAX_LEN}
-use Rattle.cord_io.specs.declared.faults.CordError.{CordError}
+use Rattle.std.specs.Prelude.{◌≡◌, ◌+◌, ◌<◌, ◌≤◌, ◌∷◌, ◌++◌}
+use Rattle.cord_run.proofs.Common.{ℕ, zero, suc, true, List, [], length, take, drop, get_or, Result, Ok, Err, refl, sym, ap, subst, ◌∙◌}
+use Rattle.cord_run.proofs.Common.{append-nil, arith, Option, take_all, Table, Lengths, HasLengths, MAX_LEN, CordError, Node, bytes_of}
+use Rattle.cord_run.proofs.Common.{all_bytes, CordFitsIn, AllFitIn, FailureCounts, CountsFaults, IsPrefixOf, Takes, FaultKind, Expr}
+use Rattle.cord_run.proofs.Common.{all_texts, cords, text_in, Stop, Entry, IsOver, holding_of, plain_of, CountsStops, PutsText, Wrote}
+use Rattle.cord_run.proofs.Common.{stop_of_failure, AreWhole, IsUnbuilt}
 use Rattle.cord_io.specs.declared.faults.CordError.TheVariants.{NoMemory, TooLong, ReadFailed, WriteFailed}
 use Rattle.cord_io.specs.declared.writing.Sink as sinks
-use Rattle.cord_node.specs.declared.Node.{Node}
-use Rattle.cord_core.specs.Cord.{bytes_of, all_bytes, CordFitsIn, AllFitIn}
-use Rattle.cord_iter.specs.Output.{FailureCounts, CountsFaults, IsPrefixOf, Takes}
 use Rattle.cord_iter.proofs.Takes.{appends_both, prefix_join, prefix_more}
-use Rattle.cord_meaning.specs.declared.ends.FaultKind.{FaultKind}
-use Rattle.cord_plan.specs.Exprs.{Expr}
-use Rattle.cord_plan.specs.Meaning.{all_texts, cords}
-use Rattle.cord_plan.specs.Values.{text_in}
 use Rattle.cord_plan.proofs.Writing.{AreJoined, joined_next, joined_all}
-use Rattle.cord_run.specs.declared.stops.Stop.{Stop}
 use Rattle.cord_run.specs.declared.stops.Stop.TheVariants as stops
-use Rattle.cord_run.specs.declared.store.Entry.{Entry}
-use Rattle.cord_run.specs.inner.Entries.{IsOver}
-use Rattle.cord_run.specs.inner.Holdings.{holding_of, plain_of}
-use Rattle.cord_run.specs.inner.Output.{CountsStops, PutsText, Wrote, stop_of_failure}
-use Rattle.cord_run.specs.inner.Expressions.{AreWhole, IsUnbuilt}
 use Rattle.cord_run.proofs.Tables.{over_reported}
 
 -- each of them fits

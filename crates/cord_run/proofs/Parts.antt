@@ -1,42 +1,20 @@
 -- The cords of expressions of one part or of two.
-use Rattle.std.proofs.Common.{◌≡◌, ◌+◌, ◌≤◌, ◌<◌, ℕ, true, ℤ, List, [], ◌∷◌, ◌++◌, length, take, drop, replicate, Result, Ok, Err, refl}
-use Rattle.std.proofs.Common.{sym, ap, subst, ◌∙◌}
-use Rattle.std.proofs.Common.{inl, append-nil, append_assoc, length-append, arith}
-use Rattle.std.specs.Prelude.{Option}
-use Rattle.std.proofs.lemmas.List.{take_all}
-use Rattle.cord_io.specs.Table.{Table, Lengths}
-use Rattle.cord_io.specs.declared.TheConstants.{MAX_LEN}
-use Rattle.cord_io.specs.declared.faults.CordError.{CordError}
+use Rattle.std.specs.Prelude.{◌≡◌, ◌+◌, ◌≤◌, ◌<◌, ◌∷◌, ◌++◌}
+use Rattle.cord_run.proofs.Common.{ℕ, true, ℤ, List, [], length, take, drop, replicate, Result, Ok, Err, refl, sym, ap, subst, ◌∙◌, inl}
+use Rattle.cord_run.proofs.Common.{append-nil, append_assoc, length-append, arith, Option, take_all, Table, Lengths, MAX_LEN, CordError}
+use Rattle.cord_run.proofs.Common.{Node, Part, PartsFrom, lengths_of, PartsFrom-join, PartsFrom-self, bytes_of, text_len, parts_of}
+use Rattle.cord_run.proofs.Common.{CordFits, CordFitsIn, IsCord, all_bytes, all_parts, AllFitIn, IsCatOf, IsSubstring, HasText, IsRefusal}
+use Rattle.cord_run.proofs.Common.{length-bytes, Number, FaultKind, TooLong, number_value, and_then, as_index, as_byte, as_length, Expr}
+use Rattle.cord_run.proofs.Common.{name, run, cat, sub, member, nothing, all_texts, cords, copies, measured_copies, part_of, text_in}
+use Rattle.cord_run.proofs.Common.{within, Stop, Entry, stop_of_cord, content_in, cord_in, operand_in, IsOver, holding_of, plain_of}
+use Rattle.cord_run.proofs.Common.{IsBuilt, IsUnbuilt, Origin, named, copied, origins, InTurn, IsCutOf, IsPieceFrom, stop_by}
 use Rattle.cord_io.specs.declared.faults.CordError.TheVariants as errors
-use Rattle.cord_node.specs.declared.Node.{Node}
-use Rattle.cord_node.specs.PartsFrom.{Part, PartsFrom}
-use Rattle.cord_node.specs.Tables.{lengths_of}
-use Rattle.cord_node.proofs.PartsFromLemmas.{PartsFrom-join, PartsFrom-self}
-use Rattle.cord_core.specs.Cord.{bytes_of, text_len, parts_of, CordFits, CordFitsIn, IsCord, all_bytes, all_parts, AllFitIn}
-use Rattle.cord_core.specs.Equations.{IsCatOf, IsSubstring, HasText}
-use Rattle.cord_core.specs.Refusals.{IsRefusal}
-use Rattle.cord_core.proofs.OverLemmas.{length-bytes}
-use Rattle.cord_operands.specs.declared.operands.Number.{Number}
-use Rattle.cord_meaning.specs.declared.ends.FaultKind.{FaultKind}
-use Rattle.cord_meaning.specs.declared.ends.FaultKind.TheVariants.{TooLong}
-use Rattle.cord_meaning.specs.State.{number_value, and_then, as_index, as_byte, as_length}
-use Rattle.cord_plan.specs.Exprs.{Expr, name, run, cat, sub, member, nothing}
-use Rattle.cord_plan.specs.Meaning.{all_texts, cords}
-use Rattle.cord_plan.specs.Values.{copies, measured_copies, part_of, text_in, within}
-use Rattle.cord_run.specs.declared.stops.Stop.{Stop}
 use Rattle.cord_run.specs.declared.stops.Stop.TheVariants as stops
-use Rattle.cord_run.specs.declared.store.Entry.{Entry}
-use Rattle.cord_run.specs.inner.Contents.{stop_of_cord}
-use Rattle.cord_run.specs.inner.Entries.{content_in, cord_in, operand_in, IsOver}
-use Rattle.cord_run.specs.inner.Holdings.{holding_of, plain_of}
-use Rattle.cord_run.specs.inner.Expressions.{IsBuilt, IsUnbuilt}
-use Rattle.cord_run.specs.inner.Origins.{Origin, named, copied, origins, InTurn, IsCutOf, IsPieceFrom}
 use Rattle.cord_run.proofs.Files.{long_text, short_text}
 use Rattle.cord_run.proofs.Prefixes.{joined}
 use Rattle.cord_run.proofs.Lengths.{Both, cord_fits, content_text, length_passed, operand_value, texts_split}
 use Rattle.cord_run.proofs.Definitions.{cord_limit}
 use Rattle.cord_run.proofs.Origins.{turns_joined}
-use Rattle.cord_run.proofs.Refusals.{stop_by}
 
 -- ---- one part
 module _ (entries : List Entry) where

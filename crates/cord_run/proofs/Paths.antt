@@ -1,18 +1,14 @@
 -- How many paths a script has.
-use Rattle.std.proofs.Common.{◌≡◌, ◌+◌, ◌<◌, ◌≤◌, ◌⊎◌, ℕ, Bool, true, false, List, [], ◌∷◌, ◌++◌, map, length, inl, inr, refl, sym, subst}
-use Rattle.std.proofs.Common.{length-append, arith}
-use Rattle.std.specs.Prelude.{if◌then◌else◌}
+use Rattle.std.specs.Prelude.{◌≡◌, ◌+◌, ◌<◌, ◌≤◌, ◌⊎◌, ◌∷◌, ◌++◌, if◌then◌else◌}
+use Rattle.cord_run.proofs.Common.{ℕ, Bool, true, false, List, [], map, length, inl, inr, refl, sym, subst, length-append, arith, Argument}
+use Rattle.cord_run.proofs.Common.{Grammar, argument_term, terms_of, AreAllowed, Scope, LinesSay, ReadsBy, after_all, paths_after, start}
+use Rattle.cord_run.proofs.Common.{with_path, Statement, File, Eager, Lazy, Catn, Sprintf}
 use Rattle.cord_file.specs.declared.TheConstants.{MAX_FILES}
-use Rattle.cord_operands.specs.declared.operands.Argument.{Argument}
 use Rattle.cord_operands.specs.declared.operands.Argument.TheVariants as arguments
 use Rattle.cord_script.specs.declared.TheConstants.{MAX_PATHS}
 use Rattle.cord_script.specs.declared.kinds.Kind.TheVariants as kinds
-use Rattle.cord_script.specs.Forms.{Grammar, argument_term, terms_of}
 use Rattle.cord_script.specs.Forms.Term.{Operand}
-use Rattle.cord_script.specs.Script.{AreAllowed, Scope, LinesSay, ReadsBy, after, after_all, is_among, paths_after, start, with_path}
-use Rattle.cord_syntax.specs.declared.statements.Statement.{Statement}
-use Rattle.cord_syntax.specs.declared.statements.Statement.TheVariants.{File, Eager, Lazy, Catn}
-use Rattle.cord_syntax.specs.declared.statements.Statement.TheVariants.{Sprintf}
+use Rattle.cord_script.specs.Script.{after, is_among}
 
 -- names of cords and arguments of a format have no path
 names_leave : (names : List (List ℕ)) (paths : List (List ℕ)) → paths_after (map (Operand kinds.Cord) names) paths ≡ paths

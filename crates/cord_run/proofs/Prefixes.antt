@@ -1,22 +1,9 @@
 -- Members in front of others: their names, origins, lengths and texts.
-use Rattle.std.proofs.Common.{◌≡◌, ℕ, ◌+◌, ◌-◌, ◌^◌, true, List, [], ◌++◌, length, Result, Ok, Err, refl, sym, ap, ◌∙◌, append_assoc}
-use Rattle.std.proofs.Common.{length-append, arith}
-use Rattle.std.specs.Prelude.{min}
-use Rattle.cord_io.specs.Table.{Table}
-use Rattle.cord_node.specs.Tables.{lengths_of}
-use Rattle.cord_meaning.specs.declared.ends.FaultKind.{FaultKind}
-use Rattle.cord_meaning.specs.State.{and_then}
-use Rattle.cord_plan.specs.Exprs.{Expr, Exprs, append, member, nothing}
-use Rattle.cord_plan.specs.Meaning.{all_texts, cords, cords_of}
-use Rattle.cord_plan.specs.Values.{text_in}
-use Rattle.cord_plan.proofs.Values.{passes}
-use Rattle.cord_io.specs.declared.TheConstants.{MAX_LEN}
-use Rattle.cord_run.specs.declared.store.Entry.{Entry}
-use Rattle.cord_run.specs.inner.Extents.{counted, extent_in, members_extent}
-use Rattle.cord_run.specs.inner.Entries.{IsOver}
-use Rattle.cord_run.specs.inner.Holdings.{holding_of, plain_of}
-use Rattle.cord_run.specs.inner.Origins.{Origin, origins, origins_of}
-use Rattle.cord_run.specs.inner.Ranges.{joined_over}
+use Rattle.std.specs.Prelude.{◌≡◌, ◌+◌, ◌-◌, ◌^◌, ◌++◌}
+use Rattle.cord_run.proofs.Common.{ℕ, true, List, [], length, Result, Ok, Err, refl, sym, ap, ◌∙◌, append_assoc, length-append, arith, min}
+use Rattle.cord_run.proofs.Common.{Table, lengths_of, FaultKind, and_then, Expr, Exprs, append, member, nothing, all_texts, cords, cords_of}
+use Rattle.cord_run.proofs.Common.{text_in, passes, MAX_LEN, Entry, counted, extent_in, members_extent, IsOver, holding_of, plain_of}
+use Rattle.cord_run.proofs.Common.{Origin, origins, origins_of, joined_over}
 use Rattle.cord_run.proofs.Lengths.{text_length, texts_split}
 
 -- ---- names and origins

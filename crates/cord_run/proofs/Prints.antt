@@ -1,36 +1,20 @@
 -- Prints of what names hold.
-use Rattle.std.proofs.Common.{◌≡◌, ◌≢◌, ◌≤◌, ◌<◌, ℕ, List, [], ◌∷◌, length, map, Result, Ok, Err, refl, sym, ap, subst, ◌∙◌}
-use Rattle.std.specs.Prelude.{Option, Some, None}
-use Rattle.std.proofs.lemmas.List.{length-map}
-use Rattle.cord_io.specs.declared.TheConstants.{MAX_LEN}
-use Rattle.cord_io.specs.Table.{Table, Lengths}
-use Rattle.cord_node.specs.declared.Node.{Node}
-use Rattle.cord_node.specs.Tree.{known}
-use Rattle.cord_node.specs.Tables.{byte_at, lengths_of}
-use Rattle.cord_core.specs.Cord.{IsCord}
-use Rattle.cord_core.proofs.OverLemmas.{bytes-text}
+use Rattle.std.specs.Prelude.{◌≡◌, ◌≢◌, ◌≤◌, ◌<◌, ◌∷◌}
+use Rattle.cord_run.proofs.Common.{ℕ, List, [], length, map, Result, Ok, Err, refl, sym, ap, subst, ◌∙◌, Option, Some, None, length-map}
+use Rattle.cord_run.proofs.Common.{MAX_LEN, Table, Lengths, Node, known, byte_at, lengths_of, IsCord, bytes-text, Piece, Argument}
+use Rattle.cord_run.proofs.Common.{FaultKind, fault_of, format_text, piece_argument, unless_refused, and_then, length_above, length_of}
+use Rattle.cord_run.proofs.Common.{within, is_within, Entry, IsFaultOver, IsTextOver, IsReportedOver, argument_in, stop_of_print}
+use Rattle.cord_run.proofs.Common.{content_in, IsOver, plain_of}
 use Rattle.cord_printf.specs.declared.arguments.Arg.{Arg}
 use Rattle.cord_printf.specs.declared.arguments.Arg.TheVariants as args
 use Rattle.cord_printf.specs.declared.errors.PrintError.{PrintError}
 use Rattle.cord_printf.specs.declared.errors.PrintError.TheVariants as refusals
-use Rattle.cord_printf.specs.declared.pieces.Piece.{Piece}
 use Rattle.cord_printf.specs.Over.{ArgumentsFitIn, IsPrintOf, argument_over}
 use Rattle.cord_printf.specs.PieceText.{PieceArgument, number, text, first_refusal, printed}
 use Rattle.cord_printf.specs.inner.PieceText.{map_argument}
 use Rattle.cord_printf.specs.Printing.{IsPrintable, IsRefusedFor, arguments_of}
 use Rattle.cord_printf.proofs.Natural.{first_refusal-map, map-printed}
-use Rattle.cord_operands.specs.declared.operands.Argument.{Argument}
 use Rattle.cord_operands.specs.declared.operands.Argument.TheVariants as arguments
-use Rattle.cord_meaning.specs.declared.ends.FaultKind.{FaultKind}
-use Rattle.cord_meaning.specs.Formats.{fault_of, format_text, piece_argument, unless_refused}
-use Rattle.cord_meaning.specs.State.{and_then}
-use Rattle.cord_meaning.proofs.Checks.{length_above}
-use Rattle.cord_plan.specs.Values.{length_of, within}
-use Rattle.cord_plan.proofs.Values.{is_within}
-use Rattle.cord_run.specs.declared.store.Entry.{Entry}
-use Rattle.cord_run.specs.inner.Contents.{IsFaultOver, IsTextOver, IsReportedOver, argument_in, stop_of_print}
-use Rattle.cord_run.specs.inner.Entries.{content_in, IsOver}
-use Rattle.cord_run.specs.inner.Holdings.{plain_of}
 use Rattle.cord_run.proofs.Lengths.{content_text, cord_fits, operand_value}
 
 -- the arguments that names give, in order

@@ -1,33 +1,15 @@
 -- What is wanted of expressions, among the cords of their parts.
-use Rattle.std.proofs.Common.{◌≡◌, ◌+◌, ◌-◌, ◌<◌, ◌≤◌, ℕ, Bool, true, false, ℤ, List, [], ◌∷◌, ◌++◌, length, take, drop, replicate, Result}
-use Rattle.std.proofs.Common.{Ok, Err, refl, sym, ap, subst, ◌∙◌, append-nil, append_assoc, length-take, arith}
-use Rattle.std.specs.Prelude.{IfOk, min, nat_le, Option}
-use Rattle.std.proofs.lemmas.Result.{IfOk-at_ok}
-use Rattle.std.proofs.lemmas.Bool.{leb-true, leb-false}
-use Rattle.std.proofs.lemmas.List.{drop-drop, drop-replicate, drop-take, length-replicate, take_all, take_min, take-replicate}
-use Rattle.std.proofs.lemmas.List.{take-take}
-use Rattle.cord_io.specs.Table.{Table, Lengths}
-use Rattle.cord_io.specs.declared.TheConstants.{MAX_LEN}
-use Rattle.cord_node.specs.declared.Node.{Node}
-use Rattle.cord_node.specs.Tables.{lengths_of}
-use Rattle.cord_core.specs.Cord.{text_len, bytes_of, CordFits, CordFitsIn, all_bytes, all_len, AllFitIn}
-use Rattle.cord_core.specs.Equations.{IsSubstring, HasText}
-use Rattle.cord_operands.specs.declared.operands.Number.{Number}
-use Rattle.cord_meaning.specs.declared.ends.FaultKind.{FaultKind}
-use Rattle.cord_meaning.specs.State.{number_value, and_then, as_index, as_byte, as_length}
-use Rattle.cord_plan.specs.Exprs.{Expr, name, run, cat, sub, Exprs}
-use Rattle.cord_plan.specs.Meaning.{held_text}
-use Rattle.cord_plan.specs.Values.{within, copies, part_of, measured_copies, text_in}
-use Rattle.cord_plan.proofs.Values.{passes, fits_within, cat_joined}
-use Rattle.cord_run.specs.declared.expressions.ranges.Wanted.{Wanted}
-use Rattle.cord_run.specs.declared.store.Entry.{Entry}
-use Rattle.cord_run.specs.inner.Extents.{extent_in, members_extent}
-use Rattle.cord_run.specs.inner.Entries.{content_in, cord_in, operand_in}
-use Rattle.cord_run.specs.inner.Holdings.{holding_of, plain_of}
-use Rattle.cord_run.specs.inner.Origins.{AddsAtMostOne, AreCopies, IsCutOf, named, copied}
-use Rattle.cord_run.specs.inner.Ranges.{AddsCordRange, AddsCopies, AddsRun, AddsExpression, AddsMembers, AddsFew, IsAfter, IsInnerWanted}
-use Rattle.cord_run.specs.inner.Ranges.{IsOutside}
-use Rattle.cord_run.specs.inner.Ranges.{IsPast}
+use Rattle.std.specs.Prelude.{◌≡◌, ◌+◌, ◌-◌, ◌<◌, ◌≤◌, ◌∷◌, ◌++◌}
+use Rattle.cord_run.proofs.Common.{ℕ, Bool, true, false, ℤ, List, [], length, take, drop, replicate, Result, Ok, Err, refl, sym, ap, subst}
+use Rattle.cord_run.proofs.Common.{◌∙◌, append-nil, append_assoc, length-take, arith, IfOk, min, nat_le, Option, IfOk-at_ok, leb-true}
+use Rattle.cord_run.proofs.Common.{leb-false, drop-drop, drop-replicate, drop-take, length-replicate, take_all, take_min, take-replicate}
+use Rattle.cord_run.proofs.Common.{take-take, Table, Lengths, MAX_LEN, Node, lengths_of, text_len, bytes_of, CordFits, CordFitsIn}
+use Rattle.cord_run.proofs.Common.{all_bytes, all_len, AllFitIn, IsSubstring, HasText, Number, FaultKind, number_value, and_then, as_index}
+use Rattle.cord_run.proofs.Common.{as_byte, as_length, Expr, name, run, cat, sub, Exprs, held_text, within, copies, part_of}
+use Rattle.cord_run.proofs.Common.{measured_copies, text_in, passes, fits_within, cat_joined, Wanted, Entry, extent_in, members_extent}
+use Rattle.cord_run.proofs.Common.{content_in, cord_in, operand_in, holding_of, plain_of, AddsAtMostOne, AreCopies, IsCutOf, named, copied}
+use Rattle.cord_run.proofs.Common.{AddsCordRange, AddsCopies, AddsRun, AddsExpression, AddsMembers, AddsFew, IsAfter, IsInnerWanted}
+use Rattle.cord_run.proofs.Common.{IsOutside, IsPast}
 use Rattle.cord_run.proofs.MemberRanges.{nothing_taken}
 use Rattle.cord_run.proofs.Origins.{one_in_turn}
 use Rattle.cord_run.proofs.Lengths.{cord_fits, content_text, operand_value, length_passed}

@@ -1,19 +1,11 @@
 -- The operations of a plan read and put where the script's statements do.
-use Rattle.std.proofs.Common.{◌≡◌, ℕ, ◌+◌, List, [], ◌∷◌, Bool, true, false, ◌||◌, refl, sym, ◌∙◌, subst, inl, inr}
-use Rattle.cord_syntax.specs.declared.statements.Statement.{Statement}
-use Rattle.cord_syntax.specs.declared.statements.Statement.TheVariants.{Let, File, Eager, Lazy, Chars, Nul, FromFn, Cat, Catn, Catc, Substr}
-use Rattle.cord_syntax.specs.declared.statements.Statement.TheVariants.{Balance, EcToCord, Sprintf}
-use Rattle.cord_syntax.specs.declared.statements.Statement.TheVariants.{Put}
-use Rattle.cord_meaning.specs.Ends.{IsPut, IsReading}
-use Rattle.cord_meaning.specs.Statements.{line_of}
-use Rattle.cord_plan.specs.Exprs.{Expr}
+use Rattle.std.specs.Prelude.{◌≡◌, ◌+◌, ◌∷◌, ◌||◌}
+use Rattle.cord_run.proofs.Common.{ℕ, List, [], Bool, true, false, refl, sym, ◌∙◌, subst, inl, inr, Statement, Let, File, Eager, Lazy}
+use Rattle.cord_run.proofs.Common.{Chars, Nul, FromFn, Cat, Catn, Catc, Substr, Balance, EcToCord, Sprintf, Put, IsPut, IsReading, line_of}
+use Rattle.cord_run.proofs.Common.{Expr, operation_line, target_of, Made, Joined, Literal, OfFile, OfEager, OfLazy, OfFunction, Balanced}
+use Rattle.cord_run.proofs.Common.{OfExtensible, Printed, Operation, gives, is_dead, is_first, operation, operations, or_nothing, planned}
+use Rattle.cord_run.proofs.Common.{trivial, FailsNowhereElse, IsFileMade, IsReader, IsWriter, IsPlanBy, Way, ByPlan, AsWritten}
 use Rattle.cord_plan.specs.Inlined.{ChoiceTable, exprs, defining}
-use Rattle.cord_plan.specs.Meaning.{operation_line}
-use Rattle.cord_plan.specs.Operands.{target_of}
-use Rattle.cord_plan.specs.Planned.{Made, Joined, Literal, OfFile, OfEager, OfLazy, OfFunction, Balanced, OfExtensible, Printed, Operation}
-use Rattle.cord_plan.specs.Planned.{gives, is_dead, is_first, operation, operations, or_nothing, planned, trivial}
-use Rattle.cord_run.specs.Failing.{FailsNowhereElse, IsFileMade, IsReader, IsWriter}
-use Rattle.cord_run.specs.Runs.{IsPlanBy, Way, ByPlan, AsWritten}
 
 gives_line : (m : Bool) (line : ℕ) (target : List ℕ) (made : Made) → operation_line (gives m line target made) ≡ line
 gives_line true line target made = refl

@@ -1,17 +1,9 @@
 -- Texts side by side that are gathered.
-use Rattle.std.proofs.Common.{◌≡◌, ◌<◌, ◌≤◌, ◌+◌, ℕ, true, List, [], ◌++◌, drop, length, get_or, Result, Ok, refl, sym, ap, subst, ◌∙◌}
-use Rattle.std.proofs.Common.{append_assoc, append-nil}
-use Rattle.std.proofs.lemmas.List.{drop_all}
-use Rattle.cord_io.specs.declared.TheConstants.{MAX_LEN}
-use Rattle.cord_meaning.specs.declared.ends.FaultKind.{FaultKind}
-use Rattle.cord_meaning.specs.State.{and_then}
+use Rattle.std.specs.Prelude.{◌≡◌, ◌<◌, ◌≤◌, ◌+◌, ◌++◌}
+use Rattle.cord_run.proofs.Common.{ℕ, true, List, [], drop, length, get_or, Result, Ok, refl, sym, ap, subst, ◌∙◌, append_assoc, append-nil}
+use Rattle.cord_run.proofs.Common.{drop_all, MAX_LEN, FaultKind, and_then, all_texts, cords, cords_of, Shared, shared_view, Entry}
+use Rattle.cord_run.proofs.Common.{members_seen, holding_of, plain_of, AreTextsIn, IsTextIn, texts_in}
 use Rattle.cord_plan.specs.Exprs as plain
-use Rattle.cord_plan.specs.Meaning.{all_texts, cords, cords_of}
-use Rattle.cord_plan.specs.Views.{Shared, shared_view}
-use Rattle.cord_run.specs.declared.store.Entry.{Entry}
-use Rattle.cord_run.specs.inner.Extents.{members_seen}
-use Rattle.cord_run.specs.inner.Holdings.{holding_of, plain_of}
-use Rattle.cord_run.specs.inner.Slices.{AreTextsIn, IsTextIn, texts_in}
 use Rattle.cord_run.proofs.Prefixes.{joined, joined_both, names_both}
 use Rattle.cord_run.proofs.Members.{members_left}
 use Rattle.cord_run.proofs.Lengths.{texts_split}

@@ -1,16 +1,7 @@
 -- Texts that are slices of memory.
-use Rattle.std.proofs.Common.{◌≡◌, ℕ, List, Result, Ok, sym, ap, ◌∙◌}
-use Rattle.std.specs.Prelude.{IfNone, Option, Some, None}
-use Rattle.cord_io.specs.declared.TheConstants.{MAX_LEN}
-use Rattle.cord_operands.specs.declared.operands.Number.{Number}
-use Rattle.cord_meaning.specs.declared.ends.FaultKind.{FaultKind}
-use Rattle.cord_meaning.specs.State.{number_value, and_then}
-use Rattle.cord_plan.specs.Exprs.{name, sub}
-use Rattle.cord_plan.specs.Values.{part_of}
-use Rattle.cord_run.specs.declared.store.Entry.{Entry}
-use Rattle.cord_run.specs.inner.Entries.{content_in, cord_in, operand_in}
-use Rattle.cord_run.specs.inner.Holdings.{plain_of}
-use Rattle.cord_run.specs.inner.Slices.{IsSliceOf, IsTextIn}
+use Rattle.std.specs.Prelude.{◌≡◌}
+use Rattle.cord_run.proofs.Common.{ℕ, List, Result, Ok, sym, ap, ◌∙◌, IfNone, Option, Some, None, MAX_LEN, Number, FaultKind, number_value}
+use Rattle.cord_run.proofs.Common.{and_then, name, sub, part_of, Entry, content_in, cord_in, operand_in, plain_of, IsSliceOf, IsTextIn}
 use Rattle.cord_run.proofs.Lengths.{content_text, operand_value}
 
 -- what follows from what a call gives with None

@@ -1,6 +1,5 @@
 -- What is made of files.
-use Rattle.std.specs.Prelude.{ℕ, List}
-use Rattle.cord_plan.specs.Planned.{Made, OfFile, OfEager, OfLazy}
+use Rattle.cord_run.specs.inner.Common.{ℕ, List, Made, OfFile, OfEager, OfLazy}
 use Rattle.cord_run.specs.declared.targets.files.Reading.{Reading}
 use Rattle.cord_run.specs.declared.targets.files.Reading.TheVariants.{ByLength, Eager, Lazy}
 

@@ -1,8 +1,7 @@
 -- How the output of a run is ended.
 use Rattle.std.specs.Prelude.{◌≡◌, ◌+◌, ◌-◌, ◌^◌, ◌<◌, ◌⊎◌}
-use Rattle.cord_io.specs.Device.{raised}
+use Rattle.cord_run.specs.inner.Common.{raised, End}
 use Rattle.cord_io.specs.SinkCounts.{SinkCounts}
-use Rattle.cord_meaning.specs.declared.ends.End.{End}
 use Rattle.cord_meaning.specs.declared.ends.End.TheVariants as ends
 
 -- it finished

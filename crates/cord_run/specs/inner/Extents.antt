@@ -1,13 +1,10 @@
 -- Lengths of expressions by what is known of names, and of members together.
-use Rattle.std.specs.Prelude.{ℕ, ◌+◌, ◌-◌, ◌^◌, min, List, map, Option, Some, None, Result, Ok, Err, if◌then◌else◌}
-use Rattle.std.specs.Str.{bytes_eq}
-use Rattle.cord_io.specs.declared.TheConstants.{MAX_LEN}
-use Rattle.cord_meaning.specs.declared.ends.FaultKind.{FaultKind}
+use Rattle.std.specs.Prelude.{◌+◌, ◌-◌, ◌^◌, if◌then◌else◌}
+use Rattle.cord_run.specs.inner.Common.{ℕ, min, List, map, Option, Some, None, Result, Ok, Err, bytes_eq, MAX_LEN, FaultKind, measured}
+use Rattle.cord_run.specs.inner.Common.{measured_members, Entry}
 use Rattle.cord_plan.specs.Exprs as plain
-use Rattle.cord_plan.specs.Values.{measured, measured_members}
 use Rattle.cord_plan.specs.Views.{Shared, members_of, shared_view}
 use Rattle.cord_run.specs.declared.expressions.lengths.Named.{Named}
-use Rattle.cord_run.specs.declared.store.Entry.{Entry}
 use Rattle.cord_run.specs.inner.Entries.{length_in, operand_in}
 
 -- the length of an expression, or its fault

@@ -1,10 +1,9 @@
 -- What calls leave as it was.
 use Rattle.std.specs.Prelude.{◌≡◌}
-use Rattle.cord_io.specs.Device.{FileSystem}
+use Rattle.cord_run.specs.inner.Common.{FileSystem, FailureCounts}
 use Rattle.cord_io.specs.declared.reading.Files as files
 use Rattle.cord_io.specs.declared.sources.Source as sources
 use Rattle.cord_io.specs.declared.writing.Sink as sinks
-use Rattle.cord_iter.specs.Output.{FailureCounts}
 
 -- files are consistent after a call with no file system that they weren't consistent with before it
 abbrev pub NoMoreConsistent : {F : Type 0} → files.Ghosts F → F → F → Type 0

@@ -1,10 +1,8 @@
 -- Short texts beside one another, gathered as bytes.
-use Rattle.std.specs.Prelude.{◌≡◌, ℕ, ◌<◌, ◌≤◌, List, Option, length, map, take}
-use Rattle.cord_node.specs.declared.Node.{Node}
+use Rattle.std.specs.Prelude.{◌≡◌, ◌<◌, ◌≤◌}
+use Rattle.cord_run.specs.inner.Common.{ℕ, List, Option, length, map, take, Node, known, PartsFrom, all_len, all_parts, all_text, parts_of}
+use Rattle.cord_run.specs.inner.Common.{text, text_len, IsCord}
 use Rattle.cord_node.specs.declared.TheConstants.{SMALL_LEN}
-use Rattle.cord_node.specs.Tree.{known}
-use Rattle.cord_node.specs.PartsFrom.{PartsFrom}
-use Rattle.cord_core.specs.Cord.{all_len, all_parts, all_text, parts_of, text, text_len, IsCord}
 
 -- the first so many cords are parts, and these few bytes are their texts together
 pub record ArePreceding (cords : List (Option Node)) (count : ℕ) (bytes : List ℕ) : Type 0 where

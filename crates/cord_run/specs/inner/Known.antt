@@ -1,10 +1,7 @@
 -- Lengths that are known without being computed.
-use Rattle.std.specs.Prelude.{◌≡◌, ℕ, List, ⊤, true, Some, Ok, slice_get}
-use Rattle.cord_io.specs.declared.TheConstants.{MAX_LEN}
-use Rattle.cord_meaning.specs.State.{as_length}
-use Rattle.cord_plan.specs.Exprs.{Exprs, append, cat, lacks, member, name, names_of, nothing}
-use Rattle.cord_plan.specs.Planned.{Made, Joined, Operation, Measure}
-use Rattle.cord_run.specs.declared.store.Entry.{Entry}
+use Rattle.std.specs.Prelude.{◌≡◌}
+use Rattle.cord_run.specs.inner.Common.{ℕ, List, ⊤, true, Some, Ok, slice_get, MAX_LEN, as_length, Exprs, append, cat, lacks, member, name}
+use Rattle.cord_run.specs.inner.Common.{names_of, nothing, Made, Joined, Operation, Measure, Entry}
 use Rattle.cord_run.specs.inner.Entries.{length_in}
 use Rattle.cord_run.specs.inner.Extents.{extent_in}
 

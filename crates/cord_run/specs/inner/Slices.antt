@@ -1,15 +1,7 @@
 -- Texts that are slices of memory.
-use Rattle.std.specs.Prelude.{◌≡◌, ℕ, true, List, Option, Result, Ok}
-use Rattle.cord_io.specs.Table.{Table}
-use Rattle.cord_io.specs.declared.TheConstants.{MAX_LEN}
-use Rattle.cord_node.specs.declared.Node.{Node}
-use Rattle.cord_core.specs.Cord.{bytes_of}
-use Rattle.cord_meaning.specs.declared.ends.FaultKind.{FaultKind}
-use Rattle.cord_meaning.specs.State.{State, number_value}
-use Rattle.cord_plan.specs.Exprs.{Expr, Exprs}
-use Rattle.cord_plan.specs.Meaning.{all_texts, cords, cords_of}
-use Rattle.cord_plan.specs.Values.{text_in, values}
-use Rattle.cord_run.specs.declared.store.Entry.{Entry}
+use Rattle.std.specs.Prelude.{◌≡◌}
+use Rattle.cord_run.specs.inner.Common.{ℕ, true, List, Option, Result, Ok, Table, MAX_LEN, Node, bytes_of, FaultKind, State, number_value}
+use Rattle.cord_run.specs.inner.Common.{Expr, Exprs, all_texts, cords, cords_of, text_in, values, Entry}
 use Rattle.cord_run.specs.inner.Holdings.{holding_of, plain_of}
 
 -- a cord has these bytes, whatever the sources hold

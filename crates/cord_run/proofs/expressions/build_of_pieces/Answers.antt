@@ -1,10 +1,4 @@
-use Rattle.std.proofs.Common.{List, subst}
-use Rattle.std.specs.Prelude.{Option}
-use Rattle.cord_node.specs.declared.Node.{Node}
-use Rattle.cord_node.specs.PartsFrom.{PartsFrom}
-use Rattle.cord_core.specs.Cord.{all_parts, parts_of}
-use Rattle.cord_core.specs.Equations.{IsAllOf}
-use Rattle.cord_plan.specs.Views.{expr_view}
+use Rattle.cord_run.proofs.Common.{List, subst, Option, Node, PartsFrom, all_parts, parts_of, IsAllOf, expr_view}
 use Rattle.cord_run.proofs.ExpressionCords.{whole_built}
 use Rattle.cord_run.proofs.expressions.build_of_pieces.Goals as goal
 

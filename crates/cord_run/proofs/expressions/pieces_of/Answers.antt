@@ -1,4 +1,4 @@
-use Rattle.cord_plan.specs.Views.{expr_view}
+use Rattle.cord_run.proofs.Common.{expr_view}
 use Rattle.cord_run.proofs.ExpressionCords.{whole_faulty}
 use Rattle.cord_run.proofs.expressions.pieces_of.Goals as goal
 

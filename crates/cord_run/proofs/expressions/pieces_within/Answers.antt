@@ -1,8 +1,4 @@
-use Rattle.std.proofs.Common.{◌∙◌, ap, sym, subst, List, Ok, ℕ}
-use Rattle.std.specs.Prelude.{Option}
-use Rattle.cord_node.specs.declared.Node.{Node}
-use Rattle.cord_plan.specs.Views.{expr_view}
-use Rattle.cord_run.specs.inner.Origins.{InTurn, origins}
+use Rattle.cord_run.proofs.Common.{◌∙◌, ap, sym, subst, List, Ok, ℕ, Option, Node, expr_view, InTurn, origins}
 use Rattle.cord_run.proofs.Origins.{none_in_turn}
 use Rattle.cord_run.proofs.ExpressionCords.{whole_in_turn, whole_nothing, whole_range}
 use Rattle.cord_run.proofs.expressions.pieces_within.Goals as goal

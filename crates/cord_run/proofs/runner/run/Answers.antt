@@ -1,10 +1,6 @@
-use Rattle.std.proofs.Common.{◌≡◌, List, map, subst, sym}
-use Rattle.cord_file.specs.Sources.{device_in}
-use Rattle.cord_meaning.specs.Ends.{Counts, NamesDevice}
-use Rattle.cord_plan.specs.Planned.{Operation}
-use Rattle.cord_plan.specs.Views.{operation_view}
-use Rattle.cord_run.specs.Failing.{NamesFinish}
-use Rattle.cord_run.specs.Runs.{counts_over}
+use Rattle.std.specs.Prelude.{◌≡◌}
+use Rattle.cord_run.proofs.Common.{List, map, subst, sym, device_in, Counts, NamesDevice, Operation, operation_view, NamesFinish}
+use Rattle.cord_run.proofs.Common.{counts_over}
 use Rattle.cord_run.proofs.Ends.{fails_where}
 use Rattle.cord_run.proofs.Meaning.{ends_faithfully}
 use Rattle.cord_run.proofs.runner.run.Goals as goal

@@ -1,9 +1,4 @@
-use Rattle.std.proofs.Common.{map, rules, subst}
-use Rattle.std.specs.Prelude.{IfOk}
-use Rattle.cord_plan.specs.Meaning.{IsPlanOf}
-use Rattle.cord_plan.specs.Views.{operation_view}
-use Rattle.cord_run.specs.Runs.{IsPlanBy}
-use Rattle.cord_script.specs.Script.{whole}
+use Rattle.cord_run.proofs.Common.{map, rules, subst, IfOk, IsPlanOf, operation_view, IsPlanBy, whole}
 use Rattle.cord_run.proofs.Meaning.{names_cause}
 use Rattle.cord_run.proofs.Readers.{plan_alike}
 use Rattle.cord_run.proofs.runner.run_by.Goals as goal

@@ -1,16 +1,5 @@
-use Rattle.std.proofs.Common.{ℕ, List, ap, map, subst, sym}
-use Rattle.cord_file.specs.Sources.{device_in}
-use Rattle.cord_io.specs.Device.{Finishes}
-use Rattle.cord_io.specs.SinkCounts.{SinkCounts, sink_counts}
-use Rattle.cord_io.specs.declared.TheConstants.{MAX_LEN}
-use Rattle.cord_meaning.specs.declared.TheConstants.{MAX_TURNS}
-use Rattle.cord_meaning.specs.declared.ends.End.{End}
-use Rattle.cord_meaning.specs.Ends.{FaithfulOutput}
-use Rattle.cord_plan.specs.Meaning.{plan_end, plan_trace}
-use Rattle.cord_plan.specs.Planned.{Operation}
-use Rattle.cord_plan.specs.Views.{operation_view}
-use Rattle.cord_run.specs.inner.Ends.{Closes}
-use Rattle.cord_run.specs.inner.Steps.{end_of_run}
+use Rattle.cord_run.proofs.Common.{ℕ, List, ap, map, subst, sym, device_in, Finishes, SinkCounts, sink_counts, MAX_LEN, MAX_TURNS, End}
+use Rattle.cord_run.proofs.Common.{FaithfulOutput, plan_end, plan_trace, Operation, operation_view, Closes, end_of_run}
 use Rattle.cord_run.proofs.Ends.{closed_fails, closed_faithful, closed_named, no_put_failed, put_failed, run_fails}
 use Rattle.cord_run.proofs.runner.run_over.Goals as goal
 

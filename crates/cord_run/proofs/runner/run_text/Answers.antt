@@ -1,4 +1,4 @@
-use Rattle.std.proofs.Common.{rules}
+use Rattle.cord_run.proofs.Common.{rules}
 use Rattle.cord_run.proofs.runner.run_text.Goals as goal
 
 -- a must-fail edit breaks it

@@ -1,4 +1,4 @@
-use Rattle.cord_run.specs.Runs.{ByPlan}
+use Rattle.cord_run.proofs.Common.{ByPlan}
 use Rattle.cord_run.proofs.runner.run_text.Given as goal
 
 abbrev pub ghost-run_by : goal.ghost-run_by

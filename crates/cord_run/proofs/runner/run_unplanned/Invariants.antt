@@ -1,4 +1,4 @@
-use Rattle.cord_run.specs.Runs.{AsWritten}
+use Rattle.cord_run.proofs.Common.{AsWritten}
 use Rattle.cord_run.proofs.runner.run_unplanned.Given as goal
 
 abbrev pub ghost-run_by : goal.ghost-run_by

@@ -1,11 +1,4 @@
-use Rattle.std.proofs.Common.{rules}
-use Rattle.std.proofs.lemmas.Result.{on_ok_weaker}
-use Rattle.cord_io.specs.Device.{FileSystem}
-use Rattle.cord_file.specs.Files.{as_long_as_reported}
-use Rattle.cord_file.specs.Opening.{Grows}
-use Rattle.cord_file.specs.Sources.{device_in, opened_in}
-use Rattle.cord_plan.specs.Views.{made_view}
-use Rattle.cord_run.specs.declared.store.Content.TheVariants.{Whole}
+use Rattle.cord_run.proofs.Common.{rules, on_ok_weaker, FileSystem, as_long_as_reported, Grows, device_in, opened_in, made_view, Whole}
 use Rattle.cord_run.proofs.Edits.{edited_gives, edited_over}
 use Rattle.cord_run.proofs.TargetNames.{built_target, target_over}
 use Rattle.cord_run.proofs.targets.give_cord.Goals as goal

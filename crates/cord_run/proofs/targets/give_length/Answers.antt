@@ -1,8 +1,4 @@
-use Rattle.std.proofs.lemmas.Result.{on_ok_weaker}
-use Rattle.cord_file.specs.Files.{as_long_as_reported}
-use Rattle.cord_file.specs.Sources.{device_in, opened_in}
-use Rattle.cord_plan.specs.Views.{made_view}
-use Rattle.cord_run.specs.declared.store.Content.TheVariants.{Long}
+use Rattle.cord_run.proofs.Common.{on_ok_weaker, as_long_as_reported, device_in, opened_in, made_view, Long}
 use Rattle.cord_run.proofs.Known.{measured_stays}
 use Rattle.cord_run.proofs.TargetNames.{measured_target, nothing_changed, target_over}
 use Rattle.cord_run.proofs.targets.give_length.Goals as goal

@@ -1,14 +1,6 @@
-use Rattle.std.proofs.Common.{◌≡◌, rules, subst}
-use Rattle.std.specs.Prelude.{IfOk, IfErr}
-use Rattle.cord_io.specs.Device.{FileSystem}
-use Rattle.cord_file.specs.Files.{as_long_as_reported}
-use Rattle.cord_file.specs.Sources.{device_in, opened_in}
-use Rattle.cord_plan.specs.Planned.{Made}
-use Rattle.cord_plan.specs.Views.{made_view}
-use Rattle.cord_run.specs.Failing.{IsFileMade}
-use Rattle.cord_run.specs.inner.Failing.{FailsBy}
-use Rattle.cord_run.specs.inner.Contents.{IsMade, IsUnmade}
-use Rattle.cord_run.specs.inner.Definitions.{file_made}
+use Rattle.std.specs.Prelude.{◌≡◌}
+use Rattle.cord_run.proofs.Common.{rules, subst, IfOk, IfErr, FileSystem, as_long_as_reported, device_in, opened_in, Made, made_view}
+use Rattle.cord_run.proofs.Common.{IsFileMade, FailsBy, IsMade, IsUnmade, file_made}
 use Rattle.cord_run.proofs.Failures.{fails_reading, never_fails}
 use Rattle.cord_run.proofs.Files.{file_built, file_unbuilt, of_file}
 use Rattle.cord_run.proofs.TargetNames.{names_made, names_unmade, no_device}

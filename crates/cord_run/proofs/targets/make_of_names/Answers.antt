@@ -1,6 +1,5 @@
-use Rattle.std.proofs.Common.{List, ℕ, ap, sym, ◌∙◌, rules}
+use Rattle.cord_run.proofs.Common.{List, ℕ, ap, sym, ◌∙◌, rules, expr_view, made_view}
 use Rattle.cord_plan.specs.Planned as plan
-use Rattle.cord_plan.specs.Views.{expr_view, made_view}
 use Rattle.cord_run.proofs.Definitions.{balanced_made, extensible_made, joined_made, joined_unmade, literal_made, printed_as, printed_made}
 use Rattle.cord_run.proofs.Definitions.{printed_unmade, start_made}
 use Rattle.cord_run.proofs.Numbers.{handed}

@@ -1,15 +1,6 @@
-use Rattle.std.proofs.Common.{◌≡◌, rules, sym, subst}
-use Rattle.std.specs.Prelude.{IfOk, IfErr}
-use Rattle.std.proofs.lemmas.Result.{IfOk-weaker}
-use Rattle.cord_io.specs.Device.{FileSystem}
-use Rattle.cord_file.specs.Files.{as_long_as_reported}
-use Rattle.cord_file.specs.Sources.{device_in, opened_in}
-use Rattle.cord_plan.specs.Planned.{Made}
-use Rattle.cord_plan.specs.Views.{made_view}
-use Rattle.cord_run.specs.Failing.{IsFileMade}
-use Rattle.cord_run.specs.inner.Failing.{FailsBy}
-use Rattle.cord_run.specs.inner.Contents.{IsLength, IsUnmeasured, TakesNoMemory}
-use Rattle.cord_run.specs.inner.Definitions.{file_made}
+use Rattle.std.specs.Prelude.{◌≡◌}
+use Rattle.cord_run.proofs.Common.{rules, sym, subst, IfOk, IfErr, IfOk-weaker, FileSystem, as_long_as_reported, device_in, opened_in, Made}
+use Rattle.cord_run.proofs.Common.{made_view, IsFileMade, FailsBy, IsLength, IsUnmeasured, TakesNoMemory, file_made}
 use Rattle.cord_run.proofs.Failures.{fails_reading, never_fails}
 use Rattle.cord_run.proofs.Files.{file_measured, file_unmeasured, of_file, takes_memory}
 use Rattle.cord_run.proofs.Known.{file_extent}

@@ -1,5 +1,4 @@
-use Rattle.std.proofs.Common.{ap, ◌∙◌, rules}
-use Rattle.cord_plan.specs.Views.{expr_view, made_view}
+use Rattle.cord_run.proofs.Common.{ap, ◌∙◌, rules, expr_view, made_view}
 use Rattle.cord_run.proofs.Definitions.{balanced_reported, joined_reported, joined_unreported, printed_as, printed_reported}
 use Rattle.cord_run.proofs.Definitions.{printed_unreported, start_measured}
 use Rattle.cord_run.proofs.Numbers.{handed}

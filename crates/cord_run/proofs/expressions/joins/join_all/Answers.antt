@@ -1,8 +1,5 @@
-use Rattle.std.proofs.Common.{List, arith, subst, append-nil}
-use Rattle.cord_node.specs.PartsFrom.{Part, PartsFrom}
-use Rattle.cord_core.specs.Cord.{all_parts, parts_of}
-use Rattle.cord_core.proofs.Catting.{catting_end, catting_start}
-use Rattle.cord_core.proofs.OverLemmas.{all_over}
+use Rattle.cord_run.proofs.Common.{List, arith, subst, append-nil, Part, PartsFrom, all_parts, parts_of, catting_end, catting_start}
+use Rattle.cord_run.proofs.Common.{all_over}
 use Rattle.cord_run.proofs.Joins.{prefix_joined, prefix_within, joined_whole}
 use Rattle.cord_run.proofs.expressions.joins.join_all.Goals as goal
 

@@ -1,5 +1,4 @@
-use Rattle.std.proofs.Common.{rules, arith, subst}
-use Rattle.cord_core.specs.Forms.{IsLeafOf}
+use Rattle.cord_run.proofs.Common.{rules, arith, subst, IsLeafOf}
 use Rattle.cord_run.proofs.Joins.{leaf_before, one_preceding}
 use Rattle.cord_run.proofs.expressions.joins.prefix_of.Goals as goal
 

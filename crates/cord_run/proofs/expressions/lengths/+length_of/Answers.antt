@@ -1,18 +1,12 @@
-use Rattle.std.proofs.Common.{◌≡◌, ◌<◌, ◌+◌, ℕ, Result, Ok, drop, sym, ap, subst, ◌∙◌, rules}
-use Rattle.std.specs.Prelude.{IfSome, Option}
+use Rattle.std.specs.Prelude.{◌≡◌, ◌<◌, ◌+◌}
+use Rattle.cord_run.proofs.Common.{ℕ, Result, Ok, drop, sym, ap, subst, ◌∙◌, rules, IfSome, Option, expr_view, members_view, shared_view}
+use Rattle.cord_run.proofs.Common.{view-Cat, view-Name, FaultKind, and_then, prefix_falls, halves_Some, rest_falls, length_in, counted}
+use Rattle.cord_run.proofs.Common.{extent_in, members_extent, members_seen, handed_on}
 use Rattle.cord_plan.specs.Exprs as plain
 use Rattle.cord_plan.specs.declared.expressions.Expr.{Expr}
-use Rattle.cord_plan.specs.Views.{expr_view, members_view, shared_view}
-use Rattle.cord_plan.proofs.ExprViews.{view-Cat, view-Name}
-use Rattle.cord_meaning.specs.declared.ends.FaultKind.{FaultKind}
-use Rattle.cord_meaning.specs.State.{and_then}
-use Rattle.cord_plan.proofs.Halves.{prefix_falls, halves_Some, rest_falls}
 use Rattle.cord_run.specs.declared.expressions.lengths.Named.{Named}
-use Rattle.cord_run.specs.inner.Entries.{length_in}
-use Rattle.cord_run.specs.inner.Extents.{counted, extent_in, members_extent, members_seen}
 use Rattle.cord_run.proofs.Prefixes.{all_counted}
 use Rattle.cord_run.proofs.Members.{weight, weights, member_counted, member_smaller, member_faulty, resolve_all, counted_length}
-use Rattle.cord_run.proofs.Refusals.{handed_on}
 use Rattle.cord_run.proofs.expressions.lengths.+length_of.Goals as goal
 use Rattle.cord_run.proofs.expressions.lengths.+length_of.Goals.{length_after-in-Name, length_after-in_default+in_ok-len-in_default}
 

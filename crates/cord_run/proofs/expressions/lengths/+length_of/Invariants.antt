@@ -1,8 +1,5 @@
-use Rattle.std.proofs.Common.{◌≡◌, ◌+◌, ◌<◌, ◌^◌, drop}
-use Rattle.std.specs.Prelude.{IfSome}
-use Rattle.cord_plan.specs.Views.{expr_view, members_view}
-use Rattle.cord_run.specs.inner.Entries.{length_in}
-use Rattle.cord_run.specs.inner.Extents.{counted, members_extent, members_seen}
+use Rattle.std.specs.Prelude.{◌≡◌, ◌+◌, ◌<◌, ◌^◌}
+use Rattle.cord_run.proofs.Common.{drop, IfSome, expr_view, members_view, length_in, counted, members_extent, members_seen}
 use Rattle.cord_run.proofs.Members.{weight, weights}
 use Rattle.cord_run.proofs.expressions.lengths.+length_of.Given as goal
 

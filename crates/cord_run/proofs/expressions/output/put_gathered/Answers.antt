@@ -1,6 +1,4 @@
-use Rattle.std.proofs.Common.{rules}
-use Rattle.cord_plan.specs.Views.{expr_view}
-use Rattle.cord_run.specs.inner.Slices.{IsTextIn}
+use Rattle.cord_run.proofs.Common.{rules, expr_view, IsTextIn}
 use Rattle.cord_run.proofs.expressions.output.put_gathered.Goals as goal
 
 pub returns-clause-put : goal.returns-clause-put

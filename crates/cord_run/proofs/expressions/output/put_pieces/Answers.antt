@@ -1,14 +1,7 @@
-use Rattle.std.proofs.Common.{◌≡◌, ◌++◌, ℕ, Result, sym, subst, ◌∙◌, refl}
-use Rattle.std.specs.Prelude.{Option}
-use Rattle.cord_io.specs.Device.{FileSystem}
-use Rattle.cord_io.specs.Table.{Table, Lengths}
-use Rattle.cord_io.specs.declared.faults.CordError.{CordError}
-use Rattle.cord_node.specs.declared.Node.{Node}
-use Rattle.cord_core.specs.Cord.{all_bytes, bytes_of, CordFitsIn}
-use Rattle.cord_iter.specs.Output.{FailureCounts, CountsFaults, IsPrefixOf, Takes}
+use Rattle.std.specs.Prelude.{◌≡◌, ◌++◌}
+use Rattle.cord_run.proofs.Common.{ℕ, Result, sym, subst, ◌∙◌, refl, Option, FileSystem, Table, Lengths, CordError, Node, all_bytes}
+use Rattle.cord_run.proofs.Common.{bytes_of, CordFitsIn, FailureCounts, CountsFaults, IsPrefixOf, Takes, Puts, handed_on}
 use Rattle.cord_run.proofs.Output.{fits_at, puts_none, puts_next, puts_cut, puts_all}
-use Rattle.cord_run.proofs.Refusals.{handed_on}
-use Rattle.cord_run.specs.inner.Output.{Puts}
 use Rattle.cord_run.proofs.expressions.output.put_pieces.Goals as goal
 
 pub put-requires : goal.put-requires

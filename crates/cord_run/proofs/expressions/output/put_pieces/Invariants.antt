@@ -1,6 +1,5 @@
-use Rattle.std.proofs.Common.{◌≡◌, ◌++◌, take}
-use Rattle.cord_io.specs.Device.{FileSystem}
-use Rattle.cord_core.specs.Cord.{all_bytes}
+use Rattle.std.specs.Prelude.{◌≡◌, ◌++◌}
+use Rattle.cord_run.proofs.Common.{take, FileSystem, all_bytes}
 use Rattle.cord_run.proofs.expressions.output.put_pieces.Given as goal
 
 abbrev pub invariant-loop-piece : goal.invariant-loop-piece

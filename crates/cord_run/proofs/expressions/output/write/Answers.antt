@@ -1,17 +1,8 @@
-use Rattle.std.proofs.Common.{◌≡◌, ◌++◌, ℕ, List, Err, Result, sym, ap, subst, refl, ◌∙◌}
-use Rattle.std.specs.Prelude.{Option}
-use Rattle.cord_io.specs.declared.TheConstants.{MAX_LEN}
-use Rattle.cord_node.specs.declared.Node.{Node}
-use Rattle.cord_core.specs.Cord.{all_bytes}
-use Rattle.cord_iter.specs.Output.{FailureCounts, CountsFaults, IsPrefixOf, Takes}
-use Rattle.cord_plan.specs.Values.{text_in}
-use Rattle.cord_plan.specs.Views.{expr_view}
-use Rattle.cord_run.specs.declared.stops.Stop.{Stop}
-use Rattle.cord_run.specs.inner.Holdings.{plain_of}
-use Rattle.cord_run.specs.inner.Output.{Wrote, CountsStops}
+use Rattle.std.specs.Prelude.{◌≡◌, ◌++◌}
+use Rattle.cord_run.proofs.Common.{ℕ, List, Err, Result, sym, ap, subst, refl, ◌∙◌, Option, MAX_LEN, Node, all_bytes, FailureCounts}
+use Rattle.cord_run.proofs.Common.{CountsFaults, IsPrefixOf, Takes, text_in, expr_view, Stop, plain_of, Wrote, CountsStops, handed_on}
 use Rattle.cord_run.proofs.Output.{short_counts, short_finished, short_wrote, stop_counts, unbuilt_counts, wrote_nothing, wrote_part}
 use Rattle.cord_run.proofs.Output.{wrote_whole}
-use Rattle.cord_run.proofs.Refusals.{handed_on}
 use Rattle.cord_run.proofs.expressions.output.write.Goals as goal
 
 pub returns-in-Some : goal.returns-in-Some

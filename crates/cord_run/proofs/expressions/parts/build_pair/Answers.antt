@@ -1,8 +1,5 @@
-use Rattle.cord_plan.specs.Views.{expr_view}
-use Rattle.cord_run.specs.inner.Contents.{stop_of_cord}
-use Rattle.cord_run.specs.inner.Expressions.{IsUnbuilt}
+use Rattle.cord_run.proofs.Common.{expr_view, stop_of_cord, IsUnbuilt, passed_on}
 use Rattle.cord_run.proofs.Parts.{both, first_unbuilt, pair_built, pair_refused, second_unbuilt}
-use Rattle.cord_run.proofs.Refusals.{passed_on}
 use Rattle.cord_run.proofs.expressions.parts.build_pair.Goals as goal
 
 pub returns-in_err-prefix-clause-refused : goal.returns-in_err-prefix-clause-refused

@@ -1,6 +1,5 @@
-use Rattle.std.proofs.Common.{◌≡◌, Ok, sym, ◌∙◌, rules}
-use Rattle.cord_meaning.specs.State.{as_index}
-use Rattle.cord_run.specs.inner.Entries.{operand_in}
+use Rattle.std.specs.Prelude.{◌≡◌}
+use Rattle.cord_run.proofs.Common.{Ok, sym, ◌∙◌, rules, as_index, operand_in}
 use Rattle.cord_run.proofs.Numbers.{handed}
 use Rattle.cord_run.proofs.Parts.{range_built}
 use Rattle.cord_run.proofs.expressions.parts.build_range.Goals as goal

@@ -1,14 +1,9 @@
-use Rattle.std.proofs.Common.{◌≡◌, ◌<◌, ◌+◌, drop, sym, ap, subst, ◌∙◌, rules, arith}
-use Rattle.std.specs.Prelude.{IfOk}
-use Rattle.std.proofs.lemmas.List.{drop_all}
-use Rattle.std.proofs.lemmas.Result.{IfOk-weaker, on_ok_weaker}
+use Rattle.std.specs.Prelude.{◌≡◌, ◌<◌, ◌+◌}
+use Rattle.cord_run.proofs.Common.{drop, sym, ap, subst, ◌∙◌, rules, arith, IfOk, drop_all, IfOk-weaker, on_ok_weaker, expr_view}
+use Rattle.cord_run.proofs.Common.{members_view, shared_view, view-Name, view-Run, view-Cat, view-Sub, extent_in, members_extent}
+use Rattle.cord_run.proofs.Common.{members_seen, prefix_falls, halves_Some, rest_falls, AddsExpression, AddsMembers, IsAfter}
 use Rattle.cord_plan.specs.Exprs as plain
 use Rattle.cord_plan.specs.declared.expressions.Expr.{Expr}
-use Rattle.cord_plan.specs.Views.{expr_view, members_view, shared_view}
-use Rattle.cord_plan.proofs.ExprViews.{view-Name, view-Run, view-Cat, view-Sub}
-use Rattle.cord_run.specs.inner.Extents.{extent_in, members_extent, members_seen}
-use Rattle.cord_plan.proofs.Halves.{prefix_falls, halves_Some, rest_falls}
-use Rattle.cord_run.specs.inner.Ranges.{AddsExpression, AddsMembers, IsAfter}
 use Rattle.cord_run.proofs.Members.{weight, weights, member_smaller, members_left}
 use Rattle.cord_run.proofs.Ranges.{name_added, run_added, cat_added, cat_past, still_ok_both, sub_added, sub_past}
 use Rattle.cord_run.proofs.MemberRanges.{SoFar, WantedSoFar, starts, goes_on, ends_early, ends_last, wanted_goes_on, wanted_ends_early}

@@ -1,7 +1,5 @@
-use Rattle.std.proofs.Common.{◌+◌, drop}
-use Rattle.cord_plan.specs.Views.{expr_view, members_view}
-use Rattle.cord_run.specs.inner.Extents.{members_seen}
-use Rattle.cord_run.specs.inner.Ranges.{AddsFew}
+use Rattle.std.specs.Prelude.{◌+◌}
+use Rattle.cord_run.proofs.Common.{drop, expr_view, members_view, members_seen, AddsFew}
 use Rattle.cord_run.proofs.Members.{weight, weights}
 use Rattle.cord_run.proofs.MemberRanges.{SoFar, WantedSoFar}
 use Rattle.cord_run.proofs.expressions.ranges.+add_range.Given as goal

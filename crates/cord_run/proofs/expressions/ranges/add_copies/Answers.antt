@@ -1,4 +1,5 @@
-use Rattle.std.proofs.Common.{◌≡◌, ◌++◌, ◌∷◌, [], inr, rules}
+use Rattle.std.specs.Prelude.{◌≡◌, ◌++◌, ◌∷◌}
+use Rattle.cord_run.proofs.Common.{[], inr, rules}
 use Rattle.cord_run.proofs.Ranges.{copies_added}
 use Rattle.cord_run.proofs.expressions.ranges.add_copies.Goals as goal
 

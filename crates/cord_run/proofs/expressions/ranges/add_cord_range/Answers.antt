@@ -1,5 +1,5 @@
-use Rattle.std.proofs.Common.{◌≡◌, ◌-◌, ◌++◌, ◌∷◌, [], ℕ, ap, sym, ◌∙◌, rules}
-use Rattle.std.specs.Prelude.{min}
+use Rattle.std.specs.Prelude.{◌≡◌, ◌-◌, ◌++◌, ◌∷◌}
+use Rattle.cord_run.proofs.Common.{[], ℕ, ap, sym, ◌∙◌, rules, min}
 use Rattle.cord_run.proofs.Ranges.{few_more, part_added, part_passed}
 use Rattle.cord_run.proofs.expressions.ranges.add_cord_range.Goals as goal
 

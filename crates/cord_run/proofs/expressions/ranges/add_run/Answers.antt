@@ -1,8 +1,5 @@
-use Rattle.std.proofs.Common.{◌≡◌, Ok, sym, ◌∙◌, rules}
-use Rattle.cord_io.specs.declared.TheConstants.{MAX_LEN}
-use Rattle.cord_meaning.specs.State.{as_byte}
-use Rattle.cord_plan.specs.Values.{measured_copies}
-use Rattle.cord_run.specs.inner.Entries.{operand_in}
+use Rattle.std.specs.Prelude.{◌≡◌}
+use Rattle.cord_run.proofs.Common.{Ok, sym, ◌∙◌, rules, MAX_LEN, as_byte, measured_copies, operand_in}
 use Rattle.cord_run.proofs.Numbers.{handed}
 use Rattle.cord_run.proofs.Ranges.{run_picked}
 use Rattle.cord_run.proofs.expressions.ranges.add_run.Goals as goal

@@ -1,6 +1,5 @@
-use Rattle.std.proofs.Common.{◌≤◌, ℕ, List, subst, rules}
-use Rattle.std.proofs.lemmas.List.{take-replicate}
-use Rattle.cord_core.specs.Equations.{HasText}
+use Rattle.std.specs.Prelude.{◌≤◌}
+use Rattle.cord_run.proofs.Common.{ℕ, List, subst, rules, take-replicate, HasText}
 use Rattle.cord_run.proofs.expressions.ranges.copies_of.Goals as goal
 
 pub returns-in-Ok-clause-over : goal.returns-in-Ok-clause-over

@@ -1,6 +1,5 @@
-use Rattle.std.proofs.Common.{◌<◌, rules}
-use Rattle.cord_plan.specs.Views.{members_view}
-use Rattle.cord_plan.proofs.Halves.{prefix_lighter}
+use Rattle.std.specs.Prelude.{◌<◌}
+use Rattle.cord_run.proofs.Common.{rules, members_view, prefix_lighter}
 use Rattle.cord_run.proofs.Members.{weights}
 use Rattle.cord_run.proofs.expressions.short_texts.+gather_members.Goals as goal
 

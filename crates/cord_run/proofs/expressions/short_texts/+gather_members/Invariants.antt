@@ -1,4 +1,4 @@
-use Rattle.cord_plan.specs.Views.{members_view}
+use Rattle.cord_run.proofs.Common.{members_view}
 use Rattle.cord_run.proofs.Members.{weights}
 use Rattle.cord_run.proofs.expressions.short_texts.+gather_members.Given as goal
 

@@ -1,12 +1,7 @@
-use Rattle.std.proofs.Common.{◌≡◌, Ok, ℤ, IfSome, of_z, to_z, w64, sym, ap, subst, ◌∙◌, rules}
-use Rattle.std.proofs.lemmas.Option.{IfSome_then}
-use Rattle.cord_io.specs.declared.TheConstants.{MAX_LEN}
+use Rattle.std.specs.Prelude.{◌≡◌}
+use Rattle.cord_run.proofs.Common.{Ok, ℤ, IfSome, of_z, to_z, w64, sym, ap, subst, ◌∙◌, rules, IfSome_then, MAX_LEN, part_of, expr_view}
+use Rattle.cord_run.proofs.Common.{view-Name, view-Sub, operand_in, IsTextIn}
 use Rattle.cord_plan.specs.Exprs as plain
-use Rattle.cord_plan.specs.Values.{part_of}
-use Rattle.cord_plan.specs.Views.{expr_view}
-use Rattle.cord_plan.proofs.ExprViews.{view-Name, view-Sub}
-use Rattle.cord_run.specs.inner.Entries.{operand_in}
-use Rattle.cord_run.specs.inner.Slices.{IsTextIn}
 use Rattle.cord_run.proofs.Numbers.{handed}
 use Rattle.cord_run.proofs.Slices.{name_is, sub_is}
 use Rattle.cord_run.proofs.expressions.slices.slice_of.Goals as goal

@@ -1,4 +1,4 @@
-use Rattle.std.proofs.Common.{rules}
+use Rattle.cord_run.proofs.Common.{rules}
 use Rattle.cord_run.proofs.runner.ends.close_output.Goals as goal
 
 -- each of these is broken by a must-fail edit

@@ -1,6 +1,4 @@
-use Rattle.std.proofs.Common.{ap, sym, ◌∙◌}
-use Rattle.cord_run.specs.declared.stops.Stop.{Stop}
-use Rattle.cord_run.specs.inner.Steps.{end_at, end_of_run}
+use Rattle.cord_run.proofs.Common.{ap, sym, ◌∙◌, Stop, end_at, end_of_run}
 use Rattle.cord_run.proofs.runner.ends.end_of_run.Goals as goal
 
 pub returns-in-Fault : goal.returns-in-Fault

@@ -1,6 +1,5 @@
-use Rattle.std.proofs.Common.{◌≡◌, ◌+◌, ◌-◌, ◌^◌, List, Some, arith, ap, refl, subst, ◌∙◌, map}
-use Rattle.std.specs.Prelude.{min, slice_get}
-use Rattle.cord_plan.specs.Views.{made_view, members_view, operation_view}
+use Rattle.std.specs.Prelude.{◌≡◌, ◌+◌, ◌-◌, ◌^◌}
+use Rattle.cord_run.proofs.Common.{List, Some, arith, ap, refl, subst, ◌∙◌, map, min, slice_get, made_view, members_view, operation_view}
 use Rattle.cord_plan.specs.declared.operations.Operation.{Operation}
 use Rattle.cord_run.proofs.Known.{next_known}
 use Rattle.cord_run.proofs.Loop.{here_at}

@@ -1,6 +1,4 @@
-use Rattle.std.proofs.Common.{ap, sym, ◌∙◌}
-use Rattle.cord_plan.specs.Views.{expr_view, prefix_view, members_view}
-use Rattle.cord_plan.proofs.ExprViews.{view-Name}
+use Rattle.cord_run.proofs.Common.{ap, sym, ◌∙◌, expr_view, prefix_view, members_view, view-Name}
 use Rattle.cord_run.proofs.Known.{last_named}
 use Rattle.cord_run.proofs.runner.known_lengths.last_name.Goals as goal
 

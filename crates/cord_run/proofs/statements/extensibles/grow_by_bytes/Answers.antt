@@ -1,6 +1,4 @@
-use Rattle.std.proofs.Common.{Err, sym, subst}
-use Rattle.cord_run.specs.declared.stops.Stop.{Stop}
-use Rattle.cord_run.specs.inner.Extensibles.{Becomes, longer_text}
+use Rattle.cord_run.proofs.Common.{Err, sym, subst, Stop, Becomes, longer_text}
 use Rattle.cord_run.proofs.Extensibles.{grew_over, grew_becomes, grew_refused}
 use Rattle.cord_run.proofs.statements.extensibles.grow_by_bytes.Goals as goal
 

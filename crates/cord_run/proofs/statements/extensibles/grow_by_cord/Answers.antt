@@ -1,10 +1,6 @@
-use Rattle.std.proofs.Common.{ℕ, List, Err, sym, subst, ◌+◌, ◌<◌, ◌≤◌, ◌++◌, ◌∙◌, ap, length}
-use Rattle.cord_run.specs.declared.stops.Stop.{Stop}
-use Rattle.cord_run.specs.inner.Extensibles.{Becomes, longer_text}
-use Rattle.cord_io.specs.declared.TheConstants.{MAX_LEN}
-use Rattle.cord_node.specs.Tables.{lengths_of}
-use Rattle.cord_ec.specs.Grown.{bytes_of_cells}
-use Rattle.cord_run.specs.inner.Numbers.{text_over}
+use Rattle.std.specs.Prelude.{◌+◌, ◌<◌, ◌≤◌, ◌++◌}
+use Rattle.cord_run.proofs.Common.{ℕ, List, Err, sym, subst, ◌∙◌, ap, length, Stop, Becomes, longer_text, MAX_LEN, lengths_of}
+use Rattle.cord_run.proofs.Common.{bytes_of_cells, text_over}
 use Rattle.cord_run.proofs.Extensibles.{cord_inside, cord_length, cord_text, grown_over, grown_becomes, grown_refused}
 use Rattle.cord_run.proofs.statements.extensibles.grow_by_cord.Goals as goal
 

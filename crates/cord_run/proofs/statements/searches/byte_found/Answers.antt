@@ -1,8 +1,5 @@
-use Rattle.std.proofs.Common.{◌≡◌, ◌<◌, ◌≤◌, ℕ, ℤ, Ok, refl, sym, subst, rules}
-use Rattle.std.specs.Prelude.{IfSome}
-use Rattle.cord_core.specs.Cord.{bytes_of, text_len}
-use Rattle.cord_meaning.specs.State.{as_byte, as_index}
-use Rattle.cord_run.specs.inner.Numbers.{byte_place, Finds}
+use Rattle.std.specs.Prelude.{◌≡◌, ◌<◌, ◌≤◌}
+use Rattle.cord_run.proofs.Common.{ℕ, ℤ, Ok, refl, sym, subst, rules, IfSome, bytes_of, text_len, as_byte, as_index, byte_place, Finds}
 use Rattle.cord_run.proofs.Numbers.{byte_placed, handed, past_byte}
 use Rattle.cord_run.proofs.statements.searches.byte_found.Goals as goal
 

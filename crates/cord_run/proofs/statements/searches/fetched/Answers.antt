@@ -1,5 +1,5 @@
-use Rattle.std.proofs.Common.{◌≡◌, Ok, rules}
-use Rattle.cord_meaning.specs.State.{as_index}
+use Rattle.std.specs.Prelude.{◌≡◌}
+use Rattle.cord_run.proofs.Common.{Ok, rules, as_index}
 use Rattle.cord_run.proofs.Numbers.{past_fetched}
 use Rattle.cord_run.proofs.statements.searches.fetched.Goals as goal
 

@@ -1,8 +1,5 @@
-use Rattle.std.proofs.Common.{◌≡◌, ◌≤◌, ℕ, ℤ, Ok, refl, sym, subst, rules}
-use Rattle.std.specs.Prelude.{IfSome}
-use Rattle.cord_core.specs.Cord.{bytes_of}
-use Rattle.cord_meaning.specs.State.{as_index}
-use Rattle.cord_run.specs.inner.Numbers.{text_place, Finds}
+use Rattle.std.specs.Prelude.{◌≡◌, ◌≤◌}
+use Rattle.cord_run.proofs.Common.{ℕ, ℤ, Ok, refl, sym, subst, rules, IfSome, bytes_of, as_index, text_place, Finds}
 use Rattle.cord_run.proofs.Numbers.{handed, text_placed}
 use Rattle.cord_run.proofs.statements.searches.text_found.Goals as goal
 

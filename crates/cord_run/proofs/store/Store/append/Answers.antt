@@ -1,11 +1,6 @@
-use Rattle.std.proofs.Common.{◌+◌, ◌<◌, ◌≤◌, List, length, sym, subst, ◌∙◌}
-use Rattle.std.specs.Prelude.{Option, IfOk, OnOk}
-use Rattle.std.proofs.lemmas.Result.{on_ok_weaker}
-use Rattle.cord_io.specs.declared.TheConstants.{MAX_LEN}
-use Rattle.cord_node.specs.Tree.{Cell}
-use Rattle.cord_run.specs.declared.store.Entry.{Entry}
-use Rattle.cord_run.specs.inner.Extensibles.{cells_or_none, Grew}
-use Rattle.cord_run.specs.inner.Entries.{SameEntries}
+use Rattle.std.specs.Prelude.{◌+◌, ◌<◌, ◌≤◌}
+use Rattle.cord_run.proofs.Common.{List, length, sym, subst, ◌∙◌, Option, IfOk, OnOk, on_ok_weaker, MAX_LEN, Cell, Entry, cells_or_none}
+use Rattle.cord_run.proofs.Common.{Grew, SameEntries}
 use Rattle.cord_run.proofs.Entries.{come_back, grew_after}
 use Rattle.cord_run.proofs.store.Store.append.Goals as goal
 

@@ -1,9 +1,5 @@
-use Rattle.std.proofs.Common.{List, ℕ, None, sym, ap, subst, ◌∙◌}
-use Rattle.cord_run.specs.declared.store.Content.TheVariants.{Whole}
-use Rattle.cord_run.specs.declared.store.Content.{Content}
-use Rattle.cord_run.specs.declared.store.Entry.{Entry}
-use Rattle.cord_run.specs.inner.Edits.{IsWholeContent}
-use Rattle.cord_run.specs.inner.Entries.{content_length, cord_in, IsEntryAt}
+use Rattle.cord_run.proofs.Common.{List, ℕ, None, sym, ap, subst, ◌∙◌, Whole, Content, Entry, IsWholeContent, content_length, cord_in}
+use Rattle.cord_run.proofs.Common.{IsEntryAt}
 use Rattle.cord_run.proofs.Entries.{value_there}
 use Rattle.cord_run.proofs.Splices.{whole_at}
 use Rattle.cord_run.proofs.store.Store.cord_at.Goals as goal

@@ -1,7 +1,4 @@
-use Rattle.std.proofs.Common.{None, ap, sym, ◌∙◌}
-use Rattle.std.proofs.lemmas.Option.{IfSome_then}
-use Rattle.cord_run.specs.declared.store.Content.TheVariants.{Whole}
-use Rattle.cord_run.specs.inner.Entries.{content_length, cord_in}
+use Rattle.cord_run.proofs.Common.{None, ap, sym, ◌∙◌, IfSome_then, Whole, content_length, cord_in}
 use Rattle.cord_run.proofs.Entries.{absent_none}
 use Rattle.cord_run.proofs.Slices.{still_none}
 use Rattle.cord_run.proofs.store.Store.cord_of.Goals as goal

@@ -1,7 +1,4 @@
-use Rattle.std.proofs.Common.{ap, ◌∙◌, None}
-use Rattle.std.proofs.lemmas.Result.{IfOk-weaker}
-use Rattle.cord_run.specs.declared.store.Entry.{Entry}
-use Rattle.cord_run.specs.inner.Entries.{cells_in}
+use Rattle.cord_run.proofs.Common.{ap, ◌∙◌, None, IfOk-weaker, Entry, cells_in}
 use Rattle.cord_run.proofs.Entries.{absent_none, distinct_set, extensible_same, name_at_place, value_there}
 use Rattle.cord_run.proofs.Cords.{extended_none, extended_text}
 use Rattle.cord_run.proofs.store.Store.extended.Goals as goal

@@ -1,6 +1,4 @@
-use Rattle.std.proofs.Common.{None, sym, ap, ◌∙◌}
-use Rattle.cord_run.specs.inner.Contents.{extensible_length}
-use Rattle.cord_run.specs.inner.Entries.{cells_in}
+use Rattle.cord_run.proofs.Common.{None, sym, ap, ◌∙◌, extensible_length, cells_in}
 use Rattle.cord_run.proofs.Entries.{absent_none, value_there}
 use Rattle.cord_run.proofs.store.Store.extended_length.Goals as goal
 

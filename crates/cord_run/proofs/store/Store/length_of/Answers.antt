@@ -1,6 +1,4 @@
-use Rattle.std.proofs.Common.{None, sym, ap, ◌∙◌}
-use Rattle.cord_run.specs.declared.store.Content.TheVariants.{Whole}
-use Rattle.cord_run.specs.inner.Entries.{content_length}
+use Rattle.cord_run.proofs.Common.{None, sym, ap, ◌∙◌, Whole, content_length}
 use Rattle.cord_run.proofs.Entries.{absent_none}
 use Rattle.cord_run.proofs.store.Store.length_of.Goals as goal
 

@@ -1,4 +1,4 @@
-use Rattle.std.proofs.Common.{pos, sym, rules}
+use Rattle.cord_run.proofs.Common.{pos, sym, rules}
 use Rattle.cord_run.proofs.Entries.{absent_none}
 use Rattle.cord_run.proofs.Numbers.{handed}
 use Rattle.cord_run.proofs.store.Store.number_of.Goals as goal

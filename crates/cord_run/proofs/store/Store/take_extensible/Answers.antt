@@ -1,5 +1,4 @@
-use Rattle.std.proofs.Common.{None, sym}
-use Rattle.cord_run.specs.inner.Entries.{cells_in}
+use Rattle.cord_run.proofs.Common.{None, sym, cells_in}
 use Rattle.cord_run.proofs.Entries.{absent_none, extensible_none}
 use Rattle.cord_run.proofs.store.Store.take_extensible.Goals as goal
 

@@ -1,11 +1,6 @@
-use Rattle.std.proofs.Common.{◌+◌, ◌<◌, ◌≤◌, List, None, length, refl, subst, get_or}
-use Rattle.std.specs.Prelude.{Option, OnOk}
-use Rattle.std.proofs.lemmas.Result.{on_ok_weaker}
-use Rattle.cord_io.specs.declared.TheConstants.{MAX_LEN}
-use Rattle.cord_node.specs.Tree.{Cell}
-use Rattle.cord_run.specs.declared.store.Entry.{Entry}
-use Rattle.cord_run.specs.inner.Extensibles.{cells_or_none}
-use Rattle.cord_run.specs.inner.Entries.{cells_in}
+use Rattle.std.specs.Prelude.{◌+◌, ◌<◌, ◌≤◌}
+use Rattle.cord_run.proofs.Common.{List, None, length, refl, subst, get_or, Option, OnOk, on_ok_weaker, MAX_LEN, Cell, Entry, cells_or_none}
+use Rattle.cord_run.proofs.Common.{cells_in}
 use Rattle.cord_run.proofs.Entries.{distinct_set, grew_set, name_at_place, value_at_place}
 use Rattle.cord_run.proofs.store.appends.append_at.Goals as goal
 

@@ -1,6 +1,4 @@
-use Rattle.std.proofs.Common.{refl}
-use Rattle.std.specs.Prelude.{Some}
-use Rattle.std.proofs.lemmas.Result.{IfOk-weaker}
+use Rattle.cord_run.proofs.Common.{refl, Some, IfOk-weaker}
 use Rattle.cord_run.proofs.Entries.{grew_first, grew_to}
 use Rattle.cord_run.proofs.store.appends.append_to.Goals as goal
 

@@ -1,5 +1,4 @@
-use Rattle.std.proofs.Common.{refl, get_or}
-use Rattle.cord_run.specs.declared.store.Entry.{Entry}
+use Rattle.cord_run.proofs.Common.{refl, get_or, Entry}
 use Rattle.cord_run.proofs.Entries.{content_set, distinct_set, name_at_place}
 use Rattle.cord_run.proofs.store.contents.set_content.Goals as goal
 

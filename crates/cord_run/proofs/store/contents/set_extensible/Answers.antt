@@ -1,8 +1,4 @@
-use Rattle.std.proofs.Common.{None, ap, refl, subst, slice_set, get_or, ◌∙◌}
-use Rattle.std.specs.Prelude.{Option}
-use Rattle.cord_ec.specs.Gathered.{Growth}
-use Rattle.cord_run.specs.declared.store.Entry.{Entry}
-use Rattle.cord_run.specs.inner.Entries.{cells_in, HasExtensible}
+use Rattle.cord_run.proofs.Common.{None, ap, refl, subst, slice_set, get_or, ◌∙◌, Option, Growth, Entry, cells_in, HasExtensible}
 use Rattle.cord_run.proofs.Entries.{distinct_set, extensible_set, name_at_place, value_at_place}
 use Rattle.cord_run.proofs.store.contents.set_extensible.Goals as goal
 

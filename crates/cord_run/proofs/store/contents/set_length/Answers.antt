@@ -1,7 +1,4 @@
-use Rattle.std.proofs.Common.{refl, subst, get_or, slice_set}
-use Rattle.cord_run.specs.declared.store.Content.{Content}
-use Rattle.cord_run.specs.declared.store.Entry.{Entry}
-use Rattle.cord_run.specs.inner.Entries.{HasContent}
+use Rattle.cord_run.proofs.Common.{refl, subst, get_or, slice_set, Content, Entry, HasContent}
 use Rattle.cord_run.proofs.Entries.{content_set, distinct_set, name_at_place}
 use Rattle.cord_run.proofs.store.contents.set_length.Goals as goal
 

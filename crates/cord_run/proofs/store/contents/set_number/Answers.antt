@@ -1,7 +1,4 @@
-use Rattle.std.proofs.Common.{ℤ, refl, subst, slice_set, get_or, to_z, of_z, w64}
-use Rattle.std.proofs.lemmas.Int.{to_z-of_z}
-use Rattle.cord_run.specs.declared.store.Entry.{Entry}
-use Rattle.cord_run.specs.inner.Entries.{HasNumber}
+use Rattle.cord_run.proofs.Common.{ℤ, refl, subst, slice_set, get_or, to_z, of_z, w64, to_z-of_z, Entry, HasNumber}
 use Rattle.cord_run.proofs.Entries.{distinct_set, name_at_place, number_set}
 use Rattle.cord_run.proofs.store.contents.set_number.Goals as goal
 

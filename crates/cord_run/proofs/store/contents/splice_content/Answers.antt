@@ -1,12 +1,6 @@
-use Rattle.std.proofs.Common.{◌<◌, None, refl, ap, subst, ◌∙◌, slice_set, get_or}
-use Rattle.std.proofs.lemmas.List.{set-get_or}
-use Rattle.cord_io.specs.declared.TheConstants.{MAX_LEN}
-use Rattle.cord_core.specs.Cord.{text_len}
-use Rattle.cord_run.specs.declared.store.Content.{Content}
-use Rattle.cord_run.specs.declared.store.Content.TheVariants.{Whole}
-use Rattle.cord_run.specs.declared.store.Entry.{Entry}
-use Rattle.cord_run.specs.inner.Edits.{spliced_len}
-use Rattle.cord_run.specs.inner.Entries.{cord_in}
+use Rattle.std.specs.Prelude.{◌<◌}
+use Rattle.cord_run.proofs.Common.{None, refl, ap, subst, ◌∙◌, slice_set, get_or, set-get_or, MAX_LEN, text_len, Content, Whole, Entry}
+use Rattle.cord_run.proofs.Common.{spliced_len, cord_in}
 use Rattle.cord_run.proofs.Entries.{distinct_set, value_at_place}
 use Rattle.cord_run.proofs.Splices.{splice_set, whole_there}
 use Rattle.cord_run.proofs.store.contents.splice_content.Goals as goal

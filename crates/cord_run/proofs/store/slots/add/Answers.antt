@@ -1,8 +1,6 @@
-use Rattle.std.proofs.Common.{◌≡◌, ◌++◌, ◌∷◌, [], List, ℕ, length, None, pos, true, refl, subst, sym, ◌∙◌, rules}
-use Rattle.std.specs.Prelude.{vec_len}
-use Rattle.cord_run.specs.declared.store.Content.TheVariants.{Whole}
-use Rattle.cord_run.specs.declared.store.Entry.{Entry}
-use Rattle.cord_run.specs.inner.Entries.{are_distinct, names_in, IsEntryAt, SameEntries}
+use Rattle.std.specs.Prelude.{◌≡◌, ◌++◌, ◌∷◌}
+use Rattle.cord_run.proofs.Common.{[], List, ℕ, length, None, pos, true, refl, subst, sym, ◌∙◌, rules, vec_len, Whole, Entry, are_distinct}
+use Rattle.cord_run.proofs.Common.{names_in, IsEntryAt, SameEntries}
 use Rattle.cord_run.proofs.Entries.{added_nothing, added_place, distinct_after}
 use Rattle.cord_run.proofs.store.slots.add.Goals as goal
 

@@ -1,4 +1,4 @@
-use Rattle.std.proofs.Common.{sym, ◌∙◌}
+use Rattle.cord_run.proofs.Common.{sym, ◌∙◌}
 use Rattle.cord_run.proofs.Entries.{found, passed_place, passed_absent}
 use Rattle.cord_run.proofs.store.slots.find_slot.Goals as goal
 

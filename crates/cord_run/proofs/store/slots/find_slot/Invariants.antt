@@ -1,5 +1,5 @@
-use Rattle.std.proofs.Common.{ℕ, ◌+◌, drop}
-use Rattle.cord_run.specs.inner.Entries.{HasNoEntry, IsEntryAt}
+use Rattle.std.specs.Prelude.{◌+◌}
+use Rattle.cord_run.proofs.Common.{ℕ, drop, HasNoEntry, IsEntryAt}
 use Rattle.cord_run.proofs.store.slots.find_slot.Given as goal
 
 -- the entries passed don't have the name: what the rest says of it, all of them say

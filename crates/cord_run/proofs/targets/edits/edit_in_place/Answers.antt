@@ -1,9 +1,5 @@
-use Rattle.std.proofs.Common.{Err, ap}
-use Rattle.cord_io.specs.declared.faults.CordError.{CordError}
-use Rattle.cord_plan.specs.Views.{made_view}
-use Rattle.cord_run.specs.inner.Contents.{IsUnmadeOfNames, stop_of_cord}
+use Rattle.cord_run.proofs.Common.{Err, ap, CordError, made_view, IsUnmadeOfNames, stop_of_cord, passed_on}
 use Rattle.cord_run.proofs.Edits.{edited_by, middle_refused, splice_refused}
-use Rattle.cord_run.proofs.Refusals.{passed_on}
 use Rattle.cord_run.proofs.targets.edits.edit_in_place.Goals as goal
 
 pub returns-in_err-middle-clause-refused : goal.returns-in_err-middle-clause-refused

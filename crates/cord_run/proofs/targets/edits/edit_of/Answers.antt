@@ -1,5 +1,4 @@
-use Rattle.std.proofs.Common.{rules}
-use Rattle.cord_plan.specs.Views.{made_view}
+use Rattle.cord_run.proofs.Common.{rules, made_view}
 use Rattle.cord_run.proofs.Edits.{edit_needed, edit_text}
 use Rattle.cord_run.proofs.Numbers.{handed}
 use Rattle.cord_run.proofs.targets.edits.edit_of.Goals as goal

@@ -1,11 +1,5 @@
-use Rattle.std.proofs.Common.{◌∙◌}
-use Rattle.cord_io.specs.declared.TheConstants.{MAX_LEN}
-use Rattle.cord_meaning.specs.Formats.{format_text}
-use Rattle.cord_meaning.specs.State.{and_then}
-use Rattle.cord_plan.specs.Values.{within}
-use Rattle.cord_run.specs.inner.Contents.{IsFaultOver, stop_of_print}
+use Rattle.cord_run.proofs.Common.{◌∙◌, MAX_LEN, format_text, and_then, within, IsFaultOver, stop_of_print, passed_on}
 use Rattle.cord_run.proofs.Prints.{printed_cord, unprinted_unless}
-use Rattle.cord_run.proofs.Refusals.{passed_on}
 use Rattle.cord_run.proofs.targets.prints.print.Goals as goal
 
 pub returns-in_err-sprintf-clause-refused : goal.returns-in_err-sprintf-clause-refused
