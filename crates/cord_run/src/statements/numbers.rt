@@ -13,6 +13,7 @@ ghost use Rattle.cord_syntax.specs.declared.statements.Statement.TheVariants as 
 ghost use Rattle.cord_run.specs.inner.Numbers.{CountsFinding, FindsOver, HasReadForNumber, in_i64, number_or_stop};
 ghost use Rattle.cord_run.specs.inner.Entries.{content_in, cord_in, HasNumber, IsOver, length_in};
 ghost use Rattle.cord_run.specs.inner.Statements.{MeansOver, StaysOver};
+ghost use Rattle.cord_run.specs.inner.Frames.{IsSameSource};
 ghost use Rattle.cord_run.specs.inner.Outcomes.{CountsReadStop};
 
 use crate::statements::searches::{
@@ -26,8 +27,8 @@ use cord_meaning::FaultKind;
 use cord_script::{Name, Number, Statement};
 use cord_syntax::{Computation, Family, Look, Search};
 
-/// Gives the name that a statement assigns the number that was found for it.
-pub(crate) fn assign_found(
+// Gives the name that a statement assigns the number that was found for it.
+fn assign_found(
     store: &mut Store,
     statement: &Statement,
     number: Result<i64, Stop>,
@@ -123,12 +124,28 @@ fn reported_length(store: &Store, name: &Name) -> i64
     store.length_of(name) as i64
 }
 
-/// The byte or the order that a look at cords finds.
-pub(crate) fn look_number<R: Source>(
-    store: &Store,
+/// Gives the name that a look at cords assigns what it finds.
+pub(crate) fn serve_look<R: Source>(
+    store: &mut Store,
     source: &mut R,
+    statement: &Statement,
     look: Look<'_>,
-) -> Result<i64, Stop>
+) -> Result<(), Stop>
+    requires over { IsOver (R.lengths source.old) store.old.entries.items }
+    requires of { statement_of (line_of statement.now) (families.Look look) ≡ statement.now }
+    ensures over { StaysOver store.old.entries.items store.new.entries.items result }
+    ensures means { (file_system : FileSystem) → R.consistent source.new file_system →
+        MeansOver (R.table source.old file_system) statement.now store.old.entries.items store.new.entries.items result }
+    ensures counts { CountsReadStop (R.failures source.old) (R.failures source.new) result }
+    ensures same { IsSameSource ⟦<R as Source>⟧ source.old source.new }
+{
+    let number = look_number(store, source, look);
+    assign_found(store, statement, number)
+}
+
+// The byte or the order that a look at cords finds.
+#[inline(always)]
+fn look_number<R: Source>(store: &Store, source: &mut R, look: Look<'_>) -> Result<i64, Stop>
     requires over { IsOver (R.lengths source.old) store.now.entries.items }
     ensures found { (file_system : FileSystem) → R.consistent source.new file_system → (line : ℕ) →
         FindsOver (R.table source.old file_system) (statement_of line (families.Look look.entry))
@@ -191,12 +208,28 @@ fn ranges_number<R: Source>(
     )
 }
 
-/// The place that a search finds, or -1.
-pub(crate) fn search_number<R: Source>(
-    store: &Store,
+/// Gives the name that a search assigns the place that it finds, or -1.
+pub(crate) fn serve_search<R: Source>(
+    store: &mut Store,
     source: &mut R,
+    statement: &Statement,
     search: Search<'_>,
-) -> Result<i64, Stop>
+) -> Result<(), Stop>
+    requires over { IsOver (R.lengths source.old) store.old.entries.items }
+    requires of { statement_of (line_of statement.now) (families.Search search) ≡ statement.now }
+    ensures over { StaysOver store.old.entries.items store.new.entries.items result }
+    ensures means { (file_system : FileSystem) → R.consistent source.new file_system →
+        MeansOver (R.table source.old file_system) statement.now store.old.entries.items store.new.entries.items result }
+    ensures counts { CountsReadStop (R.failures source.old) (R.failures source.new) result }
+    ensures same { IsSameSource ⟦<R as Source>⟧ source.old source.new }
+{
+    let number = search_number(store, source, search);
+    assign_found(store, statement, number)
+}
+
+// The place that a search finds, or -1.
+#[inline(always)]
+fn search_number<R: Source>(store: &Store, source: &mut R, search: Search<'_>) -> Result<i64, Stop>
     requires over { IsOver (R.lengths source.old) store.now.entries.items }
     ensures found { (file_system : FileSystem) → R.consistent source.new file_system → (line : ℕ) →
         FindsOver (R.table source.old file_system) (statement_of line (families.Search search.entry))

@@ -1,14 +1,9 @@
-use Rattle.std.proofs.Common.{◌≡◌, ℤ, Some, None, Result, refl, subst, rules}
-use Rattle.std.specs.Prelude.{IfOk}
+use Rattle.std.specs.Prelude.{◌≡◌}
+use Rattle.cord_run.proofs.Common.{ℤ, Some, None, Result, refl, subst, rules, IfOk, Stop, HasNumber, CountsFinding, FindsOver}
+use Rattle.cord_run.proofs.Common.{CountsReadStop, MeansOver, handed_on}
 use Rattle.cord_syntax.specs.Targets.{target_of}
-use Rattle.cord_run.specs.declared.stops.Stop.{Stop}
-use Rattle.cord_run.specs.inner.Entries.{HasNumber}
-use Rattle.cord_run.specs.inner.Numbers.{CountsFinding, FindsOver}
 use Rattle.cord_run.proofs.NumberStatements.{assigns_none, kept_giving, none_counted, none_found, number_counted}
-use Rattle.cord_run.specs.inner.Outcomes.{CountsReadStop}
-use Rattle.cord_run.specs.inner.Statements.{MeansOver}
 use Rattle.cord_run.proofs.Numbers.{handed}
-use Rattle.cord_run.proofs.Refusals.{handed_on}
 use Rattle.cord_run.proofs.statements.numbers.assign_found.Goals as goal
 
 pub returns-in_err-number-clause-means : goal.returns-in_err-number-clause-means

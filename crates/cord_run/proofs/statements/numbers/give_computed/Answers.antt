@@ -1,9 +1,5 @@
-use Rattle.std.proofs.Common.{ℤ, Result, refl, subst, rules}
-use Rattle.std.specs.Prelude.{IfOk}
-use Rattle.cord_meaning.specs.declared.ends.FaultKind.{FaultKind}
+use Rattle.cord_run.proofs.Common.{ℤ, Result, refl, subst, rules, IfOk, FaultKind, HasNumber, FindsOver, number_or_stop}
 use Rattle.cord_run.specs.declared.stops.Stop.TheVariants as stops
-use Rattle.cord_run.specs.inner.Entries.{HasNumber}
-use Rattle.cord_run.specs.inner.Numbers.{FindsOver, number_or_stop}
 use Rattle.cord_run.proofs.NumberStatements.{kept_giving, none_found, number_counted}
 use Rattle.cord_run.proofs.Numbers.{handed}
 use Rattle.cord_run.proofs.statements.numbers.give_computed.Goals as goal

@@ -1,4 +1,4 @@
-use Rattle.std.proofs.Common.{rules}
+use Rattle.cord_run.proofs.Common.{rules}
 use Rattle.cord_run.proofs.statements.numbers.search_number.Goals as goal
 
 pub returns-in-Chr-clause-found : goal.returns-in-Chr-clause-found

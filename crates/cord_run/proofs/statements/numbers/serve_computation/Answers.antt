@@ -1,12 +1,7 @@
-use Rattle.std.proofs.Common.{◌≡◌, ℤ, ◌+ℤ◌, ◌-ℤ◌, Ok, refl, sym, subst, ap, ◌∙◌, to_z, of_z, w64, rules}
-use Rattle.cord_meaning.specs.State.{number_value}
-use Rattle.cord_syntax.specs.Families.{statement_of}
-use Rattle.cord_syntax.specs.declared.families.Computation.{Computation}
+use Rattle.std.specs.Prelude.{◌≡◌, ◌+ℤ◌, ◌-ℤ◌}
+use Rattle.cord_run.proofs.Common.{ℤ, Ok, refl, sym, subst, ap, ◌∙◌, to_z, of_z, w64, rules, number_value, statement_of, Computation, Add}
+use Rattle.cord_run.proofs.Common.{Len, Sub, plain_of, in_i64, MeansOver}
 use Rattle.cord_syntax.specs.declared.families.Family.TheVariants as families
-use Rattle.cord_syntax.specs.declared.statements.Statement.TheVariants.{Add, Len, Sub}
-use Rattle.cord_run.specs.inner.Holdings.{plain_of}
-use Rattle.cord_run.specs.inner.Numbers.{in_i64}
-use Rattle.cord_run.specs.inner.Statements.{MeansOver}
 use Rattle.cord_run.proofs.Lengths.{operand_value}
 use Rattle.cord_run.proofs.NumberStatements.{len_finds, sum_finds}
 use Rattle.cord_run.proofs.Numbers.{handed}
