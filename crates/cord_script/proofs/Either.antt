@@ -1,16 +1,17 @@
 -- Each text is a script, or has a first error.
 use Rattle.std.specs.Prelude.{◌≡◌, ◌≤◌, ◌+◌, ◌⊎◌, ◌∷◌, ◌++◌}
-use Rattle.cord_script.proofs.Common.{inl, inr, ℕ, List, [], refl, sym, ap, subst, length, arith, cases_lt, FormatOrBad, MAX_SCRIPT}
+use Rattle.cord_script.proofs.Common.{inl, inr, ℕ, List, [], refl, sym, ap, subst, length, arith, FormatOrBad, MAX_SCRIPT}
 use Rattle.cord_script.proofs.Common.{MAX_LINES, Word, RefusalKind, TooBig, MissingEnd, MissingIfEnd, Statement, IsSplit, IsIdle, HasWords}
 use Rattle.cord_script.proofs.Common.{Grammar, Scope, Block, Says, LinesSay, ReadsBy, start, after, after_all, InRepeat, InIf, InElse}
 use Rattle.cord_script.proofs.Common.{HasBadLine, IsLeftOpen, FirstErrorBy}
 use Rattle.cord_script.specs.Laws.{ReadOrError}
+use Rattle.cord_script.proofs.Spelled.{less_or_not}
 use Rattle.cord_script.proofs.Readings.{some_lines}
 use Rattle.cord_script.proofs.Found.{idle_or_not, words_or_bad, some_words}
 use Rattle.cord_script.proofs.Filled.{says_or_bad}
 
 -- a line that isn't idle says a statement
-record LineSays (g : Grammar) (n : ℕ) (scope : Scope) (line : List ℕ) : Type 0 where
+pub record LineSays (g : Grammar) (n : ℕ) (scope : Scope) (line : List ℕ) : Type 0 where
   pub statement : Statement
   pub words : List Word
   pub has : HasWords line words
@@ -20,7 +21,7 @@ abbrev LineOrBad : Grammar → ℕ → Scope → List ℕ → Type 0
 LineOrBad g n scope line = LineSays g n scope line ⊎ ((kind : RefusalKind) × HasBadLine g n scope line kind)
 
 -- a line that isn't idle says a statement, or is wrong
-line_or_bad : FormatOrBad → (g : Grammar) (n : ℕ) (scope : Scope) (line : List ℕ) → n ≤ MAX_LINES → ¬ IsIdle line →
+abbrev line_or_bad : FormatOrBad → (g : Grammar) (n : ℕ) (scope : Scope) (line : List ℕ) → n ≤ MAX_LINES → ¬ IsIdle line →
     LineOrBad g n scope line
 line_or_bad law g n scope line few shows = elim (words_or_bad line) [
   | inr bad ↦ inr (bad.0, inr (few, shows, inl bad.1))
@@ -31,7 +32,7 @@ line_or_bad law g n scope line few shows = elim (words_or_bad line) [
 ]
 
 -- the first of these lines that is wrong
-record Stops (g : Grammar) (n : ℕ) (scope : Scope) (lines : List (List ℕ)) : Type 0 where
+pub record Stops (g : Grammar) (n : ℕ) (scope : Scope) (lines : List (List ℕ)) : Type 0 where
   pub prefix : List (List ℕ)
   pub line : List ℕ
   pub later : List (List ℕ)
@@ -42,7 +43,7 @@ record Stops (g : Grammar) (n : ℕ) (scope : Scope) (lines : List (List ℕ)) :
   pub wrong : HasBadLine g (n + length prefix) (after_all statements scope) line kind
 
 -- these lines say statements, and are no more than there may be
-record Goes (g : Grammar) (n : ℕ) (scope : Scope) (lines : List (List ℕ)) : Type 0 where
+pub record Goes (g : Grammar) (n : ℕ) (scope : Scope) (lines : List (List ℕ)) : Type 0 where
   pub statements : List Statement
   pub say : LinesSay g n scope lines statements
   pub few : n + length lines ≤ MAX_LINES + 1
@@ -50,7 +51,7 @@ record Goes (g : Grammar) (n : ℕ) (scope : Scope) (lines : List (List ℕ)) : 
 abbrev GoesOrStops : Grammar → ℕ → Scope → List (List ℕ) → Type 0
 GoesOrStops g n scope lines = Goes g n scope lines ⊎ Stops g n scope lines
 
-stops_here : (g : Grammar) (n : ℕ) (scope : Scope) (line : List ℕ) (lines : List (List ℕ)) (kind : RefusalKind) →
+abbrev stops_here : (g : Grammar) (n : ℕ) (scope : Scope) (line : List ℕ) (lines : List (List ℕ)) (kind : RefusalKind) →
     HasBadLine g n scope line kind → GoesOrStops g n scope (line ∷ lines)
 stops_here g n scope line lines kind wrong =
     let here : n ≡ n + 0 = omega arith in
@@ -66,7 +67,7 @@ stops_here g n scope line lines kind wrong =
     })
 
 -- after a line that says these statements, which lead from one scope to another
-after_line : (g : Grammar) (n : ℕ) (scope next : Scope) (line : List ℕ) (lines : List (List ℕ)) (said : List Statement) →
+abbrev after_line : (g : Grammar) (n : ℕ) (scope next : Scope) (line : List ℕ) (lines : List (List ℕ)) (said : List Statement) →
     ((ss : List Statement) → after_all (said ++ ss) scope ≡ after_all ss next) →
     ((ls : List (List ℕ)) (ss : List Statement) → LinesSay g (n + 1) next ls ss → LinesSay g n scope (line ∷ ls) (said ++ ss)) →
     GoesOrStops g (n + 1) next lines → GoesOrStops g n scope (line ∷ lines)
@@ -87,9 +88,9 @@ after_line g n scope next line lines said leads say (inr h) =
     })
 
 -- the lines from number n on all say something, or one of them is the first that is wrong
-lines_by : FormatOrBad → (g : Grammar) (n : ℕ) (scope : Scope) (lines : List (List ℕ)) → n ≤ MAX_LINES + 1 → GoesOrStops g n scope lines
+abbrev lines_by : FormatOrBad → (g : Grammar) (n : ℕ) (scope : Scope) (lines : List (List ℕ)) → n ≤ MAX_LINES + 1 → GoesOrStops g n scope lines
 lines_by law g n scope [] few = inl (record { statements = []; say = refl; few = omega (arith, few) })
-lines_by law g n scope (line ∷ lines) few = elim (cases_lt MAX_LINES n) [
+lines_by law g n scope (line ∷ lines) few = elim (less_or_not MAX_LINES n) [
   | inl past ↦ stops_here g n scope line lines TooBig (inl (omega (arith, few, past), refl))
   | inr low ↦ elim (idle_or_not line) [
     | inl idle ↦ after_line g n scope scope line lines [] (λ ss. refl) (λ ls ss say. inl (idle, say))
@@ -104,16 +105,16 @@ lines_by law g n scope (line ∷ lines) few = elim (cases_lt MAX_LINES n) [
 ]
 
 -- an open block is an error at the end
-left_open : (block : Block) → (n : ℕ) × (kind : RefusalKind) × IsLeftOpen block n kind
+abbrev left_open : (block : Block) → (n : ℕ) × (kind : RefusalKind) × IsLeftOpen block n kind
 left_open (InRepeat line) = (line, MissingEnd, (refl, refl))
 left_open (InIf line) = (line, MissingIfEnd, (refl, refl))
 left_open (InElse line) = (line, MissingIfEnd, (refl, refl))
 
-abbrev Either : Grammar → List ℕ → Type 0
+abbrev pub Either : Grammar → List ℕ → Type 0
 Either g b = ((ss : List Statement) × ReadsBy g b ss) ⊎ ((n : ℕ) × (kind : RefusalKind) × FirstErrorBy g b n kind)
 
 -- all lines say something: each block is closed, or the innermost open one is an error
-closed_or_open : (g : Grammar) (b : List ℕ) (lines : List (List ℕ)) (blocks : List Block) → length b ≤ MAX_SCRIPT → IsSplit b lines →
+abbrev closed_or_open : (g : Grammar) (b : List ℕ) (lines : List (List ℕ)) (blocks : List Block) → length b ≤ MAX_SCRIPT → IsSplit b lines →
     (h : Goes g 1 start lines) → (after_all h.statements start).blocks ≡ blocks → Either g b
 closed_or_open g b lines [] small split h e = inl (
   h.statements,
@@ -145,7 +146,7 @@ closed_or_open g b lines (block ∷ others) small split h e =
       })),
     )
 
-by_lines : (g : Grammar) (b : List ℕ) (lines : List (List ℕ)) → length b ≤ MAX_SCRIPT → IsSplit b lines → GoesOrStops g 1 start lines →
+abbrev by_lines : (g : Grammar) (b : List ℕ) (lines : List (List ℕ)) → length b ≤ MAX_SCRIPT → IsSplit b lines → GoesOrStops g 1 start lines →
     Either g b
 by_lines g b lines small split (inl h) = closed_or_open g b lines (after_all h.statements start).blocks small split h refl
 by_lines g b lines small split (inr h) =
@@ -165,8 +166,8 @@ by_lines g b lines small split (inr h) =
       })),
     )
 
-pub read_or_error : FormatOrBad → ReadOrError
-read_or_error law g b = elim (cases_lt MAX_SCRIPT (length b)) [
+abbrev pub read_or_error : FormatOrBad → ReadOrError
+read_or_error law g b = elim (less_or_not MAX_SCRIPT (length b)) [
   | inl big ↦ inr (0, TooBig, inl (record { size = big; line = refl; is = refl }))
   | inr small ↦ let split = some_lines b in
       by_lines g b split.0 small split.1 (lines_by law g 1 start split.0 (omega arith))

@@ -63,37 +63,37 @@ abbrev terms : (xs : List Want) → OperandsOf xs → List Term
 terms [] h = []
 terms (x ∷ xs) h = term x h.0 ∷ terms xs h.1
 
-term_wants : (x : Want) (v : OperandOf x) → want_of (term x v) ≡ x
+pub term_wants : (x : Want) (v : OperandOf x) → want_of (term x v) ≡ x
 term_wants (wants.Target kind) v = refl
 term_wants _ v = refl
 
-terms_want : (xs : List Want) (h : OperandsOf xs) → map want_of (terms xs h) ≡ xs
+pub terms_want : (xs : List Want) (h : OperandsOf xs) → map want_of (terms xs h) ≡ xs
 terms_want [] h = refl
 terms_want (x ∷ xs) h = ap (λ k. k ∷ map want_of (terms xs h.1)) (term_wants x h.0) ∙ ap (λ k. x ∷ k) (terms_want xs h.1)
 
-a_name : (w : Word) → name_misfit w ≡ None → (name : List ℕ) × ((w ≡ Plain name) × (is_name name ≡ true))
+abbrev a_name : (w : Word) → name_misfit w ≡ None → (name : List ℕ) × ((w ≡ Plain name) × (is_name name ≡ true))
 a_name (Plain p) h = (p, (refl, holds (is_name p) BadName h))
 a_name (Quoted text) h = cc
 
-a_value : (o : Option ℤ) → is_some o ≡ true → (v : ℤ) × (o ≡ Some v)
+abbrev a_value : (o : Option ℤ) → is_some o ≡ true → (v : ℤ) × (o ≡ Some v)
 a_value None h = cc
 a_value (Some v) h = (v, refl)
 
-a_number : (p : List ℕ) → misfit wants.Number (Plain p) ≡ None → (n : Number) × IsTerm (Plain p) (Value n)
+abbrev a_number : (p : List ℕ) → misfit wants.Number (Plain p) ≡ None → (n : Number) × IsTerm (Plain p) (Value n)
 a_number p h = elim (chosen (begins_numeral p) (unless (is_some (numeral_of p)) BadNumber) (unless (is_name p) BadName) None h) [
   | inl x ↦ let v = a_value (numeral_of p) (holds (is_some (numeral_of p)) BadNumber x.1) in
       (Numeral v.0, (p, refl, v.1))
   | inr x ↦ (Named p, (refl, holds (is_name p) BadName x.1))
 ]
 
-a_function : (p : List ℕ) → misfit wants.Function (Plain p) ≡ None → (f : Function) × IsTerm (Plain p) (Applies f)
+abbrev a_function : (p : List ℕ) → misfit wants.Function (Plain p) ≡ None → (f : Function) × IsTerm (Plain p) (Applies f)
 a_function p h = elim (either (bytes_eq p (codes "digits")) (bytes_eq p (codes "bytes"))
     (holds (bytes_eq p (codes "digits") || bytes_eq p (codes "bytes")) BadName h)) [
       | inl e ↦ (Digits, ap Plain (same_bytes p (codes "digits") e))
       | inr e ↦ (Bytes, ap Plain (same_bytes p (codes "bytes") e))
     ]
 
-a_relation : (p : List ℕ) → misfit wants.Relation (Plain p) ≡ None → (r : Relation) × IsTerm (Plain p) (Compares r)
+abbrev a_relation : (p : List ℕ) → misfit wants.Relation (Plain p) ≡ None → (r : Relation) × IsTerm (Plain p) (Compares r)
 a_relation p h = elim (either (bytes_eq p (codes "lt") || bytes_eq p (codes "eq")) (bytes_eq p (codes "gt"))
     (holds (bytes_eq p (codes "lt") || bytes_eq p (codes "eq") || bytes_eq p (codes "gt")) BadName h)) [
       | inl x ↦ elim (either (bytes_eq p (codes "lt")) (bytes_eq p (codes "eq")) x) [
@@ -104,7 +104,7 @@ a_relation p h = elim (either (bytes_eq p (codes "lt") || bytes_eq p (codes "eq"
     ]
 
 -- a word without a misfit says something
-word_says : (x : Want) (w : Word) → misfit x w ≡ None → (v : OperandOf x) × IsTerm w (term x v)
+abbrev word_says : (x : Want) (w : Word) → misfit x w ≡ None → (v : OperandOf x) × IsTerm w (term x v)
 word_says (wants.Target kind) w h = a_name w h
 word_says (wants.Operand kind) w h = a_name w h
 word_says wants.Number (Plain p) h = a_number p h
@@ -116,7 +116,7 @@ word_says wants.Format (Quoted text) h = (text, refl)
 word_says _ _ h = cc
 
 -- as many words as are wanted, without a misfit
-words_say : (xs : List Want) (ws : List Word) → length ws ≡ length xs → first_misfit xs ws ≡ None → (h : OperandsOf xs) ×
+abbrev words_say : (xs : List Want) (ws : List Word) → length ws ≡ length xs → first_misfit xs ws ≡ None → (h : OperandsOf xs) ×
     AreTerms ws (terms xs h)
 words_say [] [] e h = (tt, tt)
 words_say [] (w ∷ ws) e h = absurd (omega (arith, e))
@@ -128,7 +128,7 @@ words_say (x ∷ xs) (w ∷ ws) e h =
     ((first.0, others.0), (first.1, others.1))
 
 -- a statement with this word that the words after it say
-record IsFilled (word : List ℕ) (form : Form) (n : ℕ) (ws : List Word) (formats : Option (List Want)) : Type 0 where
+pub record IsFilled (word : List ℕ) (form : Form) (n : ℕ) (ws : List Word) (formats : Option (List Want)) : Type 0 where
   pub statement : Statement
   pub named : word_of statement ≡ word
   pub leads : effect_of statement ≡ form.effect
@@ -149,7 +149,7 @@ IsMade word effect n ts None = ⊥
 IsMade word effect n ts (Some s) = (word_of s ≡ word) × (effect_of s ≡ effect) × (line_of s ≡ n) × (terms_of s ≡ ts) × Suits s
 
 -- words of a fixed number
-fixed : {word : List ℕ} {effect : Effect} {xs : List Want} (n : ℕ) (ws : List Word) →
+abbrev fixed : {word : List ℕ} {effect : Effect} {xs : List Want} (n : ℕ) (ws : List Word) →
     ((h : OperandsOf xs) → IsMade word effect n (terms xs h) (fixed_made word n (terms xs h))) →
     Fills word n ws (Some (record { shape = Words xs; effect = effect }))
 fixed {word = word} {effect = effect} {xs = xs} n ws make = λ formats has count fit.
@@ -170,19 +170,19 @@ fixed {word = word} {effect = effect} {xs = xs} n ws make = λ formats has count
     }
 
 -- the names of cords
-cord_names : (ws : List Word) (h : OperandsOf (cords ws)) → (names : List (List ℕ)) × (terms (cords ws) h ≡ map (Operand kinds.Cord) names) ×
+abbrev cord_names : (ws : List Word) (h : OperandsOf (cords ws)) → (names : List (List ℕ)) × (terms (cords ws) h ≡ map (Operand kinds.Cord) names) ×
     (length names ≡ length ws)
 cord_names [] h = ([], refl, refl)
 cord_names (w ∷ ws) h =
     let r = cord_names ws h.1 in
     (h.0 ∷ r.0, ap (λ k. Operand kinds.Cord h.0 ∷ k) r.1, omega (arith, r.2))
 
-cords_count : (ws : List Word) → length ws ≡ length (cords ws)
+pub cords_count : (ws : List Word) → length ws ≡ length (cords ws)
 cords_count [] = refl
 cords_count (w ∷ ws) = omega (arith, cords_count ws)
 
 -- a target and 2 to 16 cords
-joined_filled : (n : ℕ) (ws : List Word) (formats : Option (List Want)) → is_count Joined (length ws) ≡ true →
+abbrev joined_filled : (n : ℕ) (ws : List Word) (formats : Option (List Want)) → is_count Joined (length ws) ≡ true →
     first_misfit (joined ws) ws ≡ None → IsFilled (codes "catn") (record { shape = Joined; effect = Stays }) n ws formats
 joined_filled n [] formats count fit = cc
 joined_filled n (w ∷ ws) formats count fit =
@@ -204,7 +204,7 @@ joined_filled n (w ∷ ws) formats count fit =
     }
 
 -- the arguments of conversions
-arguments_given : (ks : List ArgKind) (h : OperandsOf (map want_of_kind ks)) → (args : List Argument) ×
+abbrev arguments_given : (ks : List ArgKind) (h : OperandsOf (map want_of_kind ks)) → (args : List Argument) ×
     (terms (map want_of_kind ks) h ≡ map argument_term args) × (map argument_want args ≡ map want_of_kind ks)
 arguments_given [] h = ([], refl, refl)
 arguments_given (printed.Number ∷ ks) h =
@@ -214,11 +214,11 @@ arguments_given (printed.Cord ∷ ks) h =
     let r = arguments_given ks h.1 in
     (arguments.Cord h.0 ∷ r.0, ap (λ k. Operand kinds.Cord h.0 ∷ k) r.1, ap (λ k. wants.Operand kinds.Cord ∷ k) r.2)
 
-no_format : (o : Option RefusalKind) (ws : List Word) → first_of o (arguments_error None ws) ≡ None → ⊥
+pub no_format : (o : Option RefusalKind) (ws : List Word) → first_of o (arguments_error None ws) ≡ None → ⊥
 no_format o ws h = let wrong = (neither o (Some BadFormat) h).1 in cc
 
 -- a target, a format and what its conversions want
-printed_filled : (n : ℕ) (ws : List Word) (formats : Option (List Want)) → HasFormat Printed ws formats →
+abbrev printed_filled : (n : ℕ) (ws : List Word) (formats : Option (List Want)) → HasFormat Printed ws formats →
     is_count Printed (length ws) ≡ true → words_error Printed formats ws ≡ None → IsFilled (codes "sprintf") (record { shape = Printed; effect = Stays }) n ws formats
 printed_filled n [] formats has count fit = cc
 printed_filled n (w ∷ []) formats has count fit = cc
@@ -245,7 +245,7 @@ printed_filled n (w ∷ Quoted text ∷ ws) (Some xs) has count fit =
     }
 
 -- words after a verb's word, of the right number and without a misfit, say a statement
-filled : (v : Verb) (n : ℕ) (ws : List Word) → Fills (verb_word v) n ws (form_of (verb_word v))
+abbrev pub filled : (v : Verb) (n : ℕ) (ws : List Word) → Fills (verb_word v) n ws (form_of (verb_word v))
 unfolding form_of
 filled verbs.Catn n ws = λ formats has count fit. joined_filled n ws formats count fit
 filled verbs.Sprintf n ws = λ formats has count fit. printed_filled n ws formats has count fit
@@ -260,13 +260,13 @@ filled (verbs.Fixed (fixed_verbs.Control controls.Repeat)) n ws = fixed n ws (λ
 filled v n ws = fixed n ws (λ h. (refl, refl, refl, refl, tt))
 
 -- what the conversions of the format want
-converts_of : FormatOrBad → (text : List ℕ) → (formats : Option (List Want)) × AreWantedBy text formats
+abbrev converts_of : FormatOrBad → (text : List ℕ) → (formats : Option (List Want)) × AreWantedBy text formats
 converts_of law text = elim (law text) [
   | inl h ↦ (Some (wants_of_pieces h.0), (h.0, h.1, refl))
   | inr h ↦ (None, h)
 ]
 
-formats_of : FormatOrBad → (shape : Shape) (ws : List Word) → (formats : Option (List Want)) × HasFormat shape ws formats
+abbrev formats_of : FormatOrBad → (shape : Shape) (ws : List Word) → (formats : Option (List Want)) × HasFormat shape ws formats
 formats_of law Printed (t ∷ Quoted text ∷ ws) = converts_of law text
 formats_of law _ _ = (None, refl)
 
@@ -274,7 +274,7 @@ abbrev SaysOrBad : Grammar → ℕ → Scope → List Word → Type 0
 SaysOrBad g n scope words = ((s : Statement) × Says g n scope words s) ⊎ ((kind : RefusalKind) × HasBadWords g scope words kind)
 
 -- the words after a verb have no error
-well_said : (g : Grammar) (n : ℕ) (scope : Scope) (p : List ℕ) (ws : List Word) (v : Verb) (form : Form) (formats : Option (List Want)) →
+abbrev well_said : (g : Grammar) (n : ℕ) (scope : Scope) (p : List ℕ) (ws : List Word) (v : Verb) (form : Form) (formats : Option (List Want)) →
     g.has p ≡ true → p ≡ verb_word v → form_of (verb_word v) ≡ Some form → HasFormat form.shape ws formats →
     form_error form scope formats ws ≡ None → (s : Statement) × Says g n scope (Plain p ∷ ws) s
 well_said g n scope p ws v form formats has spelled is format fine =
@@ -300,11 +300,11 @@ well_said g n scope p ws v form formats has spelled is format fine =
       },
     )
 
-bad_form : (g : Grammar) (scope : Scope) (p : List ℕ) (ws : List Word) (form : Option Form) (kind : RefusalKind) → form_in g p ≡ form →
+pub bad_form : (g : Grammar) (scope : Scope) (p : List ℕ) (ws : List Word) (form : Option Form) (kind : RefusalKind) → form_in g p ≡ form →
     HasFormError scope form ws kind → HasBadWords g scope (Plain p ∷ ws) kind
 bad_form g scope p ws form kind e h = subst (λ k. HasFormError scope k ws kind) (sym e) h
 
-verb_by : (g : Grammar) (n : ℕ) (scope : Scope) (p : List ℕ) (ws : List Word) (v : Verb) (form : Form) (formats : Option (List Want))
+abbrev verb_by : (g : Grammar) (n : ℕ) (scope : Scope) (p : List ℕ) (ws : List Word) (v : Verb) (form : Form) (formats : Option (List Want))
     (first_error : Option RefusalKind) → g.has p ≡ true → p ≡ verb_word v → form_of (verb_word v) ≡ Some form → form_in g p ≡ Some form →
     HasFormat form.shape ws formats → form_error form scope formats ws ≡ first_error → SaysOrBad g n scope (Plain p ∷ ws)
 verb_by g n scope p ws v form formats None has spelled is reported format e = inl
@@ -313,7 +313,7 @@ verb_by g n scope p ws v form formats (Some kind) has spelled is reported format
     inr (kind, bad_form g scope p ws (Some form) kind reported (formats, format, e))
 
 -- the words after a verb say a statement, or have an error
-verb_says : FormatOrBad → (g : Grammar) (n : ℕ) (scope : Scope) (p : List ℕ) (ws : List Word) (v : Verb) (form : Option Form) →
+abbrev verb_says : FormatOrBad → (g : Grammar) (n : ℕ) (scope : Scope) (p : List ℕ) (ws : List Word) (v : Verb) (form : Option Form) →
     g.has p ≡ true → p ≡ verb_word v → form_of (verb_word v) ≡ form → form_in g p ≡ form → SaysOrBad g n scope (Plain p ∷ ws)
 verb_says law g n scope p ws v None has spelled is reported =
     inr (UnknownStatement, bad_form g scope p ws None UnknownStatement reported refl)
@@ -322,14 +322,14 @@ verb_says law g n scope p ws v (Some form) has spelled is reported =
     verb_by g n scope p ws v form formats.0 (form_error form scope formats.0 ws) has spelled is reported formats.1 refl
 
 -- a verb that is found has the word
-spelled_so : (vs : List Verb) (p : List ℕ) (v : Verb) → find_verb vs p ≡ Some v → p ≡ verb_word v
+pub spelled_so : (vs : List Verb) (p : List ℕ) (v : Verb) → find_verb vs p ≡ Some v → p ≡ verb_word v
 spelled_so [] p v h = cc
 spelled_so (x ∷ xs) p v h = elim (chosen (bytes_eq p (verb_word x)) (Some x) (find_verb xs p) (Some v) h) [
   | inl y ↦ same_bytes p (verb_word x) y.0 ∙ ap verb_word (same_Some x v y.1)
   | inr y ↦ spelled_so xs p v y.1
 ]
 
-allowed_says : FormatOrBad → (g : Grammar) (n : ℕ) (scope : Scope) (p : List ℕ) (ws : List Word) (found : Option Verb) → g.has p ≡ true →
+abbrev allowed_says : FormatOrBad → (g : Grammar) (n : ℕ) (scope : Scope) (p : List ℕ) (ws : List Word) (found : Option Verb) → g.has p ≡ true →
     find_verb all_verbs p ≡ found → form_in g p ≡ form_of p → SaysOrBad g n scope (Plain p ∷ ws)
 allowed_says law g n scope p ws None has e form =
     inr (UnknownStatement, bad_form g scope p ws None UnknownStatement (form ∙ sym (form_found p) ∙ ap form_at e) refl)
@@ -337,7 +337,7 @@ allowed_says law g n scope p ws (Some v) has e form =
     let spelled = spelled_so all_verbs p v e in
     verb_says law g n scope p ws v (form_of (verb_word v)) has spelled refl (form ∙ ap form_of spelled)
 
-word_by : FormatOrBad → (g : Grammar) (n : ℕ) (scope : Scope) (p : List ℕ) (ws : List Word) (x : Bool) → g.has p ≡ x →
+abbrev word_by : FormatOrBad → (g : Grammar) (n : ℕ) (scope : Scope) (p : List ℕ) (ws : List Word) (x : Bool) → g.has p ≡ x →
     SaysOrBad g n scope (Plain p ∷ ws)
 word_by law g n scope p ws true has = allowed_says law g n scope p ws (find_verb all_verbs p) has refl
     (ap (λ b. if b then form_of p else None) has)
@@ -345,7 +345,7 @@ word_by law g n scope p ws false has =
     inr (UnknownStatement, bad_form g scope p ws None UnknownStatement (ap (λ b. if b then form_of p else None) has) refl)
 
 -- words say a statement, or have an error
-pub says_or_bad : FormatOrBad → (g : Grammar) (n : ℕ) (scope : Scope) (words : List Word) → words ≢ [] → SaysOrBad g n scope words
+abbrev pub says_or_bad : FormatOrBad → (g : Grammar) (n : ℕ) (scope : Scope) (words : List Word) → words ≢ [] → SaysOrBad g n scope words
 says_or_bad law g n scope [] some = absurd (some refl)
 says_or_bad law g n scope (Quoted text ∷ ws) some = inr (UnknownStatement, refl)
 says_or_bad law g n scope (Plain p ∷ ws) some = word_by law g n scope p ws (g.has p) refl

@@ -1,41 +1,41 @@
 -- Each line is idle or isn't, and has words or a first error of its bytes.
 use Rattle.std.specs.Prelude.{◌≡◌, ◌≢◌, ◌≤◌, ◌<◌, ◌⊎◌, ◌∷◌, ◌++◌}
 use Rattle.cord_script.proofs.Common.{inl, inr, Some, None, ℕ, zero, suc, List, [], refl, sym, ◌∙◌, ap, append_assoc, length, length-append}
-use Rattle.cord_script.proofs.Common.{arith, All, Option, cases_eq, cases_lt, All-nil, All-cons, MAX_TEXT, RefusalKind, Unterminated}
+use Rattle.cord_script.proofs.Common.{arith, All, Option, All-nil, All-cons, MAX_TEXT, RefusalKind, Unterminated}
 use Rattle.cord_script.proofs.Common.{BadEscape, LiteralTooLong, Word, Plain, Quoted, IsBlank, IsIdle, IsPlainByte, EndsPlain, Stands}
 use Rattle.cord_script.proofs.Common.{SpellsText, HasWord, HasWords, IsBadText, BeginsBadText, HasBadBytes, unit_of}
 use Rattle.cord_script.proofs.Lines.{note_shows}
-use Rattle.cord_script.proofs.Spelled.{spells_push, unit_stands}
+use Rattle.cord_script.proofs.Spelled.{same_or_not, less_or_not, spells_push, unit_stands}
 use Rattle.cord_script.proofs.Unique.{Begins, one_beginning, no_beginning, stands_unit}
 
-no_blank : (c : ℕ) → c ≢ 32 → c ≢ 9 → c ≢ 13 → ¬ IsBlank c
+pub no_blank : (c : ℕ) → c ≢ 32 → c ≢ 9 → c ≢ 13 → ¬ IsBlank c
 no_blank c space tab return (inl e) = space e
 no_blank c space tab return (inr (inl e)) = tab e
 no_blank c space tab return (inr (inr e)) = return e
 
-blank_or_not : (c : ℕ) → IsBlank c ⊎ (¬ IsBlank c)
-blank_or_not c = elim (cases_eq c 32) [
+abbrev blank_or_not : (c : ℕ) → IsBlank c ⊎ (¬ IsBlank c)
+blank_or_not c = elim (same_or_not c 32) [
   | inl e ↦ inl (inl e)
-  | inr space ↦ elim (cases_eq c 9) [
+  | inr space ↦ elim (same_or_not c 9) [
     | inl e ↦ inl (inr (inl e))
-    | inr tab ↦ elim (cases_eq c 13) [
+    | inr tab ↦ elim (same_or_not c 13) [
       | inl e ↦ inl (inr (inr e))
       | inr return ↦ inr (no_blank c space tab return)
     ]
   ]
 ]
 
-plain_or_not : (c : ℕ) → IsPlainByte c ⊎ (¬ IsPlainByte c)
+abbrev plain_or_not : (c : ℕ) → IsPlainByte c ⊎ (¬ IsPlainByte c)
 plain_or_not c = elim (blank_or_not c) [
   | inl blank ↦ inr (λ p. p.0 blank)
-  | inr shows ↦ elim (cases_eq c 34) [
+  | inr shows ↦ elim (same_or_not c 34) [
     | inl quote ↦ inr (λ p. p.1 quote)
     | inr other ↦ inl (shows, other)
   ]
 ]
 
 -- what stands after the blanks at the front, if anything does
-shown : (line : List ℕ) → All IsBlank line ⊎ ((c : ℕ) × (rest : List ℕ) × Begins line c rest)
+abbrev shown : (line : List ℕ) → All IsBlank line ⊎ ((c : ℕ) × (rest : List ℕ) × Begins line c rest)
 shown [] = inl (All-nil IsBlank)
 shown (c ∷ cs) = elim (blank_or_not c) [
   | inr shows ↦ inr (c, cs, record { prefix = []; blank = All-nil IsBlank; shows = shows; whole = refl })
@@ -60,20 +60,20 @@ not_idle line rest c b n (inl all) = no_beginning line rest c b all
 not_idle line rest c b n (inr note) =
     n ((one_beginning line rest note.1 c 35 b (record { prefix = note.0; blank = note.2; shows = note_shows; whole = note.3 })).0)
 
-note_or_not : (line rest : List ℕ) (c : ℕ) → Begins line c rest → IsIdle line ⊎ (¬ IsIdle line)
-note_or_not line rest c b = elim (cases_eq c 35) [
+abbrev note_or_not : (line rest : List ℕ) (c : ℕ) → Begins line c rest → IsIdle line ⊎ (¬ IsIdle line)
+note_or_not line rest c b = elim (same_or_not c 35) [
   | inl e ↦ inl (inr (b.prefix, rest, b.blank, b.whole ∙ ap (λ k. b.prefix ++ k ∷ rest) e))
   | inr n ↦ inr (not_idle line rest c b n)
 ]
 
 -- a line says nothing or something
-pub idle_or_not : (line : List ℕ) → IsIdle line ⊎ (¬ IsIdle line)
+abbrev pub idle_or_not : (line : List ℕ) → IsIdle line ⊎ (¬ IsIdle line)
 idle_or_not line = elim (shown line) [
   | inl all ↦ inl (inl all)
   | inr h ↦ note_or_not line h.1 h.0 h.2
 ]
 
-stands_some : (u : List ℕ) (b : ℕ) → Stands u b → 0 < length u
+pub stands_some : (u : List ℕ) (b : ℕ) → Stands u b → 0 < length u
 stands_some u b (inl h) = omega (arith, ap length h.0)
 stands_some u b (inr (inl h)) = omega (arith, ap length h.0)
 stands_some u b (inr (inr (inl h))) = omega (arith, ap length h.0)
@@ -82,7 +82,7 @@ stands_some u b (inr (inr (inr (inr (inl h))))) = omega (arith, ap length h.0)
 stands_some u b (inr (inr (inr (inr (inr h))))) = omega (arith, ap length h.4)
 
 -- a part that stands for a byte at the front, before fewer bytes
-record HasUnit (rest : List ℕ) : Type 0 where
+pub record HasUnit (rest : List ℕ) : Type 0 where
   pub unit : List ℕ
   pub suffix : List ℕ
   pub byte : ℕ
@@ -90,7 +90,7 @@ record HasUnit (rest : List ℕ) : Type 0 where
   pub stands : Stands unit byte
   pub shorter : length suffix < length rest
 
-unit_or_none : (rest : List ℕ) (o : Option (ℕ × List ℕ)) → unit_of rest ≡ o → HasUnit rest ⊎ (unit_of rest ≡ None)
+abbrev unit_or_none : (rest : List ℕ) (o : Option (ℕ × List ℕ)) → unit_of rest ≡ o → HasUnit rest ⊎ (unit_of rest ≡ None)
 unit_or_none rest None e = inr e
 unit_or_none rest (Some p) e =
     let s = unit_stands rest p.1 p.0 e in
@@ -103,15 +103,15 @@ unit_or_none rest (Some p) e =
       shorter = omega (arith, ap length s.1, length-append s.0 p.1, stands_some s.0 p.0 s.2);
     })
 
-no_some : (p : ℕ × List ℕ) → None ≡ Some p → ⊥
+pub no_some : (p : ℕ × List ℕ) → None ≡ Some p → ⊥
 no_some p e = cc
 
-none_stands : (rest : List ℕ) → unit_of rest ≡ None → (u v : List ℕ) (b : ℕ) → rest ≡ u ++ v → ¬ Stands u b
+pub none_stands : (rest : List ℕ) → unit_of rest ≡ None → (u v : List ℕ) (b : ℕ) → rest ≡ u ++ v → ¬ Stands u b
 none_stands rest none u v b e s = no_some (b, v) (sym none ∙ ap unit_of e ∙ stands_unit u v b s)
 
 -- nothing stands at a byte other than a quote: it is a `\`
-backslash : (c : ℕ) (rest : List ℕ) → c ≢ 34 → unit_of (c ∷ rest) ≡ None → c ≡ 92
-backslash c rest n none = elim (cases_eq c 92) [
+pub backslash : (c : ℕ) (rest : List ℕ) → c ≢ 34 → unit_of (c ∷ rest) ≡ None → c ≡ 92
+backslash c rest n none = elim (same_or_not c 92) [
   | inl e ↦ e
   | inr m ↦ absurd (none_stands (c ∷ rest) none (c ∷ []) rest c refl (inl (refl, n, m)))
 ]
@@ -122,14 +122,14 @@ Inside inner = ((w rest text : List ℕ) × (inner ≡ w ++ 34 ∷ rest) × Spel
     ((kind : RefusalKind) × IsBadText inner kind)
 
 -- what is read of it so far
-record SoFar (inner rest : List ℕ) : Type 0 where
+pub record SoFar (inner rest : List ℕ) : Type 0 where
   pub read : List ℕ
   pub text : List ℕ
   pub whole : inner ≡ read ++ rest
   pub spells : SpellsText read text
   pub few : length text ≤ MAX_TEXT
 
-one_more : (inner rest : List ℕ) (h : SoFar inner rest) (u : HasUnit rest) → length h.text < MAX_TEXT → SoFar inner u.suffix
+abbrev one_more : (inner rest : List ℕ) (h : SoFar inner rest) (u : HasUnit rest) → length h.text < MAX_TEXT → SoFar inner u.suffix
 one_more inner rest h u room = record {
   read = h.read ++ u.unit;
   text = h.text ++ u.byte ∷ [];
@@ -138,10 +138,10 @@ one_more inner rest h u room = record {
   few = omega (arith, room, length-append h.text (u.byte ∷ []));
 }
 
-inside : (n : ℕ) (inner rest : List ℕ) → length rest ≤ n → SoFar inner rest → Inside inner
+abbrev inside : (n : ℕ) (inner rest : List ℕ) → length rest ≤ n → SoFar inner rest → Inside inner
 inside n inner [] le h = inr (Unterminated, (h.read, [], h.text, h.whole, h.spells, h.few, inr (inr (refl, refl))))
 inside zero inner (c ∷ rest) le h = absurd (omega (arith, le))
-inside (suc n) inner (c ∷ rest) le h = elim (cases_eq c 34) [
+inside (suc n) inner (c ∷ rest) le h = elim (same_or_not c 34) [
   | inl e ↦ inl (h.read, rest, h.text, h.whole ∙ ap (λ k. h.read ++ k ∷ rest) e, h.spells, h.few)
   | inr other ↦ elim (unit_or_none (c ∷ rest) (unit_of (c ∷ rest)) refl) [
     | inr none ↦ inr (
@@ -156,7 +156,7 @@ inside (suc n) inner (c ∷ rest) le h = elim (cases_eq c 34) [
         inl (refl, (rest, ap (λ k. k ∷ rest) (backslash c rest other none)), none_stands (c ∷ rest) none),
       ),
     )
-    | inl u ↦ elim (cases_lt (length h.text) MAX_TEXT) [
+    | inl u ↦ elim (less_or_not (length h.text) MAX_TEXT) [
       | inl room ↦ inside n inner u.suffix (omega (arith, le, u.shorter)) (one_more inner (c ∷ rest) h u room)
       | inr full ↦ inr (
         LiteralTooLong,
@@ -175,14 +175,14 @@ inside (suc n) inner (c ∷ rest) le h = elim (cases_eq c 34) [
 ]
 
 -- the bytes of a plain word at the front
-record PlainPrefix (b : List ℕ) : Type 0 where
+pub record PlainPrefix (b : List ℕ) : Type 0 where
   pub prefix : List ℕ
   pub rest : List ℕ
   pub whole : b ≡ prefix ++ rest
   pub all : All IsPlainByte prefix
   pub ends : EndsPlain rest
 
-plain_prefix : (b : List ℕ) → PlainPrefix b
+abbrev plain_prefix : (b : List ℕ) → PlainPrefix b
 plain_prefix [] = record { prefix = []; rest = []; whole = refl; all = All-nil IsPlainByte; ends = tt }
 plain_prefix (c ∷ cs) = longer (plain_prefix cs) (plain_or_not c)
   where
@@ -197,13 +197,13 @@ plain_prefix (c ∷ cs) = longer (plain_prefix cs) (plain_or_not c)
     longer l (inr n) = record { prefix = []; rest = c ∷ cs; whole = refl; all = All-nil IsPlainByte; ends = n }
 
 -- the next word
-record HasFirst (line : List ℕ) : Type 0 where
+pub record HasFirst (line : List ℕ) : Type 0 where
   pub word : Word
   pub rest : List ℕ
   pub is : HasWord line word rest
   pub shorter : length rest < length line
 
-plain_first : (line rest : List ℕ) (c : ℕ) → Begins line c rest → c ≢ 34 → HasFirst line
+abbrev plain_first : (line rest : List ℕ) (c : ℕ) → Begins line c rest → c ≢ 34 → HasFirst line
 plain_first line rest c b n =
     let l = plain_prefix rest in
     let whole : line ≡ b.prefix ++ (c ∷ l.prefix) ++ l.rest =
@@ -215,7 +215,7 @@ plain_first line rest c b n =
       shorter = omega (arith, ap length whole, length-append (b.prefix ++ (c ∷ l.prefix)) l.rest, length-append b.prefix (c ∷ l.prefix));
     }
 
-quoted_first : (line inner prefix : List ℕ) → All IsBlank prefix → line ≡ prefix ++ 34 ∷ inner → Inside inner → HasFirst line ⊎
+abbrev quoted_first : (line inner prefix : List ℕ) → All IsBlank prefix → line ≡ prefix ++ 34 ∷ inner → Inside inner → HasFirst line ⊎
     ((kind : RefusalKind) × BeginsBadText line kind)
 quoted_first line inner prefix blank e (inr bad) = inr (bad.0, (prefix, inner, blank, e, bad.1))
 quoted_first line inner prefix blank e (inl h) =
@@ -228,8 +228,8 @@ quoted_first line inner prefix blank e (inl h) =
       shorter = omega (arith, ap length whole, length-append (prefix ++ 34 ∷ h.0) (34 ∷ h.1));
     })
 
-first_or_bad : (line rest : List ℕ) (c : ℕ) → Begins line c rest → HasFirst line ⊎ ((kind : RefusalKind) × BeginsBadText line kind)
-first_or_bad line rest c b = elim (cases_eq c 34) [
+abbrev first_or_bad : (line rest : List ℕ) (c : ℕ) → Begins line c rest → HasFirst line ⊎ ((kind : RefusalKind) × BeginsBadText line kind)
+first_or_bad line rest c b = elim (same_or_not c 34) [
   | inl e ↦ quoted_first line rest b.prefix b.blank (b.whole ∙ ap (λ k. b.prefix ++ k ∷ rest) e)
       (inside (length rest) rest rest (omega arith) (record { read = []; text = []; whole = refl; spells = refl; few = omega arith }))
   | inr n ↦ inl (plain_first line rest c b n)
@@ -239,11 +239,11 @@ abbrev WordsOrBad : List ℕ → Type 0
 WordsOrBad line = ((ws : List Word) × HasWords line ws) ⊎ ((kind : RefusalKind) × HasBadBytes line kind)
 
 -- one more word in front
-after_word : (line : List ℕ) (w : HasFirst line) → WordsOrBad w.rest → WordsOrBad line
+abbrev after_word : (line : List ℕ) (w : HasFirst line) → WordsOrBad w.rest → WordsOrBad line
 after_word line w (inl h) = inl (w.word ∷ h.0, (h.1.0, (w.rest, w.is, h.1.1), h.1.2))
 after_word line w (inr h) = inr (h.0, (w.word ∷ h.1.0, h.1.1, (w.rest, w.is, h.1.2), h.1.3))
 
-words_by : (line : List ℕ) → ((rest : List ℕ) → length rest < length line → WordsOrBad rest) → WordsOrBad line
+abbrev words_by : (line : List ℕ) → ((rest : List ℕ) → length rest < length line → WordsOrBad rest) → WordsOrBad line
 words_by line more = elim (shown line) [
   | inl all ↦ inl ([], (line, refl, all))
   | inr h ↦ elim (first_or_bad line h.1 h.0 h.2) [
@@ -252,12 +252,12 @@ words_by line more = elim (shown line) [
   ]
 ]
 
-words_up_to : (n : ℕ) (line : List ℕ) → length line ≤ n → WordsOrBad line
+abbrev words_up_to : (n : ℕ) (line : List ℕ) → length line ≤ n → WordsOrBad line
 words_up_to zero line le = words_by line (λ rest lt. absurd (omega (arith, le, lt)))
 words_up_to (suc n) line le = words_by line (λ rest lt. words_up_to n rest (omega (arith, le, lt)))
 
 -- a line has words, or a first error of its bytes
-pub words_or_bad : (line : List ℕ) → WordsOrBad line
+abbrev pub words_or_bad : (line : List ℕ) → WordsOrBad line
 words_or_bad line = words_up_to (length line) line (omega arith)
 
 -- a line that isn't idle has a word

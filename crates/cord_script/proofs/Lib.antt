@@ -11,7 +11,6 @@ pub mod LineReading
 pub mod Lines
 pub mod Magnitudes
 pub mod Readings
-pub mod Samples
 pub mod Single
 pub mod Spelled
 pub mod OneStatement

@@ -6,29 +6,29 @@ use Rattle.cord_script.proofs.Common.{MAX_LINES, Word, Statement, RefusalKind, N
 use Rattle.cord_script.proofs.Common.{Block, ReadsBy, ReadsUpTo, Says, LinesSay, whole, start, after, after_all, InRepeat, InIf, InElse}
 use Rattle.cord_script.proofs.Common.{FirstErrorBy, HasBadLine, IsInnermostOpen, TakesLine, HasWrong, HasReadLines}
 
-all_more_at : {X : Type 0} (P : X → Type 0) (x : X) (xs : List X) → P x → All P xs → (k : ℕ) (d : X) → k < length (x ∷ xs) →
+pub all_more_at : {X : Type 0} (P : X → Type 0) (x : X) (xs : List X) → P x → All P xs → (k : ℕ) (d : X) → k < length (x ∷ xs) →
     P (get_or (x ∷ xs) k d)
 all_more_at P x xs p h zero d lt = p
 all_more_at P x xs p h (suc k) d lt = h k d (omega arith)
 
 -- one more in front
-all_more : {X : Type 0} (P : X → Type 0) (x : X) (xs : List X) → P x → All P xs → All P (x ∷ xs)
+pub all_more : {X : Type 0} (P : X → Type 0) (x : X) (xs : List X) → P x → All P xs → All P (x ∷ xs)
 all_more P x xs p h = λ k d lt. all_more_at P x xs p h k d lt
 
 -- a byte in front of lines
-with_byte : (c : ℕ) (cs : List ℕ) (lines : List (List ℕ)) → c ≢ 10 → IsSplit cs lines → (more : List (List ℕ)) × IsSplit (c ∷ cs) more
+abbrev with_byte : (c : ℕ) (cs : List ℕ) (lines : List (List ℕ)) → c ≢ 10 → IsSplit cs lines → (more : List (List ℕ)) × IsSplit (c ∷ cs) more
 with_byte c cs [] n h =
     ((c ∷ []) ∷ [], (all_more (λ x. x ≢ 10) c [] n (λ k d lt. absurd (omega arith)), inl (refl, (λ e. cc), ap (λ x. c ∷ x) h)))
 with_byte c cs (l ∷ ls) n (all, inl h) = ((c ∷ l) ∷ ls, (all_more (λ x. x ≢ 10) c l n all, inl (h.0, (λ e. cc), ap (λ x. c ∷ x) h.2)))
 with_byte c cs (l ∷ ls) n (all, inr h) = ((c ∷ l) ∷ ls, (all_more (λ x. x ≢ 10) c l n all, inr (h.0, ap (λ x. c ∷ x) h.1, h.2)))
 
-line_by : (c : ℕ) (cs : List ℕ) (x : Bool) (lines : List (List ℕ)) → (c == 10) ≡ x → IsSplit cs lines → (more : List (List ℕ)) ×
+abbrev line_by : (c : ℕ) (cs : List ℕ) (x : Bool) (lines : List (List ℕ)) → (c == 10) ≡ x → IsSplit cs lines → (more : List (List ℕ)) ×
     IsSplit (c ∷ cs) more
 line_by c cs true lines e h = ([] ∷ lines, ((λ k d lt. absurd (omega arith)), inr (cs, ap (λ k. k ∷ cs) (eqb-true c 10 e), h)))
 line_by c cs false lines e h = with_byte c cs lines (eqb-false c 10 e) h
 
 -- each text has lines
-pub some_lines : (b : List ℕ) → (lines : List (List ℕ)) × IsSplit b lines
+abbrev pub some_lines : (b : List ℕ) → (lines : List (List ℕ)) × IsSplit b lines
 some_lines [] = ([], refl)
 some_lines (c ∷ cs) = let r = some_lines cs in line_by c cs (c == 10) r.0 refl r.1
 

@@ -1,5 +1,5 @@
 -- The laws of scripts, line by line.
-use Rattle.std.specs.Prelude.{◌≡◌, ◌≤◌, ◌+◌, ◌∷◌, ◌++◌}
+use Rattle.std.specs.Prelude.{◌≡◌, ◌≤◌, ◌+◌, ◌∷◌, ◌⊎◌, ◌++◌}
 use Rattle.cord_script.proofs.Common.{inl, inr, ℕ, List, [], refl, sym, ◌∙◌, ap, subst, length, length-append, arith, OneFormat}
 use Rattle.cord_script.proofs.Common.{BadIsNoFormat, MAX_LINES, Statement, RefusalKind, IsSplit, IsIdle, HasWords, Grammar, Scope, Block}
 use Rattle.cord_script.proofs.Common.{Says, LinesSay, ReadsBy, start, after, after_all, whole, without_branches, InRepeat, InIf, InElse}
@@ -57,13 +57,19 @@ line_within prefix line later lines n e m few =
     let same = ap length e in
     omega arith
 
+-- no line is wrong among these that say something
+none_among : OneFormat → BadIsNoFormat → (g : Grammar) (b : List ℕ) (n : ℕ) (kind : RefusalKind) (h : IsFirstWrongAt g b n kind)
+    (later lines : List (List ℕ)) (ss : List Statement) → h.prefix ++ h.line ∷ later ≡ lines → length lines ≤ MAX_LINES →
+    LinesSay g 1 start lines ss → ⊥
+none_among one bad g b n kind h later lines ss same few say =
+    no_stop one bad g 1 n start h.prefix h.line later ss h.statements kind (omega (arith, h.number))
+    (line_within h.prefix h.line later lines n same h.number few) (subst (λ x. LinesSay g 1 start x ss) (sym same) say) h.say h.wrong
+
 -- a script that is read stops at no line
 read_goes_on : OneFormat → BadIsNoFormat → (g : Grammar) (b : List ℕ) (lines : List (List ℕ)) (ss : List Statement) (n : ℕ)
     (kind : RefusalKind) → IsSplit b lines → length lines ≤ MAX_LINES → LinesSay g 1 start lines ss → IsFirstWrongAt g b n kind → ⊥
-read_goes_on one bad g b lines ss n kind split few say h =
-    let same = one_split b (h.prefix ++ h.line ∷ h.later) lines h.split split in
-    no_stop one bad g 1 n start h.prefix h.line h.later ss h.statements kind (omega (arith, h.number))
-    (line_within h.prefix h.line h.later lines n same h.number few) (subst (λ x. LinesSay g 1 start x ss) (sym same) say) h.say h.wrong
+read_goes_on one bad g b lines ss n kind split few say h = none_among one bad g b n kind h h.later lines ss
+    (one_split b (h.prefix ++ h.line ∷ h.later) lines h.split split) few say
 
 -- a script that is read has no error
 pub no_error : OneFormat → BadIsNoFormat → (g : Grammar) (b : List ℕ) (ss : List Statement) (n : ℕ) (kind : RefusalKind) → ReadsBy g b ss →
@@ -101,52 +107,45 @@ bad_number : (g : Grammar) (n : ℕ) (scope : Scope) (line : List ℕ) (kind : R
 bad_number g n scope line kind (inl h) = omega (arith, h.0)
 bad_number g n scope line kind (inr h) = omega (arith, h.0)
 
+-- lines up to two places: the places are one, or one is in front of the other
+parted : (p q : List (List ℕ)) (l m : List ℕ) (s t : List (List ℕ)) → p ++ l ∷ s ≡ q ++ m ∷ t → ((p ≡ q) × (l ≡ m)) ⊎
+    ((more : List (List ℕ)) × (p ++ l ∷ more ≡ q)) ⊎ ((more : List (List ℕ)) × (q ++ m ∷ more ≡ p))
+parted [] [] l m s t e = inl (refl, cc)
+parted [] (y ∷ q) l m s t e = inr (inl (q, let same : l ≡ y = cc in ap (λ k. k ∷ q) same))
+parted (x ∷ p) [] l m s t e = inr (inr (p, let same : m ≡ x = cc in ap (λ k. k ∷ p) same))
+parted (x ∷ p) (y ∷ q) l m s t e =
+    let first : x ≡ y = cc in
+    let others : p ++ l ∷ s ≡ q ++ m ∷ t = cc in
+    elim (parted p q l m s t others) [
+      | inl h ↦ inl (ap (λ k. k ∷ p) first ∙ ap (λ k. y ∷ k) h.0, h.1)
+      | inr h ↦ inr (elim h [
+        | inl k ↦ inl (k.0, ap (λ z. z ∷ p ++ l ∷ k.0) first ∙ ap (λ z. y ∷ z) k.1)
+        | inr k ↦ inr (k.0, ap (λ z. z ∷ q ++ m ∷ k.0) (sym first) ∙ ap (λ z. x ∷ z) k.1)
+      ])
+    ]
+
+few_before : (g : Grammar) (b : List ℕ) (n : ℕ) (kind : RefusalKind) (h : IsFirstWrongAt g b n kind) → length h.prefix ≤ MAX_LINES
+few_before g b n kind h = omega (arith, h.number, bad_number g n (after_all h.statements start) h.line kind h.wrong)
+
 -- lines stop at one line
-one_stop : OneFormat → BadIsNoFormat → (g : Grammar) (n m k : ℕ) (scope : Scope) (prefix : List (List ℕ)) (line : List ℕ)
-    (later : List (List ℕ)) (prefix' : List (List ℕ)) (line' : List ℕ) (later' : List (List ℕ)) (ss more : List Statement)
-    (kind other : RefusalKind) → m ≡ n + length prefix → k ≡ n + length prefix' → prefix ++ line ∷ later ≡ prefix' ++ line' ∷ later' →
-    LinesSay g n scope prefix ss → LinesSay g n scope prefix' more → HasBadLine g m (after_all ss scope) line kind →
-    HasBadLine g k (after_all more scope) line' other → (m ≡ k) × (kind ≡ other)
-one_stop one bad g n m k scope [] line later [] line' later' ss more kind other e f lines h h' w w' =
-    let same : line ≡ line' = cc in
-    let numbers : k ≡ m = omega arith in
-    let here = subst (λ x. HasBadLine g m (after_all x scope) line kind) h w in
-    let there = subst (λ x. HasBadLine g x scope line' other) numbers
-    (subst (λ x. HasBadLine g k (after_all x scope) line' other) h' w') in
-    (sym numbers, one_bad_line one bad g m scope line kind other here (subst (λ x. HasBadLine g m scope x other) (sym same) there))
-one_stop one bad g n m k scope [] line later (y ∷ prefix') line' later' ss more kind other e f lines h h' w w' =
-    let same : line ≡ y = cc in
-    let number : m ≡ n = omega arith in
-    let few : n ≤ MAX_LINES = omega (arith, bad_number g k (after_all more scope) line' other w') in
-    let here = subst (λ x. HasBadLine g x scope line kind) number (subst (λ x. HasBadLine g m (after_all x scope) line kind) h w) in
-    absurd (says_fine one bad g n scope y prefix' more kind few h' (subst (λ x. HasBadLine g n scope x kind) same here))
-one_stop one bad g n m k scope (x ∷ prefix) line later [] line' later' ss more kind other e f lines h h' w w' =
-    let same : line' ≡ x = cc in
-    let number : k ≡ n = omega arith in
-    let few : n ≤ MAX_LINES = omega (arith, bad_number g m (after_all ss scope) line kind w) in
-    let there = subst (λ z. HasBadLine g z scope line' other) number
-    (subst (λ z. HasBadLine g k (after_all z scope) line' other) h' w') in
-    absurd (says_fine one bad g n scope x prefix ss other few h (subst (λ z. HasBadLine g n scope z other) same there))
-one_stop one bad g n m k scope (x ∷ prefix) line later (y ∷ prefix') line' later' ss more kind other e f lines (inl h) (inl h') w w' =
-    let others : prefix ++ line ∷ later ≡ prefix' ++ line' ∷ later' = cc in
-    one_stop one bad g (n + 1) m k scope prefix line later prefix' line' later' ss more kind other (omega arith)
-    (omega arith) others h.1 h'.1 w w'
-one_stop one bad g n m k scope (x ∷ prefix) line later (y ∷ prefix') line' later' ss more kind other e f lines (inl h) (inr h') w w' =
-    let first : x ≡ y = cc in
-    absurd (h'.0 (subst IsIdle first h.0))
-one_stop one bad g n m k scope (x ∷ prefix) line later (y ∷ prefix') line' later' ss more kind other e f lines (inr h) (inl h') w w' =
-    let first : x ≡ y = cc in
-    absurd (h.0 (subst IsIdle (sym first) h'.0))
-one_stop one bad g n m k scope (x ∷ prefix) line later (y ∷ prefix') line' later' ss more kind other e f lines (inr h) (inr h') w w' =
-    let first : x ≡ y = cc in
-    let others : prefix ++ line ∷ later ≡ prefix' ++ line' ∷ later' = cc in
-    let words = one_words x h.2 h'.2 h.5 (subst (λ z. HasWords z h'.2) (sym first) h'.5) in
-    let s = one_statement one bad g n scope h.2 h.1 h'.1 h.6 (subst (λ ws. Says g n scope ws h'.1) (sym words) h'.6) in
-    one_stop one bad g (n + 1) m k (after h.1 scope) prefix line later prefix' line' later' h.3 h'.3 kind other (omega arith)
-    (omega arith) others h.7 (subst (λ z. LinesSay g (n + 1) (after z scope) prefix' h'.3) (sym s) h'.7)
-    (subst (λ z. HasBadLine g m (after_all z scope) line kind) h.4 w)
-    (subst (λ z. HasBadLine g k (after_all h'.3 (after z scope)) line' other) (sym s)
-    (subst (λ z. HasBadLine g k (after_all z scope) line' other) h'.4 w'))
+one_stop : OneFormat → BadIsNoFormat → (g : Grammar) (b : List ℕ) (m n : ℕ) (kind other : RefusalKind) → IsFirstWrongAt g b m kind →
+    IsFirstWrongAt g b n other → (m ≡ n) × (kind ≡ other)
+one_stop one bad g b m n kind other h k = elim (parted h.prefix k.prefix h.line k.line h.later k.later (one_split b _ _ h.split k.split)) [
+  | inl same ↦
+      let statements = one_saying one bad g 1 start k.prefix h.statements k.statements
+      (subst (λ x. LinesSay g 1 start x h.statements) same.0 h.say) k.say in
+      let numbers : m ≡ n = omega (arith, h.number, k.number, ap length same.0) in
+      let wrong = subst (λ x. HasBadLine g x (after_all h.statements start) h.line kind) numbers h.wrong in
+      let here = subst (λ x. HasBadLine g n (after_all x start) h.line kind) statements wrong in (
+        numbers,
+        one_bad_line one bad g n (after_all k.statements start) k.line kind other
+            (subst (λ x. HasBadLine g n (after_all k.statements start) x kind) same.1 here) k.wrong,
+      )
+  | inr apart ↦ absurd (elim apart [
+    | inl x ↦ none_among one bad g b m kind h x.0 k.prefix k.statements x.1 (few_before g b n other k) k.say
+    | inr x ↦ none_among one bad g b n other k x.0 h.prefix h.statements x.1 (few_before g b m kind h) h.say
+  ])
+]
 
 one_left : (block : Block) (m n : ℕ) (kind other : RefusalKind) → IsLeftOpen block m kind → IsLeftOpen block n other →
     (m ≡ n) × (kind ≡ other)
@@ -162,10 +161,7 @@ one_error one bad g b m n kind other (inl h) (inr (inl k)) = absurd (omega (arit
 one_error one bad g b m n kind other (inl h) (inr (inr k)) = absurd (omega (arith, h.size, k.size))
 one_error one bad g b m n kind other (inr (inl h)) (inl k) = absurd (omega (arith, h.size, k.size))
 one_error one bad g b m n kind other (inr (inr h)) (inl k) = absurd (omega (arith, h.size, k.size))
-one_error one bad g b m n kind other (inr (inl h)) (inr (inl k)) =
-    let lines = one_split b (h.prefix ++ h.line ∷ h.later) (k.prefix ++ k.line ∷ k.later) h.split k.split in
-    one_stop one bad g 1 m n start h.prefix h.line h.later k.prefix k.line k.later h.statements k.statements kind other
-    (omega (arith, h.number)) (omega (arith, k.number)) lines h.say k.say h.wrong k.wrong
+one_error one bad g b m n kind other (inr (inl h)) (inr (inl k)) = one_stop one bad g b m n kind other h k
 one_error one bad g b m n kind other (inr (inl h)) (inr (inr k)) =
     absurd (read_goes_on one bad g b k.lines k.statements m kind k.split k.count k.say h)
 one_error one bad g b m n kind other (inr (inr h)) (inr (inl k)) =

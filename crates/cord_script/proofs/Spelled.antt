@@ -1,13 +1,24 @@
 -- Quoted words and what they stand for.
-use Rattle.std.specs.Prelude.{◌≡◌, ◌+◌, ◌-◌, ◌*◌, ◌⊎◌, ◌∷◌, ◌++◌, ◌==◌, ◌&&◌, if◌then◌else◌}
+use Rattle.std.specs.Prelude.{◌≡◌, ◌≢◌, ◌<◌, ◌≤◌, ◌+◌, ◌-◌, ◌*◌, ◌⊎◌, ◌∷◌, ◌++◌, ◌==◌, ◌&&◌, if◌then◌else◌}
 use Rattle.cord_script.proofs.Common.{inl, inr, Some, None, ℕ, List, [], Bool, true, false, refl, sym, ◌∙◌, ap, append_assoc, append-nil}
-use Rattle.cord_script.proofs.Common.{arith, eqb-true, Option, nat_le, same_Some, leb-true, eqb-false, Stands, SpellsText, HexDigit}
+use Rattle.cord_script.proofs.Common.{arith, eqb-true, Option, nat_le, nat_lt, ltb-true, ltb-false, same_Some, leb-true, eqb-false, Stands, SpellsText, HexDigit}
 use Rattle.cord_script.proofs.Common.{digit_of, byte_of, hex_of, escape_of, unit_of}
 
 -- which of two values was chosen
-pub chosen : {A : Type 0} (x : Bool) (p q z : A) → (if x then p else q) ≡ z → ((x ≡ true) × (p ≡ z)) ⊎ ((x ≡ false) × (q ≡ z))
+abbrev pub chosen : {A : Type 0} (x : Bool) (p q z : A) → (if x then p else q) ≡ z → ((x ≡ true) × (p ≡ z)) ⊎ ((x ≡ false) × (q ≡ z))
 chosen true p q z h = inl (refl, h)
 chosen false p q z h = inr (refl, h)
+
+-- a test holds or fails
+abbrev pub tested : {A B : Type 0} (x : Bool) → (x ≡ true → A) → (x ≡ false → B) → A ⊎ B
+tested true f g = inl (f refl)
+tested false f g = inr (g refl)
+
+abbrev pub same_or_not : (a b : ℕ) → (a ≡ b) ⊎ (a ≢ b)
+same_or_not a b = tested (a == b) (eqb-true a b) (eqb-false a b)
+
+abbrev pub less_or_not : (a b : ℕ) → (a < b) ⊎ (b ≤ a)
+less_or_not a b = tested (nat_lt a b) (ltb-true a b) (ltb-false a b)
 
 -- both tests hold
 pub both : (x y : Bool) → (x && y) ≡ true → (x ≡ true) × (y ≡ true)

@@ -43,4 +43,6 @@ pub fn branches_change_no_script()
 /// The worked examples: what is read in small texts, and what is wrong with them first.
 pub fn worked_examples_hold()
     ensures { Examples }
-{}
+{
+    bytes_are_format_or_bad();
+}
