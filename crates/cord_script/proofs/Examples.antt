@@ -1,5 +1,5 @@
 -- The worked examples: each text is run through the proof that it is a script or has a first error.
-use Rattle.std.specs.Prelude.{◌≡◌, ◌⊎◌, ◌∷◌}
+use Rattle.std.specs.Prelude.{◌≡◌, ◌∷◌}
 use Rattle.cord_script.proofs.Common.{inl, inr, Some, None, ℕ, List, [], refl, sym, subst, lit≤, arith, Option, codes, bytes_eq, same_Some}
 use Rattle.cord_script.proofs.Common.{FormatOrBad, Conversion, HasWidth, Piece, flags_of, Statement, RefusalKind, ReadsBy, whole}
 use Rattle.cord_script.proofs.Common.{FirstErrorBy}

@@ -10,17 +10,15 @@ use Rattle.cord_script.proofs.Common.{form_in, word_of, terms_of, effect_of, arg
 use Rattle.cord_script.proofs.Common.{Target, Operand, Value, Literal, FilePath, Applies, Compares, Formats, Scope, Says, Suits, IsTerm}
 use Rattle.cord_script.proofs.Common.{AreTerms, FitsBlocks, first_of, unless, misfit, first_pair, first_misfit, name_misfit, is_count}
 use Rattle.cord_script.proofs.Common.{cords, joined, format_wants, arguments_error, words_error, wants_of, names_error, block_error}
-use Rattle.cord_script.proofs.Common.{form_error, HasFormat, HasFormError, HasBadWords, want_of, verb_word, all_verbs, find_verb, form_at}
+use Rattle.cord_script.proofs.Common.{form_error, HasFormat, HasFormError, HasBadWords, verb_word, all_verbs, find_verb}
 use Rattle.cord_printf.specs.declared.pieces.ArgKind.TheVariants as printed
 use Rattle.cord_script.specs.declared.verbs.Verb.TheVariants as verbs
 use Rattle.cord_script.specs.declared.verbs.FixedVerb.TheVariants as fixed_verbs
 use Rattle.cord_script.specs.declared.verbs.Origin.TheVariants as origins
 use Rattle.cord_script.specs.declared.verbs.Composition.TheVariants as compositions
-use Rattle.cord_script.specs.declared.verbs.Derivation.TheVariants as derivations
 use Rattle.cord_script.specs.declared.verbs.Growth.TheVariants as growths
 use Rattle.cord_script.specs.declared.verbs.Computation.TheVariants as computations
 use Rattle.cord_script.specs.declared.verbs.Look.TheVariants as looks
-use Rattle.cord_script.specs.declared.verbs.Search.TheVariants as searches
 use Rattle.cord_script.specs.declared.verbs.Control.TheVariants as controls
 use Rattle.cord_script.specs.declared.kinds.Kind.TheVariants as kinds
 use Rattle.cord_script.specs.declared.kinds.Want.TheVariants as wants
@@ -29,8 +27,8 @@ use Rattle.cord_script.specs.Forms.{form_of}
 use Rattle.cord_script.proofs.Spelled.{both, chosen}
 use Rattle.cord_script.proofs.Checked.{neither, holds}
 use Rattle.cord_script.proofs.Firsts.{same_bytes}
-use Rattle.cord_script.proofs.Terms.{either}
-use Rattle.cord_script.proofs.Tabled.{form_found}
+use Rattle.cord_script.proofs.Terms.{want_of, either}
+use Rattle.cord_script.proofs.Tabled.{form_at, form_found}
 use Rattle.cord_script.proofs.Allowed.{all_allowed, block_right}
 use Rattle.cord_script.proofs.OneStatement.{fixed_made}
 
@@ -251,10 +249,8 @@ filled verbs.Catn n ws = λ formats has count fit. joined_filled n ws formats co
 filled verbs.Sprintf n ws = λ formats has count fit. printed_filled n ws formats has count fit
 filled (verbs.Fixed (fixed_verbs.Origin origins.Let)) n ws = fixed n ws (λ h. (refl, refl, refl, refl, tt))
 filled (verbs.Fixed (fixed_verbs.Composition compositions.Chars)) n ws = fixed n ws (λ h. (refl, refl, refl, refl, tt))
-filled (verbs.Fixed (fixed_verbs.Derivation derivations.Balance)) n ws = fixed n ws (λ h. (refl, refl, refl, refl, tt))
 filled (verbs.Fixed (fixed_verbs.Computation computations.Len)) n ws = fixed n ws (λ h. (refl, refl, refl, refl, tt))
 filled (verbs.Fixed (fixed_verbs.Look looks.Fetch)) n ws = fixed n ws (λ h. (refl, refl, refl, refl, tt))
-filled (verbs.Fixed (fixed_verbs.Search searches.Str)) n ws = fixed n ws (λ h. (refl, refl, refl, refl, tt))
 filled (verbs.Fixed (fixed_verbs.Growth growths.EcInit)) n ws = fixed n ws (λ h. (refl, refl, refl, refl, tt))
 filled (verbs.Fixed (fixed_verbs.Control controls.Repeat)) n ws = fixed n ws (λ h. (refl, refl, refl, refl, tt))
 filled v n ws = fixed n ws (λ h. (refl, refl, refl, refl, tt))

@@ -3,8 +3,8 @@ use Rattle.std.specs.Prelude.{◌≡◌, ◌≤◌, ◌+◌, ◌∷◌}
 use Rattle.cord_script.proofs.Common.{Some, None, ℕ, List, [], refl, sym, ◌∙◌, ap, take, length, arith, eq-eqb, subst, Option, replicate}
 use Rattle.cord_script.proofs.Common.{nat_le, le-leb, take-replicate, MIN_PARTS, MAX_PARTS, Want, FixedVerb, Word, RefusalKind, WrongCount}
 use Rattle.cord_script.proofs.Common.{form_of, Words, Joined, Printed, Stays, Scope, first_of, unless, first_pair, first_misfit, cords}
-use Rattle.cord_script.proofs.Common.{joined, HasFormat, HasFormError, arguments_error, argument_words, names_error, block_error}
-use Rattle.cord_script.proofs.Common.{fixed_word, fixed_effect}
+use Rattle.cord_script.proofs.Common.{joined, verb_word, verb_effect, HasFormat, HasFormError, arguments_error, argument_words, names_error, block_error}
+use Rattle.cord_script.specs.declared.verbs.Verb.TheVariants as verbs
 use Rattle.cord_script.specs.declared.diagnosis.TheConstants.{JOINED, PRINTED}
 use Rattle.cord_script.specs.declared.kinds.Kind.TheVariants as kinds
 use Rattle.cord_script.specs.declared.kinds.Want.TheVariants as wants
@@ -30,8 +30,8 @@ pair_wrong test all reported xs more ws suffix x w kind a e f t n =
 
 -- an error of words whose number is fixed
 pub words_error : (v : FixedVerb) (xs : List Want) (scope : Scope) (ws : List Word) (kind : RefusalKind) →
-    form_of (fixed_word v) ≡ Some (record { shape = Words xs; effect = fixed_effect v }) →
-    wanted_error (fixed_effect v) scope xs ws ≡ Some kind → HasFormError scope (form_of (fixed_word v)) ws kind
+    form_of (verb_word (verbs.Fixed v)) ≡ Some (record { shape = Words xs; effect = verb_effect (verbs.Fixed v) }) →
+    wanted_error (verb_effect (verbs.Fixed v)) scope xs ws ≡ Some kind → HasFormError scope (form_of (verb_word (verbs.Fixed v))) ws kind
 words_error v xs scope ws kind is h = subst (λ form. HasFormError scope form ws kind) (sym is) (None, refl, h)
 
 cords_are : (ws : List Word) → replicate (length ws) (wants.Operand kinds.Cord) ≡ cords ws

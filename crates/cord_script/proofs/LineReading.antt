@@ -3,7 +3,8 @@ use Rattle.std.specs.Prelude.{◌≡◌, ◌∷◌, ◌++◌}
 use Rattle.cord_script.proofs.Common.{◌∙◌, ℕ, List, [], refl, sym, ap, subst, map, map-append, All, Known, FixedVerb, Verb, Word, Statement}
 use Rattle.cord_script.proofs.Common.{IsBlank, StartsWith, Term, terms_of, Target, FilePath, IsTerm, AreTerms, IsAllowed, AreAllowed}
 use Rattle.cord_script.proofs.Common.{names_after, paths_after, LineView, IsFresh, PassesWord, GivesTerm, IsStatementBuilt, SaysLine}
-use Rattle.cord_script.proofs.Common.{names_with, paths_with, fixed_word}
+use Rattle.cord_script.proofs.Common.{names_with, paths_with, verb_word}
+use Rattle.cord_script.specs.declared.verbs.Verb.TheVariants as verbs
 use Rattle.cord_script.specs.inner.LineReading.{GivesAll}
 
 pub no_field : (a : LineView) → GivesAll a [] a
@@ -31,8 +32,8 @@ field_pushed f xs grown x a b c e h k =
     subst (λ ts. GivesAll a ts c) (sym (ap (map f) e ∙ map-append f xs (x ∷ []))) (all_given (map f xs) (f x ∷ []) a b c h (one_field k))
 
 -- the word of a verb that is reported
-pub spelled : {V : Type 0} (of : V → FixedVerb) {a b : V} → a ≡ b → fixed_word (of b) ≡ fixed_word (of a)
-spelled of e = ap (λ v. fixed_word (of v)) (sym e)
+pub spelled : {V : Type 0} (of : V → FixedVerb) {a b : V} → a ≡ b → verb_word (verbs.Fixed (of b)) ≡ verb_word (verbs.Fixed (of a))
+spelled of e = ap (λ v. verb_word (verbs.Fixed (of v))) (sym e)
 
 -- the names with what stays added
 same_names : (old new : LineView) → new.name ≡ old.name → names_with old.scope.names new.name ≡ names_with old.scope.names old.name

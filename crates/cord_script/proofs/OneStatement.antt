@@ -9,7 +9,7 @@ use Rattle.cord_script.proofs.Common.{Shape, Form, Effect, Term, form_in, word_o
 use Rattle.cord_script.proofs.Common.{Joined, Printed, Stays, OpensRepeat, OpensIf, Turns, Closes, Target, Operand, Value, Literal}
 use Rattle.cord_script.proofs.Common.{FilePath, Applies, Compares, Formats, AreWantedBy, want_of_kind, Scope, Block, Says, Suits, AreTerms}
 use Rattle.cord_script.proofs.Common.{FitsBlocks, first_of, unless, misfit, first_pair, is_count, cords, wants_of, words_error, else_error}
-use Rattle.cord_script.proofs.Common.{block_error, names_error, form_error, HasFormat, HasFormError, HasBadWords, want_of}
+use Rattle.cord_script.proofs.Common.{block_error, names_error, form_error, HasFormat, HasFormError, HasBadWords}
 use Rattle.cord_printf.specs.Format.{IsFormat}
 use Rattle.cord_script.specs.declared.kinds.Kind.TheVariants as kinds
 use Rattle.cord_script.specs.declared.kinds.Want.TheVariants as wants
@@ -18,7 +18,7 @@ use Rattle.cord_script.specs.Forms.{form_of}
 use Rattle.cord_script.proofs.Checked.{neither}
 use Rattle.cord_script.proofs.Unique.{within}
 use Rattle.cord_script.proofs.Allowed.{none_wrong}
-use Rattle.cord_script.proofs.Terms.{words_fit, terms_count, one_list}
+use Rattle.cord_script.proofs.Terms.{want_of, words_fit, terms_count, one_list}
 
 -- The form of a statement's word, with what its words have to be.
 pub record IsRightForm (others : List Word) (s : Statement) : Type 0 where

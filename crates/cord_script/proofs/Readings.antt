@@ -4,7 +4,7 @@ use Rattle.cord_script.proofs.Common.{inl, inr, Some, None, ℕ, zero, suc, List
 use Rattle.cord_script.proofs.Common.{length, length-append, arith, get_or, Bool, true, false, eqb-true, All, eqb-false, MAX_SCRIPT}
 use Rattle.cord_script.proofs.Common.{MAX_LINES, Word, Statement, RefusalKind, NoMemory, IsSplit, IsIdle, HasWords, line_of, Grammar, Scope}
 use Rattle.cord_script.proofs.Common.{Block, ReadsBy, ReadsUpTo, Says, LinesSay, whole, start, after, after_all, InRepeat, InIf, InElse}
-use Rattle.cord_script.proofs.Common.{FirstErrorBy, HasBadLine, IsInnermostOpen, TakesLine, HasWrong, HasReadLines}
+use Rattle.cord_script.proofs.Common.{FirstErrorBy, HasBadLine, IsInnermostOpen, TakesLine, HasWrong}
 
 pub all_more_at : {X : Type 0} (P : X → Type 0) (x : X) (xs : List X) → P x → All P xs → (k : ℕ) (d : X) → k < length (x ∷ xs) →
     P (get_or (x ∷ xs) k d)
@@ -76,6 +76,14 @@ says_more g n m scope (x ∷ prefix) line ss s words (inr h) e shows hw says =
       says_more g (n + 1) m (after h.1 scope) prefix line h.3 s words h.7 (omega arith) shows hw
           (subst (λ x. Says g m (after_all x scope) words s) h.4 says),
     )
+
+-- the lines that were read in front of the rest, what they say, and what they leave
+pub record HasReadLines (b rest : List ℕ) (n : ℕ) (scope : Scope) (statements : List Statement) : Type 0 where
+  pub prefix : List (List ℕ)
+  pub split : (later : List (List ℕ)) → IsSplit rest later → IsSplit b (prefix ++ later)
+  pub say : LinesSay whole 1 start prefix statements
+  pub number : n ≡ length prefix + 1
+  pub leaves : after_all statements start ≡ scope
 
 -- a line that was read is one of the lines in front
 pub reads_line : (b rest suffix line : List ℕ) (n : ℕ) (old new : Scope) (ss grown : List Statement) → HasReadLines b rest n old ss →

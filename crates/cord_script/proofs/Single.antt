@@ -1,7 +1,7 @@
 -- The laws of scripts, line by line.
 use Rattle.std.specs.Prelude.{◌≡◌, ◌≤◌, ◌+◌, ◌∷◌, ◌⊎◌, ◌++◌}
 use Rattle.cord_script.proofs.Common.{inl, inr, ℕ, List, [], refl, sym, ◌∙◌, ap, subst, length, length-append, arith, OneFormat}
-use Rattle.cord_script.proofs.Common.{BadIsNoFormat, MAX_LINES, Statement, RefusalKind, IsSplit, IsIdle, HasWords, Grammar, Scope, Block}
+use Rattle.cord_script.proofs.Common.{BadIsNoFormat, MAX_LINES, Statement, RefusalKind, IsSplit, Grammar, Scope, Block}
 use Rattle.cord_script.proofs.Common.{Says, LinesSay, ReadsBy, start, after, after_all, whole, without_branches, InRepeat, InIf, InElse}
 use Rattle.cord_script.proofs.Common.{HasBadWords, HasBadLine, IsFirstWrongAt, IsLeftOpen, FirstErrorBy}
 use Rattle.cord_script.proofs.Unique.{one_words, good_bytes, one_bad_bytes, one_split}

@@ -1,8 +1,15 @@
 -- The table of statements, as the code looks a word up in it.
 use Rattle.std.specs.Prelude.{◌≡◌, ◌∷◌, if◌then◌else◌}
-use Rattle.cord_script.proofs.Common.{Some, None, ℕ, List, [], length, Bool, true, false, refl, sym, ◌∙◌, ap, rules, Option, MatchOption}
-use Rattle.cord_script.proofs.Common.{filter, cond, bytes_eq, Verb, verb_word, find_verb, form_at, all_verbs, has_length, verbs_of}
+use Rattle.cord_script.proofs.Common.{Some, None, ℕ, List, [], length, Bool, true, false, sym, ◌∙◌, ap, Option, MatchOption, refl}
+use Rattle.cord_script.proofs.Common.{filter, cond, bytes_eq, Form, Verb, verb_word, find_verb, all_verbs, verbs_of}
 use Rattle.cord_script.specs.Forms.{form_of}
+use Rattle.cord_script.proofs.Firsts.{same_bytes}
+use Rattle.cord_script.proofs.Unique.{not_true}
+
+-- the form of a verb's word
+abbrev pub form_at : Option Verb → Option Form
+form_at None = None
+form_at (Some v) = form_of (verb_word v)
 
 -- a choice of verbs is a choice of forms
 form_chosen : (c : Bool) (v : Verb) (o : Option Verb) → form_at (if c then Some v else o) ≡ (if c then form_at (Some v) else form_at o)
@@ -14,23 +21,28 @@ pub form_found : (w : List ℕ) → form_at (find_verb all_verbs w) ≡ form_of 
 unfolding form_of
 form_found w = simp form_chosen
 
--- a verb whose word has another length has another word
-other_word : (w : List ℕ) (v : Verb) → has_length (length w) v ≡ false → bytes_eq w (verb_word v) ≡ false
-other_word w v e = search rules
+-- a verb whose word's length fails a test has another word than one whose length passes it
+other_word : (test : ℕ → Bool) (w : List ℕ) (v : Verb) → test (length w) ≡ true → test (length (verb_word v)) ≡ false →
+    bytes_eq w (verb_word v) ≡ false
+other_word test w v passes fails = not_true (bytes_eq w (verb_word v)) (λ same.
+    let clash : true ≡ false = sym passes ∙ ap (λ x. test (length x)) (same_bytes w (verb_word v) same) ∙ fails in
+    cc)
 
--- a word is a verb's if it is that of one with a word of its length
-by_length : (vs : List Verb) (w : List ℕ) → find_verb (filter (has_length (length w)) vs) w ≡ find_verb vs w
-by_length [] w = refl
-by_length (v ∷ vs) w = among (has_length (length w) v) refl (by_length vs w)
+-- a word whose length passes a test is a verb's if it is that of one whose word's length does
+by_length : (test : ℕ → Bool) (vs : List Verb) (w : List ℕ) → test (length w) ≡ true →
+    find_verb (filter (λ v. test (length (verb_word v))) vs) w ≡ find_verb vs w
+by_length test [] w passes = refl
+by_length test (v ∷ vs) w passes = among (test (length (verb_word v))) refl (by_length test vs w passes)
   where
-    among : (b : Bool) → has_length (length w) v ≡ b → find_verb (filter (has_length (length w)) vs) w ≡ find_verb vs w →
-        find_verb (cond b (v ∷ filter (has_length (length w)) vs) (filter (has_length (length w)) vs)) w ≡ find_verb (v ∷ vs) w
+    among : (b : Bool) → test (length (verb_word v)) ≡ b →
+        find_verb (filter (λ v. test (length (verb_word v))) vs) w ≡ find_verb vs w →
+        find_verb (cond b (v ∷ filter (λ v. test (length (verb_word v))) vs) (filter (λ v. test (length (verb_word v))) vs)) w
+        ≡ find_verb (v ∷ vs) w
     among true e h = ap (λ o. if bytes_eq w (verb_word v) then Some v else o) h
-    among false e h = h ∙ sym (ap (λ b. if b then Some v else find_verb vs w) (other_word w v e))
+    among false e h = h ∙ sym (ap (λ b. if b then Some v else find_verb vs w) (other_word test w v passes e))
 
--- a word that is that of no verb of its length is no statement's word
-pub found : {n : ℕ} (w : List ℕ) (r : Option Verb) → length w ≡ n →
-    MatchOption r (find_verb (verbs_of n) w ≡ None) (λ v. w ≡ verb_word v) → MatchOption r (form_of w ≡ None) (λ v. w ≡ verb_word v)
-found w None e h =
-    sym (form_found w) ∙ ap form_at (sym (by_length all_verbs w) ∙ ap (λ k. find_verb (verbs_of k) w) e ∙ h)
-found w (Some v) e h = h
+-- a word that is that of no verb whose word's length passes is no statement's word, where its length passes
+pub found : (test : ℕ → Bool) (w : List ℕ) (r : Option Verb) → test (length w) ≡ true →
+    MatchOption r (find_verb (verbs_of test) w ≡ None) (λ v. w ≡ verb_word v) → MatchOption r (form_of w ≡ None) (λ v. w ≡ verb_word v)
+found test w None passes h = sym (form_found w) ∙ ap form_at (sym (by_length test all_verbs w passes) ∙ h)
+found test w (Some v) passes h = h

@@ -7,11 +7,22 @@ use Rattle.cord_script.proofs.Common.{is_letter, is_name, each, are_digits, numb
 use Rattle.cord_script.proofs.Common.{relation_word, Term, Target, Operand, Value, Literal, FilePath, Applies, Compares, Formats, kind_of}
 use Rattle.cord_script.proofs.Common.{IsTerm, AreTerms, first_of, unless, misfit, first_misfit, kind_error, same_kind, number_error}
 use Rattle.cord_script.proofs.Common.{plain_number_misfit, function_misfit, relation_misfit, name_misfit, number_misfit, text_misfit}
-use Rattle.cord_script.proofs.Common.{path_misfit, want_of}
+use Rattle.cord_script.proofs.Common.{path_misfit, Want}
 use Rattle.cord_script.specs.declared.kinds.Kind.TheVariants as kinds
 use Rattle.cord_script.specs.declared.kinds.Want.TheVariants as wants
 use Rattle.cord_script.proofs.Spelled.{both, chosen}
 use Rattle.cord_script.proofs.Unique.{above, head_or}
+
+-- what a term has to be
+abbrev pub want_of : Term → Want
+want_of (Target kind name) = wants.Target kind
+want_of (Operand kind name) = wants.Operand kind
+want_of (Value number) = wants.Number
+want_of (Literal text) = wants.Text
+want_of (FilePath path) = wants.Path
+want_of (Applies function) = wants.Function
+want_of (Compares relation) = wants.Relation
+want_of (Formats text) = wants.Format
 
 -- one of two tests holds
 abbrev pub either : (x y : Bool) → (x || y) ≡ true → (x ≡ true) ⊎ (y ≡ true)

@@ -1,10 +1,8 @@
 pub mod Common
 pub mod ContextViews
 pub mod Diagnosis
-pub mod Fields
 pub mod LineReading
 pub mod Reading
 pub mod Steps
 pub mod Tables
 pub mod Verbal
-pub mod Words

@@ -10,7 +10,7 @@ ghost use Rattle.cord_script.specs.Script.{whole};
 ghost use Rattle.cord_script.specs.inner.ContextViews.{scope_of};
 ghost use Rattle.cord_script.specs.inner.Diagnosis.{wanted_error};
 ghost use Rattle.cord_script.specs.inner.Steps.{HasWrong};
-ghost use Rattle.cord_script.specs.inner.Verbal.{fixed_word, verb_word};
+ghost use Rattle.cord_script.specs.inner.Verbal.{verb_word};
 
 use crate::context::Context;
 use crate::errors::{Pass, earliest_error, wanted_error};
@@ -49,7 +49,7 @@ fn none_of(first_error: Option<RefusalKind>) -> Result<(), RefusalKind>
 // What is wrong with words whose number the verb fixes.
 fn fixed_error(context: &Context, verb: FixedVerb, words: &[Word]) -> Result<(), RefusalKind>
     ensures { IfErr result (λ kind. kind ≢ RefusalKind.NoMemory →
-        HasFormError (scope_of context.now) (form_of (fixed_word verb)) words.now kind) }
+        HasFormError (scope_of context.now) (form_of (verb_word (Verb.Fixed verb))) words.now kind) }
 {
     none_of(wanted_error(context, Verb::Fixed(verb), wants_of(verb), words))
 }

@@ -1,14 +1,12 @@
 // What a word says that is a path, a function or a relation.
-ghost use Rattle.std.specs.Prelude.{◌≡◌, ◌&&◌, true, false, is_some, IfSome, ℕ, List};
+ghost use Rattle.std.specs.Prelude.{◌≡◌, ◌==◌, ◌&&◌, not, true, false, is_some, IfSome, ℕ, List};
 ghost use Rattle.std.specs.Str.{is_utf8};
 ghost use Rattle.cord_script.specs.Tests.{each, is_path, begins_numeral, function_word, relation_word};
 ghost use Rattle.cord_script.specs.FirstErrors.{unless, function_misfit, relation_misfit};
-ghost use Rattle.cord_script.specs.inner.Fields.{is_no_zero};
 
 use crate::numerals::is_digit;
 use crate::words::Word;
 use crate::{Function, MAX_PATH, Path, RefusalKind, Relation, Text};
-use memchr::memchr;
 
 /// Whether a word begins as a numeral: with a digit or `-`.
 pub fn begins_numeral(word: &[u8]) -> bool
@@ -22,9 +20,14 @@ pub fn begins_numeral(word: &[u8]) -> bool
 
 // Whether a byte 0 stands nowhere.
 fn has_no_zero(bytes: &[u8]) -> bool
-    ensures { result ≡ each is_no_zero bytes.now }
+    ensures { result ≡ each (λ c. not (c == 0)) bytes.now }
 {
-    memchr(0, bytes).is_none()
+    for byte in bytes {
+        if *byte == 0 {
+            return false;
+        }
+    }
+    true
 }
 
 // Whether bytes are UTF-8.

@@ -1,19 +1,17 @@
 // The statements' words, and what the words after them have to be.
-ghost use Rattle.std.specs.Prelude.{◌≡◌, MatchOption, Some, None};
+ghost use Rattle.std.specs.Prelude.{◌≡◌, nat_eq, nat_le, MatchOption, Some, None};
 ghost use Rattle.cord_script.specs.Forms.{form_of};
 ghost use Rattle.cord_script.specs.Forms.Shape.{Words};
-ghost use Rattle.cord_script.specs.inner.Verbal.{verb_word, fixed_word, fixed_effect, find_verb, verbs_of};
+ghost use Rattle.cord_script.specs.inner.Verbal.{verb_word, verb_effect, find_verb, verbs_of};
 
 use crate::kinds::Kind::{self, Cord, Extensible};
 use crate::kinds::Want::{self, Function, Number, Operand, Path, Relation, Target, Text};
-use crate::verbs::{
-    Composition, Computation, Control, Derivation, FixedVerb, Growth, Look, Origin, Search, Verb,
-};
+use crate::verbs::{Composition, Computation, Control, FixedVerb, Growth, Look, Origin, Verb};
 
 // The verb of a word of two letters.
 #[inline(always)]
 fn verb_of_two(word: &[u8]) -> Option<Verb>
-    ensures { MatchOption result (find_verb (verbs_of 2) word.now ≡ None) (λ verb. word.now ≡ verb_word verb) }
+    ensures { MatchOption result (find_verb (verbs_of (nat_eq 2)) word.now ≡ None) (λ verb. word.now ≡ verb_word verb) }
 {
     match word {
         b"fn" => Some(Verb::Fixed(FixedVerb::Origin(Origin::FromFn))),
@@ -25,12 +23,12 @@ fn verb_of_two(word: &[u8]) -> Option<Verb>
 // The verb of a word of three letters.
 #[inline(always)]
 fn verb_of_three(word: &[u8]) -> Option<Verb>
-    ensures { MatchOption result (find_verb (verbs_of 3) word.now ≡ None) (λ verb. word.now ≡ verb_word verb) }
+    ensures { MatchOption result (find_verb (verbs_of (nat_eq 3)) word.now ≡ None) (λ verb. word.now ≡ verb_word verb) }
 {
     match word {
         b"add" => Some(Verb::Fixed(FixedVerb::Computation(Computation::Add))),
         b"cat" => Some(Verb::Fixed(FixedVerb::Composition(Composition::Cat))),
-        b"chr" => Some(Verb::Fixed(FixedVerb::Search(Search::Chr))),
+        b"chr" => Some(Verb::Fixed(FixedVerb::Look(Look::Chr))),
         b"cmp" => Some(Verb::Fixed(FixedVerb::Look(Look::Cmp))),
         b"end" => Some(Verb::Fixed(FixedVerb::Control(Control::End))),
         b"len" => Some(Verb::Fixed(FixedVerb::Computation(Computation::Len))),
@@ -38,7 +36,7 @@ fn verb_of_three(word: &[u8]) -> Option<Verb>
         b"nul" => Some(Verb::Fixed(FixedVerb::Composition(Composition::Nul))),
         b"put" => Some(Verb::Fixed(FixedVerb::Put)),
         b"set" => Some(Verb::Fixed(FixedVerb::Computation(Computation::Assign))),
-        b"str" => Some(Verb::Fixed(FixedVerb::Search(Search::Str))),
+        b"str" => Some(Verb::Fixed(FixedVerb::Look(Look::Str))),
         b"sub" => Some(Verb::Fixed(FixedVerb::Computation(Computation::Sub))),
         _ => None,
     }
@@ -47,7 +45,7 @@ fn verb_of_three(word: &[u8]) -> Option<Verb>
 // The verb of a word of four letters.
 #[inline(always)]
 fn verb_of_four(word: &[u8]) -> Option<Verb>
-    ensures { MatchOption result (find_verb (verbs_of 4) word.now ≡ None) (λ verb. word.now ≡ verb_word verb) }
+    ensures { MatchOption result (find_verb (verbs_of (nat_eq 4)) word.now ≡ None) (λ verb. word.now ≡ verb_word verb) }
 {
     match word {
         b"catc" => Some(Verb::Fixed(FixedVerb::Composition(Composition::Catc))),
@@ -56,7 +54,7 @@ fn verb_of_four(word: &[u8]) -> Option<Verb>
         b"file" => Some(Verb::Fixed(FixedVerb::Origin(Origin::File))),
         b"lazy" => Some(Verb::Fixed(FixedVerb::Origin(Origin::Lazy))),
         b"ncmp" => Some(Verb::Fixed(FixedVerb::Look(Look::Ncmp))),
-        b"rchr" => Some(Verb::Fixed(FixedVerb::Search(Search::Rchr))),
+        b"rchr" => Some(Verb::Fixed(FixedVerb::Look(Look::Rchr))),
         _ => None,
     }
 }
@@ -64,7 +62,7 @@ fn verb_of_four(word: &[u8]) -> Option<Verb>
 // The verb of a word of five letters.
 #[inline(always)]
 fn verb_of_five(word: &[u8]) -> Option<Verb>
-    ensures { MatchOption result (find_verb (verbs_of 5) word.now ≡ None) (λ verb. word.now ≡ verb_word verb) }
+    ensures { MatchOption result (find_verb (verbs_of (nat_eq 5)) word.now ≡ None) (λ verb. word.now ≡ verb_word verb) }
 {
     match word {
         b"chars" => Some(Verb::Fixed(FixedVerb::Composition(Composition::Chars))),
@@ -77,38 +75,18 @@ fn verb_of_five(word: &[u8]) -> Option<Verb>
     }
 }
 
-// The verb of a word of six letters.
+// The verb of a word of six letters or more.
 #[inline(always)]
-fn verb_of_six(word: &[u8]) -> Option<Verb>
-    ensures { MatchOption result (find_verb (verbs_of 6) word.now ≡ None) (λ verb. word.now ≡ verb_word verb) }
+fn verb_of_long(word: &[u8]) -> Option<Verb>
+    ensures { MatchOption result (find_verb (verbs_of (nat_le 6)) word.now ≡ None) (λ verb. word.now ≡ verb_word verb) }
 {
     match word {
         b"ecinit" => Some(Verb::Fixed(FixedVerb::Growth(Growth::EcInit))),
         b"repeat" => Some(Verb::Fixed(FixedVerb::Control(Control::Repeat))),
         b"substr" => Some(Verb::Fixed(FixedVerb::Composition(Composition::Substr))),
-        _ => None,
-    }
-}
-
-// The verb of a word of seven letters.
-#[inline(always)]
-fn verb_of_seven(word: &[u8]) -> Option<Verb>
-    ensures { MatchOption result (find_verb (verbs_of 7) word.now ≡ None) (λ verb. word.now ≡ verb_word verb) }
-{
-    match word {
-        b"balance" => Some(Verb::Fixed(FixedVerb::Derivation(Derivation::Balance))),
+        b"balance" => Some(Verb::Fixed(FixedVerb::Composition(Composition::Balance))),
         b"sprintf" => Some(Verb::Sprintf),
-        _ => None,
-    }
-}
-
-// The verb of a word of eight letters.
-#[inline(always)]
-fn verb_of_eight(word: &[u8]) -> Option<Verb>
-    ensures { MatchOption result (find_verb (verbs_of 8) word.now ≡ None) (λ verb. word.now ≡ verb_word verb) }
-{
-    match word {
-        b"ectocord" => Some(Verb::Fixed(FixedVerb::Derivation(Derivation::EcToCord))),
+        b"ectocord" => Some(Verb::Fixed(FixedVerb::Composition(Composition::EcToCord))),
         _ => None,
     }
 }
@@ -123,9 +101,7 @@ pub fn verb_of(word: &[u8]) -> Option<Verb>
         3 => verb_of_three(word),
         4 => verb_of_four(word),
         5 => verb_of_five(word),
-        6 => verb_of_six(word),
-        7 => verb_of_seven(word),
-        8 => verb_of_eight(word),
+        6.. => verb_of_long(word),
         _ => None,
     }
 }
@@ -151,8 +127,8 @@ const ADD: [Want; 3] = [Target(Kind::Number), Number, Number];
 #[tactic(auto, unfolding(crate::specs::Forms::form_of))]
 #[inline(always)]
 pub fn wants_of(verb: FixedVerb) -> &'static [Want]
-    ensures { form_of (fixed_word verb)
-        ≡ Some (record { shape = Words result.now; effect = fixed_effect verb }) }
+    ensures { form_of (verb_word (Verb.Fixed verb))
+        ≡ Some (record { shape = Words result.now; effect = verb_effect (Verb.Fixed verb) }) }
 {
     match verb {
         FixedVerb::Origin(Origin::Let) => &[Target(Cord), Text],
@@ -166,14 +142,14 @@ pub fn wants_of(verb: FixedVerb) -> &'static [Want]
         FixedVerb::Composition(Composition::Cat) => &[Target(Cord), Operand(Cord), Operand(Cord)],
         FixedVerb::Composition(Composition::Catc) => &[Target(Cord), Operand(Cord), Number],
         FixedVerb::Composition(Composition::Substr) => &SUBSTR,
-        FixedVerb::Derivation(Derivation::Balance) => &[Target(Cord), Operand(Cord)],
-        FixedVerb::Derivation(Derivation::EcToCord) => &[Target(Cord), Operand(Extensible)],
+        FixedVerb::Composition(Composition::Balance) => &[Target(Cord), Operand(Cord)],
+        FixedVerb::Composition(Composition::EcToCord) => &[Target(Cord), Operand(Extensible)],
         FixedVerb::Computation(Computation::Len) => &[Target(Kind::Number), Operand(Cord)],
         FixedVerb::Look(Look::Fetch) => &[Target(Kind::Number), Operand(Cord), Number],
         FixedVerb::Look(Look::Cmp) => &[Target(Kind::Number), Operand(Cord), Operand(Cord)],
         FixedVerb::Look(Look::Ncmp) => &NCMP,
-        FixedVerb::Search(Search::Str) => &STR,
-        FixedVerb::Search(Search::Chr) | FixedVerb::Search(Search::Rchr) => &CHR,
+        FixedVerb::Look(Look::Str) => &STR,
+        FixedVerb::Look(Look::Chr) | FixedVerb::Look(Look::Rchr) => &CHR,
         FixedVerb::Computation(Computation::Assign) => &[Target(Kind::Number), Number],
         FixedVerb::Computation(Computation::Add) | FixedVerb::Computation(Computation::Sub) => &ADD,
         FixedVerb::Growth(Growth::EcInit) => &[Target(Extensible)],

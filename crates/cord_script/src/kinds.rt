@@ -1,7 +1,7 @@
 // The kinds of names, and what a word of a statement has to be.
 
 /// What a name stands for, from the first line that assigns it.
-#[derive(Clone, Copy, Debug, PartialEq, Eq)]
+#[derive(Clone, Copy)]
 pub enum Kind {
     Cord,
     Number,
@@ -9,7 +9,7 @@ pub enum Kind {
 }
 
 /// What a word of a statement has to be.
-#[derive(Clone, Copy, Debug, PartialEq, Eq)]
+#[derive(Clone, Copy)]
 pub enum Want {
     /// The name that the line assigns.
     Target(Kind),

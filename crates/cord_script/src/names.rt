@@ -1,8 +1,7 @@
 // Whether a word is a name, and what is wrong with the kind of a name.
-ghost use Rattle.std.specs.Prelude.{◌≡◌, true, Some};
-ghost use Rattle.cord_script.specs.Tests.{is_letter, is_name, each};
+ghost use Rattle.std.specs.Prelude.{◌≡◌, ◌||◌, true, Some};
+ghost use Rattle.cord_script.specs.Tests.{is_letter, is_digit, is_name, each};
 ghost use Rattle.cord_script.specs.FirstErrors.{kind_error, assigned_error, same_kind};
-ghost use Rattle.cord_script.specs.inner.Fields.{is_inner};
 
 use crate::kinds::Kind;
 use crate::numerals::is_digit;
@@ -16,13 +15,13 @@ fn is_letter(c: u8) -> bool
 }
 
 fn is_inner(c: u8) -> bool
-    ensures { result ≡ is_inner c }
+    ensures { result ≡ (is_letter c || is_digit c) }
 {
     is_letter(c) || is_digit(c)
 }
 
 fn all_inner(word: &[u8]) -> bool
-    ensures { result ≡ each is_inner word.now }
+    ensures { result ≡ each (λ c. is_letter c || is_digit c) word.now }
 {
     for c in word {
         if !is_inner(*c) {

@@ -10,9 +10,7 @@ use crate::following::{
 use crate::kinds::Kind::{Cord, Extensible, Number};
 use crate::no_statement::NoStatement;
 use crate::remaining_words::LineWords;
-use crate::verbs::{
-    Composition, Computation, Control, Derivation, FixedVerb, Growth, Look, Origin, Search, Verb,
-};
+use crate::verbs::{Composition, Computation, Control, FixedVerb, Growth, Look, Origin, Verb};
 
 // The fields of a variant, as they are nested where one was asked for before the others.
 macro_rules! nested {
@@ -56,7 +54,7 @@ fn origin_of(verb: Origin, line: u32, words: &mut LineWords) -> Result<Statement
     )
 }
 
-// A statement that makes a cord that an expression gives.
+// A statement that makes a cord of numbers, cords or an extensible cord.
 #[inline(always)]
 fn composition_of(
     verb: Composition,
@@ -72,20 +70,6 @@ fn composition_of(
         Cat(target, left, right) = with_target(Cord, (Operand(Cord), Operand(Cord)), words),
         Catc(target, operand, byte) = with_target(Cord, (Operand(Cord), Value), words),
         Substr(target, operand, start, count) = with_target(Cord, (Operand(Cord), (Value, Value)), words),
-    )
-}
-
-// A statement that makes a cord anew of a cord or an extensible cord.
-#[inline(always)]
-fn derivation_of(
-    verb: Derivation,
-    line: u32,
-    words: &mut LineWords,
-) -> Result<Statement, NoStatement>
-    requires { IsFresh words.old }
-    ensures { IfOk result (IsStatementBuilt (Verb.Fixed (FixedVerb.Derivation verb)) line words.old words.new) }
-{
-    family!(Derivation, verb, line;
         Balance(target, operand) = with_target(Cord, Operand(Cord), words),
         EcToCord(target, extensible) = with_target(Cord, Operand(Extensible), words),
     )
@@ -109,7 +93,7 @@ fn computation_of(
     )
 }
 
-// A statement that looks at bytes.
+// A statement that looks at bytes or searches a cord.
 #[inline(always)]
 fn look_of(verb: Look, line: u32, words: &mut LineWords) -> Result<Statement, NoStatement>
     requires { IsFresh words.old }
@@ -123,16 +107,6 @@ fn look_of(verb: Look, line: u32, words: &mut LineWords) -> Result<Statement, No
             (Operand(Cord), (SharedValue, (Operand(Cord), (SharedValue, SharedValue)))),
             words
         ),
-    )
-}
-
-// A statement that searches a cord.
-#[inline(always)]
-fn search_of(verb: Search, line: u32, words: &mut LineWords) -> Result<Statement, NoStatement>
-    requires { IsFresh words.old }
-    ensures { IfOk result (IsStatementBuilt (Verb.Fixed (FixedVerb.Search verb)) line words.old words.new) }
-{
-    family!(Search, verb, line;
         Str(target, operand, start, pattern) = with_target(Number, (Operand(Cord), (Value, Operand(Cord))), words),
         Chr(target, operand, start, byte) = with_target(Number, (Operand(Cord), (Value, Value)), words),
         Rchr(target, operand, start, byte) = with_target(Number, (Operand(Cord), (Value, Value)), words),
@@ -171,15 +145,6 @@ fn control_of(verb: Control, line: u32, words: &mut LineWords) -> Result<Stateme
     }
 }
 
-// A `put`.
-#[inline(always)]
-fn put_of(line: u32, words: &mut LineWords) -> Result<Statement, NoStatement>
-    requires { IsFresh words.old }
-    ensures { IfOk result (IsStatementBuilt (Verb.Fixed FixedVerb.Put) line words.old words.new) }
-{
-    statement!(line, Put, (operand) = Operand(Cord).read(words))
-}
-
 // The statement of a verb whose number of words is fixed.
 #[inline(always)]
 fn fixed_statement_of(
@@ -193,11 +158,9 @@ fn fixed_statement_of(
     match verb {
         FixedVerb::Origin(origin) => origin_of(origin, line, words),
         FixedVerb::Composition(composition) => composition_of(composition, line, words),
-        FixedVerb::Derivation(derivation) => derivation_of(derivation, line, words),
-        FixedVerb::Put => put_of(line, words),
+        FixedVerb::Put => statement!(line, Put, (operand) = Operand(Cord).read(words)),
         FixedVerb::Computation(computation) => computation_of(computation, line, words),
         FixedVerb::Look(look) => look_of(look, line, words),
-        FixedVerb::Search(search) => search_of(search, line, words),
         FixedVerb::Growth(growth) => growth_of(growth, line, words),
         FixedVerb::Control(control) => control_of(control, line, words),
     }

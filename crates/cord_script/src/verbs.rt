@@ -16,18 +16,14 @@ pub enum Verb {
 pub enum FixedVerb {
     /// A cord made of no other name's value.
     Origin(Origin),
-    /// A cord that an expression over others gives.
+    /// A cord made of numbers, cords or an extensible cord.
     Composition(Composition),
-    /// A cord made anew of a cord or an extensible cord.
-    Derivation(Derivation),
     /// `put`.
     Put,
     /// A number that needs no byte.
     Computation(Computation),
-    /// A byte, or the order of bytes.
+    /// A byte, the order of bytes, or a place in a cord.
     Look(Look),
-    /// A place in a cord.
-    Search(Search),
     /// An extensible cord that is made or grows.
     Growth(Growth),
     /// Which lines run next.
@@ -50,10 +46,6 @@ pub enum Composition {
     Cat,
     Catc,
     Substr,
-}
-
-#[derive(Clone, Copy)]
-pub enum Derivation {
     Balance,
     EcToCord,
 }
@@ -71,10 +63,6 @@ pub enum Look {
     Fetch,
     Cmp,
     Ncmp,
-}
-
-#[derive(Clone, Copy)]
-pub enum Search {
     Str,
     Chr,
     Rchr,

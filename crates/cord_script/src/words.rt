@@ -2,10 +2,8 @@
 ghost use Rattle.std.specs.Prelude.{◌≡◌, ◌≢◌, ◌<◌, ◌≤◌, ℕ, List, [], ◌∷◌, ◌++◌, length, take, drop, All, IfOk, IfErr};
 ghost use Rattle.std.specs.Prelude.{OnOk, IfSome, MatchOption, option_map, IsTrue, false};
 ghost use Rattle.cord_script.specs.Words.{IsBlank, IsPlainByte, EndsPlain, SpellsText, IsBadText, HasWord};
-ghost use Rattle.cord_script.specs.inner.Words.{StartsNoBlank};
-ghost use Rattle.cord_script.specs.inner.Words.{HasNext};
 ghost use Rattle.cord_script.specs.Words.{BeginsBadText, HasWords, HasBadBytes};
-ghost use Rattle.cord_script.specs.inner.Reading.{digit_of, hex_of, escape_of, unit_of};
+ghost use Rattle.cord_script.specs.inner.Reading.{HasNext, StartsNoBlank, digit_of, hex_of, escape_of, unit_of};
 
 use crate::{MAX_TEXT, RefusalKind, Text};
 use std::alloc::Global;

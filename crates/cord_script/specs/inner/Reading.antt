@@ -1,6 +1,6 @@
--- What bytes of a word stand for, computed as the code does it.
-use Rattle.std.specs.Prelude.{◌+◌, ◌*◌, ◌-◌, ◌^◌, ◌∷◌, ◌&&◌, ◌==◌, if◌then◌else◌}
-use Rattle.cord_script.specs.inner.Common.{ℕ, List, [], nat_le, Option, Some, None, is_digit, each, number_after}
+-- The next word of a line, and what bytes of a word stand for, computed as the code does it.
+use Rattle.std.specs.Prelude.{◌<◌, ◌+◌, ◌*◌, ◌-◌, ◌^◌, ◌∷◌, ◌&&◌, ◌==◌, if◌then◌else◌}
+use Rattle.cord_script.specs.inner.Common.{ℕ, List, [], length, All, nat_le, Option, Some, None, is_digit, each, number_after, Word, IsBlank, HasWord}
 
 -- the value of a hexadecimal digit
 abbrev pub digit_of : ℕ → Option ℕ
@@ -36,3 +36,12 @@ unit_of (c ∷ rest) = if c == 92 then escape_of rest else (if c == 34 then None
 -- the number that digits write after those that write n, where it is at most the greatest magnitude
 abbrev pub magnitude_from : ℕ → List ℕ → Option ℕ
 magnitude_from n ds = if each is_digit ds && nat_le (number_after n ds) (2 ^ 63) then Some (number_after n ds) else None
+
+-- the next word with what follows it, or none, where blanks alone are left
+abbrev pub HasNext : List ℕ → Option (Word × List ℕ) → Type 0
+HasNext line None = All IsBlank line
+HasNext line (Some (word, rest)) = HasWord line word rest × (length rest < length line)
+
+abbrev pub StartsNoBlank : List ℕ → Type 0
+StartsNoBlank [] = Unit {0}
+StartsNoBlank (c ∷ rest) = ¬ IsBlank c

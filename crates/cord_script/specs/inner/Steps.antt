@@ -1,7 +1,7 @@
 -- What the parser's steps tell of a line.
-use Rattle.std.specs.Prelude.{◌≡◌, ◌+◌, ◌⊎◌, ◌∷◌, ◌++◌}
-use Rattle.cord_script.specs.inner.Common.{ℕ, List, [], length, Option, Some, None, option_to_list, Word, Statement, RefusalKind, IsIdle}
-use Rattle.cord_script.specs.inner.Common.{IsSplit, HasWords, HasBadBytes, Scope, Says, LinesSay, whole, start, after, after_all}
+use Rattle.std.specs.Prelude.{◌≡◌, ◌⊎◌, ◌∷◌, ◌++◌}
+use Rattle.cord_script.specs.inner.Common.{ℕ, List, [], Option, Some, None, option_to_list, Word, Statement, RefusalKind, IsIdle}
+use Rattle.cord_script.specs.inner.Common.{HasWords, HasBadBytes, Scope, Says, whole, after}
 use Rattle.cord_script.specs.FirstErrors.{HasBadWords}
 
 -- what the words of line n say after these lines, and what is left after it
@@ -31,11 +31,3 @@ pub record AddsStatement (n : ℕ) (line : List ℕ) (old new : Scope) (ss grown
 abbrev pub HasWrong : List ℕ → Scope → RefusalKind → Type 0
 HasWrong line scope kind = (¬ IsIdle line) × (HasBadBytes line kind ⊎
     ((words : List Word) × HasWords line words × HasBadWords whole scope words kind))
-
--- the lines that were read in front of the rest, what they say, and what they leave
-pub record HasReadLines (b rest : List ℕ) (n : ℕ) (scope : Scope) (statements : List Statement) : Type 0 where
-  pub prefix : List (List ℕ)
-  pub split : (later : List (List ℕ)) → IsSplit rest later → IsSplit b (prefix ++ later)
-  pub say : LinesSay whole 1 start prefix statements
-  pub number : n ≡ length prefix + 1
-  pub leaves : after_all statements start ≡ scope

@@ -1,27 +1,23 @@
-use Rattle.cord_script.proofs.Common.{None, refl, rules}
+use Rattle.std.specs.Prelude.{nat_eq}
+use Rattle.cord_script.proofs.Common.{None, nat_le, nat_lt, ap, refl, arith, length, le-leb, suc}
 use Rattle.cord_script.proofs.Tabled.{found}
 use Rattle.cord_script.proofs.grammar.verb_of.Goals as goal
 
 pub returns-in-2 : goal.returns-in-2
-returns-in-2 c = found c.args.word.now c.verb_of_two.result c.in-2.is c.verb_of_two.ensures
+returns-in-2 c = found (nat_eq 2) c.args.word.now c.verb_of_two.result (ap (nat_eq 2) c.in-2.is) c.verb_of_two.ensures
 
 pub returns-in-3 : goal.returns-in-3
-returns-in-3 c = found c.args.word.now c.verb_of_three.result c.in-3.is c.verb_of_three.ensures
+returns-in-3 c = found (nat_eq 3) c.args.word.now c.verb_of_three.result (ap (nat_eq 3) c.in-3.is) c.verb_of_three.ensures
 
 pub returns-in-4 : goal.returns-in-4
-returns-in-4 c = found c.args.word.now c.verb_of_four.result c.in-4.is c.verb_of_four.ensures
+returns-in-4 c = found (nat_eq 4) c.args.word.now c.verb_of_four.result (ap (nat_eq 4) c.in-4.is) c.verb_of_four.ensures
 
 pub returns-in-5 : goal.returns-in-5
-returns-in-5 c = found c.args.word.now c.verb_of_five.result c.in-5.is c.verb_of_five.ensures
+returns-in-5 c = found (nat_eq 5) c.args.word.now c.verb_of_five.result (ap (nat_eq 5) c.in-5.is) c.verb_of_five.ensures
 
-pub returns-in-6 : goal.returns-in-6
-returns-in-6 c = found c.args.word.now c.verb_of_six.result c.in-6.is c.verb_of_six.ensures
-
-pub returns-in-7 : goal.returns-in-7
-returns-in-7 c = found c.args.word.now c.verb_of_seven.result c.in-7.is c.verb_of_seven.ensures
-
-pub returns-in-8 : goal.returns-in-8
-returns-in-8 c = found c.args.word.now c.verb_of_eight.result c.in-8.is c.verb_of_eight.ensures
+pub returns-in-6-to-max : goal.returns-in-6-to-max
+returns-in-6-to-max c =
+    found (nat_le 6) c.args.word.now c.verb_of_long.result (le-leb 6 (length c.args.word.now) (omega arith)) c.verb_of_long.ensures
 
 pub returns-in_default : goal.returns-in_default
-returns-in_default c = found c.args.word.now None refl (search rules)
+returns-in_default c = found (λ n. nat_lt n 2) c.args.word.now None (le-leb (suc (length c.args.word.now)) 2 (omega arith)) refl

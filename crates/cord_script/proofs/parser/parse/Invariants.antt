@@ -1,5 +1,6 @@
 use Rattle.std.specs.Prelude.{◌≤◌, ◌+◌}
-use Rattle.cord_script.proofs.Common.{length, All, MAX_LINES, line_of, scope_of, HasReadLines}
+use Rattle.cord_script.proofs.Common.{length, All, MAX_LINES, line_of, scope_of}
+use Rattle.cord_script.proofs.Readings.{HasReadLines}
 use Rattle.cord_script.proofs.parser.parse.Given as goal
 
 abbrev pub invariant-lines : goal.invariant-lines
