@@ -104,9 +104,9 @@ reads_line b rest suffix line n old new ss grown r first (Some s, t, e) =
       split = λ later h. subst (IsSplit b) (sym (append_assoc r.prefix (line ∷ []) later)) (r.split (line ∷ later) (first later h));
       say = subst (LinesSay whole 1 start (r.prefix ++ line ∷ [])) (sym e)
           (says_more whole 1 n start r.prefix line ss s t.1 r.say (omega (arith, r.number)) t.0 t.2
-          (subst (λ x. Says whole n x t.1 s) (sym r.leaves) t.3.says));
+          (subst (λ x. Says whole n x t.1 s) (sym r.leaves) t.3));
       number = omega (arith, r.number, length-append r.prefix (line ∷ []));
-      leaves = ap (λ x. after_all x start) e ∙ after_push ss (s ∷ []) start ∙ ap (after s) r.leaves ∙ t.3.leaves;
+      leaves = ap (λ x. after_all x start) e ∙ after_push ss (s ∷ []) start ∙ ap (after s) r.leaves ∙ t.4;
     }
 
 -- the line that is being read
@@ -208,5 +208,5 @@ pub numbered_line : (n : ℕ) (line : List ℕ) (old new : Scope) (ss grown : Li
     TakesLine n line old new ss grown → All (λ x. 1 ≤ line_of x) grown
 numbered_line n line old new ss grown one h (None, t, e) = subst (All (λ x. 1 ≤ line_of x)) (sym (e ∙ append-nil ss)) h
 numbered_line n line old new ss grown one h (Some s, t, e) =
-    let own : 1 ≤ line_of s = omega (arith, t.3.says.line) in
+    let own : 1 ≤ line_of s = omega (arith, t.3.line) in
     subst (All (λ x. 1 ≤ line_of x)) (sym e) (numbered_push ss s h own)

@@ -1,8 +1,8 @@
 // What the lines before a line leave, and what a line adds to it.
-ghost use Rattle.std.specs.Prelude.{◌≡◌, true, ◌<◌, nat_lt, OnOk, length};
+ghost use Rattle.std.specs.Prelude.{◌≡◌, true, ◌<◌, nat_lt, option_map, OnOk, length};
 ghost use Rattle.cord_script.specs.Script.{start, is_among, with_path};
 ghost use Rattle.cord_script.specs.inner.ContextViews.{scope_of};
-ghost use Rattle.cord_script.specs.inner.LineReading.{name_added, left_after};
+ghost use Rattle.cord_script.specs.inner.LineReading.{left_after};
 ghost use Rattle.cord_script.specs.inner.Verbal.{verb_effect};
 
 use crate::added::Added;
@@ -78,7 +78,7 @@ impl Context {
     #[inline(always)]
     pub fn leave(&mut self, verb: Verb, line: u32, added: Added) -> Result<(), AllocError>
         ensures left { OnOk result (scope_of self.new
-            ≡ left_after (verb_effect verb) line (name_added added) added.path (scope_of self.old)) }
+            ≡ left_after (verb_effect verb) line (option_map (λ n. n.known) added.name) added.path (scope_of self.old)) }
     {
         let Added { name, path } = added;
         if let Some(new) = name {

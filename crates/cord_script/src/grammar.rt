@@ -133,9 +133,7 @@ pub fn wants_of(verb: FixedVerb) -> &'static [Want]
     match verb {
         FixedVerb::Origin(Origin::Let) => &[Target(Cord), Text],
         FixedVerb::Put => &[Operand(Cord)],
-        FixedVerb::Origin(Origin::File)
-        | FixedVerb::Origin(Origin::Eager)
-        | FixedVerb::Origin(Origin::Lazy) => &[Target(Cord), Path],
+        FixedVerb::Origin(Origin::File | Origin::Eager | Origin::Lazy) => &[Target(Cord), Path],
         FixedVerb::Composition(Composition::Chars) => &[Target(Cord), Number, Number],
         FixedVerb::Composition(Composition::Nul) => &[Target(Cord), Number],
         FixedVerb::Origin(Origin::FromFn) => &[Target(Cord), Function, Number],

@@ -14,17 +14,11 @@ fn is_letter(c: u8) -> bool
     matches!(c, b'a'..=b'z' | b'A'..=b'Z' | b'_')
 }
 
-fn is_inner(c: u8) -> bool
-    ensures { result ≡ (is_letter c || is_digit c) }
-{
-    is_letter(c) || is_digit(c)
-}
-
 fn all_inner(word: &[u8]) -> bool
     ensures { result ≡ each (λ c. is_letter c || is_digit c) word.now }
 {
     for c in word {
-        if !is_inner(*c) {
+        if !is_letter(*c) && !is_digit(*c) {
             return false;
         }
     }

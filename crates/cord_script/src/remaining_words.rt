@@ -1,5 +1,5 @@
 // The words of a line that are still to be read, after what the lines before it leave.
-ghost use Rattle.std.specs.Prelude.{◌≡◌, ◌≤◌, ◌<◌, true, None, map, length, Some, IfOk, OnOk, All};
+ghost use Rattle.std.specs.Prelude.{◌≡◌, ◌≤◌, ◌<◌, true, None, map, option_map, length, Some, IfOk, OnOk, All};
 ghost use Rattle.cord_printf.specs.Format.{IsFormat};
 ghost use Rattle.cord_script.specs.declared.words.Word.TheVariants.{Plain};
 ghost use Rattle.cord_script.specs.declared.kinds.Want.{Want};
@@ -11,7 +11,7 @@ ghost use Rattle.cord_script.specs.Forms.{argument_term, argument_want};
 ghost use Rattle.cord_script.specs.Forms.Term.{Target, Operand, Value, Literal, FilePath, Applies, Compares, Formats};
 ghost use Rattle.cord_script.specs.Script.{kind_of};
 ghost use Rattle.cord_script.specs.inner.ContextViews.{scope_of};
-ghost use Rattle.cord_script.specs.inner.LineReading.{IsFresh, PassesWord, GivesTerm, GivesAll, name_added};
+ghost use Rattle.cord_script.specs.inner.LineReading.{IsFresh, PassesWord, GivesTerm, GivesAll};
 
 use crate::added::{Added, NewName};
 use crate::context::Context;
@@ -72,7 +72,7 @@ impl<'a> LineWords<'a> {
 
     /// What the words that were read add to what the lines before leave.
     pub fn into_added(self) -> Added
-        ensures name { name_added result ≡ self.entry.name }
+        ensures name { option_map (λ n. n.known) result.name ≡ self.entry.name }
         ensures path { result.path ≡ self.entry.path }
     {
         Added {

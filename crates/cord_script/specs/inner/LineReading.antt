@@ -1,9 +1,8 @@
 -- What the words of a line give, after what the lines before it leave.
 use Rattle.std.specs.Prelude.{◌≡◌, ◌∷◌}
-use Rattle.cord_script.specs.inner.Common.{ℕ, List, [], Option, Some, None, option_map, Known, Verb, Word, Statement, HasWord, HasWords}
+use Rattle.cord_script.specs.inner.Common.{ℕ, List, [], Option, Some, None, Known, Verb, Word, Statement, HasWord, HasWords}
 use Rattle.cord_script.specs.inner.Common.{Effect, Term, word_of, terms_of, effect_of, Scope, IsTerm, AreTerms, IsAllowed, AreAllowed}
 use Rattle.cord_script.specs.inner.Common.{Suits, with_name, with_path, names_after, paths_after, blocks_after}
-use Rattle.cord_script.specs.declared.added.Added.{Added}
 use Rattle.cord_syntax.specs.Lines.{line_of}
 use Rattle.cord_script.specs.inner.Verbal.{verb_word, verb_effect}
 
@@ -28,10 +27,6 @@ names_with names (Some known) = with_name names known.name known.kind
 abbrev pub paths_with : List (List ℕ) → Option (List ℕ) → List (List ℕ)
 paths_with paths None = paths
 paths_with paths (Some path) = with_path paths path
-
--- the name that a line adds
-abbrev pub name_added : Added → Option Known
-name_added added = option_map (λ n. n.known) added.name
 
 -- what a line leaves that does this to the blocks, and adds a name and a path
 abbrev pub left_after : Effect → ℕ → Option Known → Option (List ℕ) → Scope → Scope

@@ -5,7 +5,7 @@ use Rattle.cord_script.proofs.parser.take_line.Goals as goal
 pub returns-then-branch-clause-takes : goal.returns-then-branch-clause-takes
 returns-then-branch-clause-takes c =
     let h = c.in_ok-take_statement.ensures.adds c.if-branch.true in
-    (Some h.statement, (h.shows, h.words, h.has, h.says), h.added)
+    (Some h.0, h.1, h.2)
 
 pub returns-then-is_idle-clause-takes : goal.returns-then-is_idle-clause-takes
 returns-then-is_idle-clause-takes c =
