@@ -3,7 +3,7 @@ pub use Rattle.std.proofs.Common.{ap, append-nil, append_assoc, arith, eq-eqb, e
 pub use Rattle.std.proofs.Common.{subst, sym, ◌∙◌}
 pub use Rattle.std.proofs.lemmas.Bool.{eqb-false, le-leb, leb-true, lt-leb, ltb-false, ltb-true, ne_eqb}
 pub use Rattle.std.proofs.lemmas.List.{drop_more, map-append, take-append-drop, take-replicate, take_all, take_more}
-pub use Rattle.std.proofs.lemmas.List.Elements.{All-cons, All-head, All-nil}
+pub use Rattle.std.proofs.lemmas.List.Elements.{All-cons, All-head, All-nil, All-tail}
 pub use Rattle.std.proofs.lemmas.Option.{same_Some, slice_get_read}
 pub use Rattle.std.proofs.lemmas.Result.{IfErr-weaker, IfOk-at_ok, IfOk-weaker, err_from_is_err_and}
 pub use Rattle.std.proofs.lemmas.Str.{IsUtf8-from_is_utf8, IsUtf8-string_bytes, is_utf8-from_IsUtf8}

@@ -1,7 +1,7 @@
 -- Lines of a script.
 use Rattle.std.specs.Prelude.{◌≡◌, ◌≢◌, ◌<◌, ◌+◌, ◌∷◌, ◌++◌, ◌==◌}
 use Rattle.cord_script.proofs.Common.{inl, inr, ℕ, zero, suc, List, [], refl, sym, ◌∙◌, ap, subst, take, drop, length, arith, Bool, true}
-use Rattle.cord_script.proofs.Common.{false, Some, None, eq-eqb, eqb-true, eqb-false, All-nil, All-cons, All, MatchBool, take-append-drop}
+use Rattle.cord_script.proofs.Common.{false, Some, None, eq-eqb, eqb-true, eqb-false, All-nil, All-cons, All-head, All-tail, All, MatchBool, take-append-drop}
 use Rattle.cord_script.proofs.Common.{take_all, Nowhere, Passes, IsFirstByte, is_byte, IsSplit, IsBlank, IsIdle, StartsNoBlank}
 
 -- a list in two parts
@@ -52,27 +52,20 @@ split_last b lines some h s = (
 pub idle_note : (line inner : List ℕ) (b : ℕ) → drop b line ≡ 35 ∷ inner → All IsBlank (take b line) → IsIdle line
 idle_note line inner b e h = inr (take b line, inner, h, parts b line ∙ ap (λ x. take b line ++ x) e)
 
--- the first and the others of a list of which this holds
-pub head_of : (P : ℕ → Type 0) (x : ℕ) (xs : List ℕ) → All P (x ∷ xs) → P x
-head_of P x xs h = h zero x (omega arith)
-
-pub tail_of : (P : ℕ → Type 0) (x : ℕ) (xs : List ℕ) → All P (x ∷ xs) → All P xs
-tail_of P x xs h = λ k d lt. h (suc k) d (omega arith)
-
 -- a byte that is no blank
 pub not_all_blank : (prefix rest : List ℕ) (c : ℕ) → All IsBlank (prefix ++ c ∷ rest) → ¬ IsBlank c → ⊥
-not_all_blank [] rest c h n = n (head_of IsBlank c rest h)
-not_all_blank (x ∷ xs) rest c h n = not_all_blank xs rest c (tail_of IsBlank x (xs ++ c ∷ rest) h) n
+not_all_blank [] rest c h n = n (All-head IsBlank c rest h)
+not_all_blank (x ∷ xs) rest c h n = not_all_blank xs rest c (All-tail IsBlank x (xs ++ c ∷ rest) h) n
 
 -- the blanks at the front end at one place
 pub one_prefix : (f g : List ℕ) (c d : ℕ) (r s : List ℕ) → All IsBlank f → ¬ IsBlank c → All IsBlank g → ¬ IsBlank d →
     f ++ c ∷ r ≡ g ++ d ∷ s → (f ≡ g) × (c ≡ d) × (r ≡ s)
 one_prefix [] [] c d r s hf nc hg nd e = (refl, cc, cc)
-one_prefix [] (y ∷ g) c d r s hf nc hg nd e = let same : y ≡ c = cc in absurd (nc (subst IsBlank same (head_of IsBlank y g hg)))
-one_prefix (x ∷ f) [] c d r s hf nc hg nd e = let same : x ≡ d = cc in absurd (nd (subst IsBlank same (head_of IsBlank x f hf)))
+one_prefix [] (y ∷ g) c d r s hf nc hg nd e = let same : y ≡ c = cc in absurd (nc (subst IsBlank same (All-head IsBlank y g hg)))
+one_prefix (x ∷ f) [] c d r s hf nc hg nd e = let same : x ≡ d = cc in absurd (nd (subst IsBlank same (All-head IsBlank x f hf)))
 one_prefix (x ∷ f) (y ∷ g) c d r s hf nc hg nd e =
     let rest : f ++ c ∷ r ≡ g ++ d ∷ s = cc in
-    let t = one_prefix f g c d r s (tail_of IsBlank x f hf) nc (tail_of IsBlank y g hg) nd rest in
+    let t = one_prefix f g c d r s (All-tail IsBlank x f hf) nc (All-tail IsBlank y g hg) nd rest in
     let same : x ≡ y = cc in
     (let fs = t.0 in cc, t.1, t.2)
 

@@ -1,26 +1,17 @@
 -- The lines of a script and what they say, one after the other.
-use Rattle.std.specs.Prelude.{◌≡◌, ◌≢◌, ◌≤◌, ◌<◌, ◌+◌, ◌∷◌, ◌++◌, ◌==◌}
+use Rattle.std.specs.Prelude.{◌≡◌, ◌≢◌, ◌≤◌, ◌+◌, ◌∷◌, ◌++◌, ◌==◌}
 use Rattle.cord_script.proofs.Common.{inl, inr, Some, None, ℕ, zero, suc, List, [], refl, sym, ◌∙◌, ap, subst, append_assoc, append-nil}
-use Rattle.cord_script.proofs.Common.{length, length-append, arith, get_or, Bool, true, false, eqb-true, All, eqb-false, MAX_SCRIPT}
+use Rattle.cord_script.proofs.Common.{length, length-append, arith, Bool, true, false, eqb-true, All, All-cons, eqb-false, MAX_SCRIPT}
 use Rattle.cord_script.proofs.Common.{MAX_LINES, Word, Statement, RefusalKind, NoMemory, IsSplit, IsIdle, HasWords, line_of, Grammar, Scope}
 use Rattle.cord_script.proofs.Common.{Block, ReadsBy, ReadsUpTo, Says, LinesSay, whole, start, after, after_all, InRepeat, InIf, InElse}
 use Rattle.cord_script.proofs.Common.{FirstErrorBy, HasBadLine, IsInnermostOpen, TakesLine, HasWrong}
 
-pub all_more_at : {X : Type 0} (P : X → Type 0) (x : X) (xs : List X) → P x → All P xs → (k : ℕ) (d : X) → k < length (x ∷ xs) →
-    P (get_or (x ∷ xs) k d)
-all_more_at P x xs p h zero d lt = p
-all_more_at P x xs p h (suc k) d lt = h k d (omega arith)
-
--- one more in front
-pub all_more : {X : Type 0} (P : X → Type 0) (x : X) (xs : List X) → P x → All P xs → All P (x ∷ xs)
-all_more P x xs p h = λ k d lt. all_more_at P x xs p h k d lt
-
 -- a byte in front of lines
 abbrev with_byte : (c : ℕ) (cs : List ℕ) (lines : List (List ℕ)) → c ≢ 10 → IsSplit cs lines → (more : List (List ℕ)) × IsSplit (c ∷ cs) more
 with_byte c cs [] n h =
-    ((c ∷ []) ∷ [], (all_more (λ x. x ≢ 10) c [] n (λ k d lt. absurd (omega arith)), inl (refl, (λ e. cc), ap (λ x. c ∷ x) h)))
-with_byte c cs (l ∷ ls) n (all, inl h) = ((c ∷ l) ∷ ls, (all_more (λ x. x ≢ 10) c l n all, inl (h.0, (λ e. cc), ap (λ x. c ∷ x) h.2)))
-with_byte c cs (l ∷ ls) n (all, inr h) = ((c ∷ l) ∷ ls, (all_more (λ x. x ≢ 10) c l n all, inr (h.0, ap (λ x. c ∷ x) h.1, h.2)))
+    ((c ∷ []) ∷ [], (All-cons (λ x. x ≢ 10) c [] n (λ k d lt. absurd (omega arith)), inl (refl, (λ e. cc), ap (λ x. c ∷ x) h)))
+with_byte c cs (l ∷ ls) n (all, inl h) = ((c ∷ l) ∷ ls, (All-cons (λ x. x ≢ 10) c l n all, inl (h.0, (λ e. cc), ap (λ x. c ∷ x) h.2)))
+with_byte c cs (l ∷ ls) n (all, inr h) = ((c ∷ l) ∷ ls, (All-cons (λ x. x ≢ 10) c l n all, inr (h.0, ap (λ x. c ∷ x) h.1, h.2)))
 
 abbrev line_by : (c : ℕ) (cs : List ℕ) (x : Bool) (lines : List (List ℕ)) → (c == 10) ≡ x → IsSplit cs lines → (more : List (List ℕ)) ×
     IsSplit (c ∷ cs) more
@@ -199,8 +190,8 @@ no_bytes (x ∷ xs) e = absurd (omega arith)
 -- one more statement with a number
 pub numbered_push : (ss : List Statement) (s : Statement) → All (λ x. 1 ≤ line_of x) ss → 1 ≤ line_of s →
     All (λ x. 1 ≤ line_of x) (ss ++ s ∷ [])
-numbered_push [] s h l = all_more (λ x. 1 ≤ line_of x) s [] l h
-numbered_push (x ∷ xs) s h l = all_more (λ y. 1 ≤ line_of y) x (xs ++ s ∷ []) (h zero x (omega arith))
+numbered_push [] s h l = All-cons (λ x. 1 ≤ line_of x) s [] l h
+numbered_push (x ∷ xs) s h l = All-cons (λ y. 1 ≤ line_of y) x (xs ++ s ∷ []) (h zero x (omega arith))
     (numbered_push xs s (λ k d lt. h (suc k) d (omega arith)) l)
 
 -- what a line adds has its number

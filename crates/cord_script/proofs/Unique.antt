@@ -1,10 +1,10 @@
 -- A script has one list of lines, and a line one list of words or one first error of its bytes.
 use Rattle.std.specs.Prelude.{◌≡◌, ◌≢◌, ◌≤◌, ◌<◌, ◌+◌, ◌-◌, ◌*◌, ◌∷◌, ◌++◌, ◌==◌, ◌&&◌, if◌then◌else◌}
 use Rattle.cord_script.proofs.Common.{inl, inr, Some, None, ℕ, List, [], Bool, true, false, refl, sym, ◌∙◌, ap, subst, append_assoc, length}
-use Rattle.cord_script.proofs.Common.{arith, Option, All, nat_le, leb-true, le-leb, ne_eqb, MAX_TEXT, RefusalKind, Word, Plain, Quoted}
+use Rattle.cord_script.proofs.Common.{arith, Option, All, All-head, All-tail, nat_le, leb-true, le-leb, ne_eqb, MAX_TEXT, RefusalKind, Word, Plain, Quoted}
 use Rattle.cord_script.proofs.Common.{IsSplit, IsBlank, IsPlainByte, EndsPlain, Stands, SpellsText, HexDigit, HasWord, HasWords, StartsWith}
 use Rattle.cord_script.proofs.Common.{IsBadEnd, IsBadText, BeginsBadText, HasBadBytes, digit_of, byte_of, escape_of, unit_of}
-use Rattle.cord_script.proofs.Lines.{split_nil, head_of, tail_of, not_all_blank, one_prefix}
+use Rattle.cord_script.proofs.Lines.{split_nil, not_all_blank, one_prefix}
 use Rattle.cord_script.proofs.Spelled.{both, same_pair, unit_stands}
 
 -- a test that can't hold
@@ -214,7 +214,7 @@ pub record BeginsPlain (line p rest : List ℕ) : Type 0 where
 plain_begins : (line p rest : List ℕ) → HasWord line (Plain p) rest → BeginsPlain line p rest
 plain_begins line [] rest h = absurd (h.3 refl)
 plain_begins line (c ∷ cs) rest h =
-    let plain = head_of IsPlainByte c cs h.4 in
+    let plain = All-head IsPlainByte c cs h.4 in
     record {
       first = c;
       others = cs;
@@ -238,11 +238,11 @@ bad_begins line kind h = record { prefix = h.0; blank = h.2; shows = quote_shows
 one_run : (p p' rest rest' : List ℕ) → All IsPlainByte p → EndsPlain rest → All IsPlainByte p' → EndsPlain rest' → p ++ rest ≡ p' ++ rest' →
     (p ≡ p') × (rest ≡ rest')
 one_run [] [] rest rest' a n a' n' e = (refl, e)
-one_run [] (y ∷ ys) rest rest' a n a' n' e = absurd (subst EndsPlain e n (head_of IsPlainByte y ys a'))
-one_run (x ∷ xs) [] rest rest' a n a' n' e = absurd (subst EndsPlain (sym e) n' (head_of IsPlainByte x xs a))
+one_run [] (y ∷ ys) rest rest' a n a' n' e = absurd (subst EndsPlain e n (All-head IsPlainByte y ys a'))
+one_run (x ∷ xs) [] rest rest' a n a' n' e = absurd (subst EndsPlain (sym e) n' (All-head IsPlainByte x xs a))
 one_run (x ∷ xs) (y ∷ ys) rest rest' a n a' n' e =
     let suffix : xs ++ rest ≡ ys ++ rest' = cc in
-    let r = one_run xs ys rest rest' (tail_of IsPlainByte x xs a) n (tail_of IsPlainByte y ys a') n' suffix in
+    let r = one_run xs ys rest rest' (All-tail IsPlainByte x xs a) n (All-tail IsPlainByte y ys a') n' suffix in
     let same : x ≡ y = cc in
     (ap (λ k. k ∷ xs) same ∙ ap (λ k. y ∷ k) r.0, r.1)
 
@@ -334,19 +334,19 @@ one_bad_bytes line kind kind' h h' = starts_bad line h.1 h'.1 h.0 h'.0 kind kind
 -- a line ends at its first byte 10
 one_end : (l l' r r' : List ℕ) → All (λ c. c ≢ 10) l → All (λ c. c ≢ 10) l' → l ++ 10 ∷ r ≡ l' ++ 10 ∷ r' → (l ≡ l') × (r ≡ r')
 one_end [] [] r r' a a' e = (refl, cc)
-one_end [] (y ∷ ys) r r' a a' e = let same : y ≡ 10 = cc in absurd (head_of (λ c. c ≢ 10) y ys a' same)
-one_end (x ∷ xs) [] r r' a a' e = let same : x ≡ 10 = cc in absurd (head_of (λ c. c ≢ 10) x xs a same)
+one_end [] (y ∷ ys) r r' a a' e = let same : y ≡ 10 = cc in absurd (All-head (λ c. c ≢ 10) y ys a' same)
+one_end (x ∷ xs) [] r r' a a' e = let same : x ≡ 10 = cc in absurd (All-head (λ c. c ≢ 10) x xs a same)
 one_end (x ∷ xs) (y ∷ ys) r r' a a' e =
     let suffix : xs ++ 10 ∷ r ≡ ys ++ 10 ∷ r' = cc in
-    let q = one_end xs ys r r' (tail_of (λ c. c ≢ 10) x xs a) (tail_of (λ c. c ≢ 10) y ys a') suffix in
+    let q = one_end xs ys r r' (All-tail (λ c. c ≢ 10) x xs a) (All-tail (λ c. c ≢ 10) y ys a') suffix in
     let same : x ≡ y = cc in
     (ap (λ k. k ∷ xs) same ∙ ap (λ k. y ∷ k) q.0, q.1)
 
 no_end : (l prefix r : List ℕ) → All (λ c. c ≢ 10) l → l ≡ prefix ++ 10 ∷ r → ⊥
 no_end [] [] r a e = cc
 no_end [] (y ∷ ys) r a e = cc
-no_end (x ∷ xs) [] r a e = let same : x ≡ 10 = cc in head_of (λ c. c ≢ 10) x xs a same
-no_end (x ∷ xs) (y ∷ ys) r a e = let suffix : xs ≡ ys ++ 10 ∷ r = cc in no_end xs ys r (tail_of (λ c. c ≢ 10) x xs a) suffix
+no_end (x ∷ xs) [] r a e = let same : x ≡ 10 = cc in All-head (λ c. c ≢ 10) x xs a same
+no_end (x ∷ xs) (y ∷ ys) r a e = let suffix : xs ≡ ys ++ 10 ∷ r = cc in no_end xs ys r (All-tail (λ c. c ≢ 10) x xs a) suffix
 
 -- a script has one list of lines
 pub one_split : (b : List ℕ) (ls ls' : List (List ℕ)) → IsSplit b ls → IsSplit b ls' → ls ≡ ls'

@@ -17,7 +17,7 @@ use crate::errors::{Pass, earliest_error, wanted_error};
 use crate::formats::wants_of_pieces;
 use crate::grammar::{verb_of, wants_of};
 use crate::kinds::{Kind, Want};
-use crate::verbs::{FixedVerb, Verb};
+use crate::verbs::Verb;
 use crate::words::{Word, words_of};
 use crate::{MAX_PARTS, MIN_PARTS, RefusalKind};
 use cord_printf::{Format, FormatError};
@@ -44,14 +44,6 @@ fn none_of(first_error: Option<RefusalKind>) -> Result<(), RefusalKind>
         None => Ok(()),
         Some(kind) => Err(kind),
     }
-}
-
-// What is wrong with words whose number the verb fixes.
-fn fixed_error(context: &Context, verb: FixedVerb, words: &[Word]) -> Result<(), RefusalKind>
-    ensures { IfErr result (λ kind. kind ≢ RefusalKind.NoMemory →
-        HasFormError (scope_of context.now) (form_of (verb_word (Verb.Fixed verb))) words.now kind) }
-{
-    none_of(wanted_error(context, Verb::Fixed(verb), wants_of(verb), words))
 }
 
 // What is wrong with the words after `catn`.
@@ -131,7 +123,7 @@ fn form_error(
         HasFormError (scope_of context.now) (form_of (verb_word verb)) words.now kind) }
 {
     match verb {
-        Verb::Fixed(fixed) => fixed_error(context, fixed, words),
+        Verb::Fixed(fixed) => none_of(wanted_error(context, verb, wants_of(fixed), words)),
         Verb::Catn => joined_error(context, words),
         Verb::Sprintf => printed_error(alloc, context, words),
     }
