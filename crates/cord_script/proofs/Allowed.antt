@@ -5,11 +5,11 @@ use Rattle.cord_script.proofs.Common.{ltb-true, MAX_NAMES, MAX_PATHS, MAX_BLOCKS
 use Rattle.cord_script.proofs.Common.{WrongKind, TooMany, TooDeep, is_name, Term, Effect, Stays, OpensRepeat, OpensIf, Turns, Closes}
 use Rattle.cord_script.proofs.Common.{Target, Operand, Value, FilePath, Scope, Block, kind_of, is_among, IsTerm, AreTerms, IsAllowed}
 use Rattle.cord_script.proofs.Common.{AreAllowed, FitsBlocks, InIf, first_of, unless, first_pair, kind_error, assigned_error, number_error}
-use Rattle.cord_script.proofs.Common.{operand_error, word_target_error, word_path_error, names_error, block_error}
+use Rattle.cord_script.proofs.Common.{operand_error, word_target_error, word_path_error, names_error, block_error, or_left, or_right}
 use Rattle.cord_script.specs.declared.kinds.Kind.TheVariants as kinds
 use Rattle.cord_script.specs.declared.kinds.Want.TheVariants as wants
 use Rattle.cord_script.proofs.Checked.{neither, holds, kind_right, target_right}
-use Rattle.cord_script.proofs.Terms.{want_of, either, either_left, either_right, name_begins, numeral_known, same_kinds}
+use Rattle.cord_script.proofs.Terms.{want_of, either, name_begins, numeral_known, same_kinds}
 
 path_right : (paths : List (List ℕ)) (path : List ℕ) → unless (is_among paths path || nat_lt (length paths) MAX_PATHS) TooMany ≡ None →
     (is_among paths path ≡ true) ⊎ (length paths < MAX_PATHS)
@@ -81,9 +81,9 @@ target_fine scope w _ h a = refl
 
 path_fine : (scope : Scope) (w : Word) (t : Term) → IsTerm w t → IsAllowed scope t → word_path_error scope.paths (want_of t) w ≡ None
 path_fine scope w (FilePath path) h (inl a) = ap (word_path_error scope.paths wants.Path) h.0
-    ∙ ap (λ b. unless b TooMany) (either_left (is_among scope.paths path) (nat_lt (length scope.paths) MAX_PATHS) a)
+    ∙ ap (λ b. unless b TooMany) (or_left (is_among scope.paths path) (nat_lt (length scope.paths) MAX_PATHS) a)
 path_fine scope w (FilePath path) h (inr a) = ap (word_path_error scope.paths wants.Path) h.0
-    ∙ ap (λ b. unless b TooMany) (either_right (is_among scope.paths path) (nat_lt (length scope.paths) MAX_PATHS)
+    ∙ ap (λ b. unless b TooMany) (or_right (is_among scope.paths path) (nat_lt (length scope.paths) MAX_PATHS)
     (le-leb (suc (length scope.paths)) MAX_PATHS a))
 path_fine scope w _ h a = refl
 

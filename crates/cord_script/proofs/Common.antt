@@ -1,7 +1,8 @@
 -- The names that most proofs of this crate cite, passed on from one place. Declares nothing.
 pub use Rattle.std.proofs.Common.{ap, append-nil, append_assoc, arith, eq-eqb, eqb-true, inl, inr, length-append, lit<, lit≤, refl, rules}
 pub use Rattle.std.proofs.Common.{subst, sym, ◌∙◌}
-pub use Rattle.std.proofs.lemmas.Bool.{eqb-false, le-leb, leb-true, lt-leb, ltb-false, ltb-true, ne_eqb}
+pub use Rattle.std.proofs.lemmas.Bool.{and_from, and_parts, cond-false, cond-true, eqb-false, false_from_ne_true, le-leb}
+pub use Rattle.std.proofs.lemmas.Bool.{leb-true, lt-leb, ltb-false, ltb-true, ne_eqb, or_from, or_left, or_right}
 pub use Rattle.std.proofs.lemmas.List.{drop_more, map-append, take-append-drop, take-replicate, take_all, take_more}
 pub use Rattle.std.proofs.lemmas.List.Elements.{All-cons, All-head, All-nil, All-tail}
 pub use Rattle.std.proofs.lemmas.Option.{same_Some, slice_get_read}

@@ -10,7 +10,7 @@ use Rattle.cord_script.proofs.Common.{form_in, word_of, terms_of, effect_of, arg
 use Rattle.cord_script.proofs.Common.{Target, Operand, Value, Literal, FilePath, Applies, Compares, Formats, Scope, Says, Suits, IsTerm}
 use Rattle.cord_script.proofs.Common.{AreTerms, FitsBlocks, first_of, unless, misfit, first_pair, first_misfit, name_misfit, is_count}
 use Rattle.cord_script.proofs.Common.{cords, joined, format_wants, arguments_error, words_error, wants_of, names_error, block_error}
-use Rattle.cord_script.proofs.Common.{form_error, HasFormat, HasFormError, HasBadWords, verb_word, all_verbs, find_verb}
+use Rattle.cord_script.proofs.Common.{form_error, HasFormat, HasFormError, HasBadWords, verb_word, all_verbs, find_verb, and_parts}
 use Rattle.cord_printf.specs.declared.pieces.ArgKind.TheVariants as printed
 use Rattle.cord_script.specs.declared.verbs.Verb.TheVariants as verbs
 use Rattle.cord_script.specs.declared.verbs.FixedVerb.TheVariants as fixed_verbs
@@ -24,7 +24,7 @@ use Rattle.cord_script.specs.declared.kinds.Kind.TheVariants as kinds
 use Rattle.cord_script.specs.declared.kinds.Want.TheVariants as wants
 use Rattle.cord_operands.specs.declared.operands.Argument.TheVariants as arguments
 use Rattle.cord_script.specs.Forms.{form_of}
-use Rattle.cord_script.proofs.Spelled.{both, chosen}
+use Rattle.cord_script.proofs.Spelled.{chosen}
 use Rattle.cord_script.proofs.Checked.{neither, holds}
 use Rattle.cord_script.proofs.Firsts.{same_bytes}
 use Rattle.cord_script.proofs.Terms.{want_of, either}
@@ -188,7 +188,7 @@ joined_filled n (w ∷ ws) formats count fit =
     let target = a_name w r.0 in
     let said = words_say (cords ws) ws (cords_count ws) r.1 in
     let names = cord_names ws said.0 in
-    let bounds = both (nat_le (1 + MIN_PARTS) (length (w ∷ ws))) (nat_le (length (w ∷ ws)) (1 + MAX_PARTS)) count in
+    let bounds = and_parts (nat_le (1 + MIN_PARTS) (length (w ∷ ws))) (nat_le (length (w ∷ ws)) (1 + MAX_PARTS)) count in
     let low = leb-true (1 + MIN_PARTS) (length (w ∷ ws)) bounds.0 in
     let high = leb-true (length (w ∷ ws)) (1 + MAX_PARTS) bounds.1 in
     record {

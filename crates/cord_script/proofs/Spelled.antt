@@ -2,7 +2,7 @@
 use Rattle.std.specs.Prelude.{◌≡◌, ◌≢◌, ◌<◌, ◌≤◌, ◌+◌, ◌-◌, ◌*◌, ◌⊎◌, ◌∷◌, ◌++◌, ◌==◌, ◌&&◌, if◌then◌else◌}
 use Rattle.cord_script.proofs.Common.{inl, inr, Some, None, ℕ, List, [], Bool, true, false, refl, sym, ◌∙◌, ap, append_assoc, append-nil}
 use Rattle.cord_script.proofs.Common.{arith, eqb-true, Option, nat_le, nat_lt, ltb-true, ltb-false, same_Some, leb-true, eqb-false, Stands, SpellsText, HexDigit}
-use Rattle.cord_script.proofs.Common.{digit_of, byte_of, hex_of, escape_of, unit_of}
+use Rattle.cord_script.proofs.Common.{digit_of, byte_of, hex_of, escape_of, unit_of, and_parts}
 
 -- which of two values was chosen
 abbrev pub chosen : {A : Type 0} (x : Bool) (p q z : A) → (if x then p else q) ≡ z → ((x ≡ true) × (p ≡ z)) ⊎ ((x ≡ false) × (q ≡ z))
@@ -20,12 +20,6 @@ same_or_not a b = tested (a == b) (eqb-true a b) (eqb-false a b)
 abbrev pub less_or_not : (a b : ℕ) → (a < b) ⊎ (b ≤ a)
 less_or_not a b = tested (nat_lt a b) (ltb-true a b) (ltb-false a b)
 
--- both tests hold
-pub both : (x y : Bool) → (x && y) ≡ true → (x ≡ true) × (y ≡ true)
-both true true h = (refl, refl)
-both true false h = cc
-both false y h = cc
-
 -- one more byte
 pub spells_push : (w u t : List ℕ) (b : ℕ) → SpellsText w t → Stands u b → SpellsText (w ++ u) (t ++ b ∷ [])
 spells_push w u [] b h s = (u, [], ap (λ x. x ++ u) h ∙ sym (append-nil u), s, refl)
@@ -41,20 +35,20 @@ same_pair p q h =
 pub digit_stands : (c v : ℕ) → digit_of c ≡ Some v → HexDigit c v
 digit_stands c v h = elim (chosen (nat_le 48 c && nat_le c 57) (Some (c - 48))
     (if nat_le 97 c && nat_le c 102 then Some (c - 87) else (if nat_le 65 c && nat_le c 70 then Some (c - 55) else None)) (Some v) h) [
-      | inl x ↦ let t = both (nat_le 48 c) (nat_le c 57) x.0 in
+      | inl x ↦ let t = and_parts (nat_le 48 c) (nat_le c 57) x.0 in
           let low = leb-true 48 c t.0 in
           let high = leb-true c 57 t.1 in
           let same = same_Some (c - 48) v x.1 in
           inl (low, high, omega arith)
       | inr x ↦ elim (chosen (nat_le 97 c && nat_le c 102) (Some (c - 87)) (if nat_le 65 c && nat_le c 70 then Some (c - 55) else None)
           (Some v) x.1) [
-            | inl y ↦ let t = both (nat_le 97 c) (nat_le c 102) y.0 in
+            | inl y ↦ let t = and_parts (nat_le 97 c) (nat_le c 102) y.0 in
                 let low = leb-true 97 c t.0 in
                 let high = leb-true c 102 t.1 in
                 let same = same_Some (c - 87) v y.1 in
                 inr (inl (low, high, omega arith))
             | inr y ↦ elim (chosen (nat_le 65 c && nat_le c 70) (Some (c - 55)) None (Some v) y.1) [
-              | inl z ↦ let t = both (nat_le 65 c) (nat_le c 70) z.0 in
+              | inl z ↦ let t = and_parts (nat_le 65 c) (nat_le c 70) z.0 in
                   let low = leb-true 65 c t.0 in
                   let high = leb-true c 70 t.1 in
                   let same = same_Some (c - 55) v z.1 in

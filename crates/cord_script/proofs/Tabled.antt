@@ -1,10 +1,9 @@
 -- The table of statements, as the code looks a word up in it.
 use Rattle.std.specs.Prelude.{◌≡◌, ◌∷◌, if◌then◌else◌}
 use Rattle.cord_script.proofs.Common.{Some, None, ℕ, List, [], length, Bool, true, false, sym, ◌∙◌, ap, Option, MatchOption, refl}
-use Rattle.cord_script.proofs.Common.{filter, cond, bytes_eq, Form, Verb, verb_word, find_verb, all_verbs, verbs_of}
+use Rattle.cord_script.proofs.Common.{filter, cond, bytes_eq, Form, Verb, verb_word, find_verb, all_verbs, verbs_of, false_from_ne_true}
 use Rattle.cord_script.specs.Forms.{form_of}
 use Rattle.cord_script.proofs.Firsts.{same_bytes}
-use Rattle.cord_script.proofs.Unique.{not_true}
 
 -- the form of a verb's word
 abbrev pub form_at : Option Verb → Option Form
@@ -24,7 +23,7 @@ form_found w = simp form_chosen
 -- a verb whose word's length fails a test has another word than one whose length passes it
 other_word : (test : ℕ → Bool) (w : List ℕ) (v : Verb) → test (length w) ≡ true → test (length (verb_word v)) ≡ false →
     bytes_eq w (verb_word v) ≡ false
-other_word test w v passes fails = not_true (bytes_eq w (verb_word v)) (λ same.
+other_word test w v passes fails = false_from_ne_true (bytes_eq w (verb_word v)) (λ same.
     let clash : true ≡ false = sym passes ∙ ap (λ x. test (length x)) (same_bytes w (verb_word v) same) ∙ fails in
     cc)
 

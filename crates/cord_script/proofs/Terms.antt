@@ -7,10 +7,10 @@ use Rattle.cord_script.proofs.Common.{is_letter, is_name, each, are_digits, numb
 use Rattle.cord_script.proofs.Common.{relation_word, Term, Target, Operand, Value, Literal, FilePath, Applies, Compares, Formats, kind_of}
 use Rattle.cord_script.proofs.Common.{IsTerm, AreTerms, first_of, unless, misfit, first_misfit, kind_error, same_kind, number_error}
 use Rattle.cord_script.proofs.Common.{plain_number_misfit, function_misfit, relation_misfit, name_misfit, number_misfit, text_misfit}
-use Rattle.cord_script.proofs.Common.{path_misfit, Want}
+use Rattle.cord_script.proofs.Common.{path_misfit, Want, and_parts, or_from, or_left, or_right}
 use Rattle.cord_script.specs.declared.kinds.Kind.TheVariants as kinds
 use Rattle.cord_script.specs.declared.kinds.Want.TheVariants as wants
-use Rattle.cord_script.proofs.Spelled.{both, chosen}
+use Rattle.cord_script.proofs.Spelled.{chosen}
 use Rattle.cord_script.proofs.Unique.{above, head_or}
 
 -- what a term has to be
@@ -29,26 +29,12 @@ abbrev pub either : (x y : Bool) → (x || y) ≡ true → (x ≡ true) ⊎ (y �
 either true y h = inl refl
 either false y h = inr h
 
--- one of two tests is enough
-pub either_left : (x y : Bool) → x ≡ true → (x || y) ≡ true
-either_left true y h = refl
-either_left false y h = cc
-
-pub either_right : (x y : Bool) → y ≡ true → (x || y) ≡ true
-either_right true y h = refl
-either_right false y h = h
-
-pub neither_test : (x y : Bool) → x ≡ false → y ≡ false → (x || y) ≡ false
-neither_test false false p q = refl
-neither_test false true p q = cc
-neither_test true y p q = cc
-
 -- each letter stands after the digits
 letter_above : (c : ℕ) → is_letter c ≡ true → 57 < c
 letter_above c h = elim (either ((nat_le 97 c && nat_le c 122) || (nat_le 65 c && nat_le c 90)) (c == 95) h) [
   | inl p ↦ elim (either (nat_le 97 c && nat_le c 122) (nat_le 65 c && nat_le c 90) p) [
-    | inl q ↦ let low = leb-true 97 c (both (nat_le 97 c) (nat_le c 122) q).0 in omega arith
-    | inr q ↦ let low = leb-true 65 c (both (nat_le 65 c) (nat_le c 90) q).0 in omega arith
+    | inl q ↦ let low = leb-true 97 c (and_parts (nat_le 97 c) (nat_le c 122) q).0 in omega arith
+    | inr q ↦ let low = leb-true 65 c (and_parts (nat_le 65 c) (nat_le c 90) q).0 in omega arith
   ]
   | inr p ↦ let same = eqb-true c 95 p in omega arith
 ]
@@ -57,21 +43,21 @@ letter_above c h = elim (either ((nat_le 97 c && nat_le c 122) || (nat_le 65 c &
 pub name_begins : (p : List ℕ) → is_name p ≡ true → begins_numeral p ≡ false
 name_begins [] h = cc
 name_begins (c ∷ cs) h =
-    let l = letter_above c (both (is_letter c) _ (both (is_letter c && each _ cs) _ h).0).0 in
+    let l = letter_above c (and_parts (is_letter c) _ (and_parts (is_letter c && each _ cs) _ h).0).0 in
     let other : c ≢ 45 = omega arith in
-    neither_test (is_digit c) (c == 45) (above 48 57 c l) (ne_eqb c 45 other)
+    or_from (is_digit c) (c == 45) (above 48 57 c l) (ne_eqb c 45 other)
 
 digits_begin : (c : ℕ) (cs : List ℕ) → are_digits (c ∷ cs) ≡ true → is_digit c ≡ true
-digits_begin c cs h = (both (is_digit c) (each is_digit cs) h).0
+digits_begin c cs h = (and_parts (is_digit c) (each is_digit cs) h).0
 
 -- a numeral begins as one
 pub numeral_begins : (p : List ℕ) (v : ℤ) → numeral_of p ≡ Some v → begins_numeral p ≡ true
 numeral_begins [] v h = cc
 numeral_begins (c ∷ cs) v h = elim (chosen (c == 45) _ _ (Some v) h) [
-  | inl x ↦ either_right (is_digit c) (c == 45) x.0
+  | inl x ↦ or_right (is_digit c) (c == 45) x.0
   | inr x ↦ elim (chosen (are_digits (c ∷ cs) && nat_lt (number_after 0 (c ∷ cs)) (2 ^ 63)) (Some (pos (number_after 0 (c ∷ cs)))) None
       (Some v) x.1) [
-        | inl y ↦ either_left (is_digit c) (c == 45) (digits_begin c cs (both (are_digits (c ∷ cs)) _ y.0).0)
+        | inl y ↦ or_left (is_digit c) (c == 45) (digits_begin c cs (and_parts (are_digits (c ∷ cs)) _ y.0).0)
         | inr y ↦ absurd (let e = y.1 in cc)
       ]
 ]

@@ -4,39 +4,22 @@ use Rattle.cord_script.proofs.Common.{inl, inr, Some, None, ℕ, List, [], Bool,
 use Rattle.cord_script.proofs.Common.{arith, Option, All, All-head, All-tail, nat_le, leb-true, le-leb, ne_eqb, MAX_TEXT, RefusalKind, Word, Plain, Quoted}
 use Rattle.cord_script.proofs.Common.{IsSplit, IsBlank, IsPlainByte, EndsPlain, Stands, SpellsText, HexDigit, HasWord, HasWords, StartsWith}
 use Rattle.cord_script.proofs.Common.{IsBadEnd, IsBadText, BeginsBadText, HasBadBytes, digit_of, byte_of, escape_of, unit_of}
+use Rattle.cord_script.proofs.Common.{and_from, and_parts, cond-false, cond-true, false_from_ne_true}
 use Rattle.cord_script.proofs.Lines.{split_nil, not_all_blank, one_prefix}
-use Rattle.cord_script.proofs.Spelled.{both, same_pair, unit_stands}
-
--- a test that can't hold
-pub not_true : (x : Bool) → (x ≡ true → ⊥) → x ≡ false
-not_true true h = absurd (h refl)
-not_true false h = refl
-
-first_pick : {A : Type 0} (x : Bool) (p q : A) → x ≡ true → (if x then p else q) ≡ p
-first_pick true p q h = refl
-first_pick false p q h = cc
-
-second_pick : {A : Type 0} (x : Bool) (p q : A) → x ≡ false → (if x then p else q) ≡ q
-second_pick true p q h = cc
-second_pick false p q h = refl
-
-within_by : (x y : Bool) → x ≡ true → y ≡ true → (x && y) ≡ true
-within_by true true p q = refl
-within_by true false p q = cc
-within_by false y p q = cc
+use Rattle.cord_script.proofs.Spelled.{same_pair, unit_stands}
 
 pub within : (low high c : ℕ) → low ≤ c → c ≤ high → (nat_le low c && nat_le c high) ≡ true
-within low high c l h = within_by (nat_le low c) (nat_le c high) (le-leb low c l) (le-leb c high h)
+within low high c l h = and_from (nat_le low c) (nat_le c high) (le-leb low c l) (le-leb c high h)
 
 pub above : (low high c : ℕ) → high < c → (nat_le low c && nat_le c high) ≡ false
-above low high c h = not_true (nat_le low c && nat_le c high) (λ t.
-    let p = both (nat_le low c) (nat_le c high) t in
+above low high c h = false_from_ne_true (nat_le low c && nat_le c high) (λ t.
+    let p = and_parts (nat_le low c) (nat_le c high) t in
     let q = leb-true c high p.1 in
     omega arith)
 
 pub below : (low high c : ℕ) → c < low → (nat_le low c && nat_le c high) ≡ false
-below low high c h = not_true (nat_le low c && nat_le c high) (λ t.
-    let p = both (nat_le low c) (nat_le c high) t in
+below low high c h = false_from_ne_true (nat_le low c && nat_le c high) (λ t.
+    let p = and_parts (nat_le low c) (nat_le c high) t in
     let q = leb-true low c p.0 in
     omega arith)
 
@@ -44,19 +27,19 @@ below low high c h = not_true (nat_le low c && nat_le c high) (λ t.
 digit_read : (c v : ℕ) → HexDigit c v → digit_of c ≡ Some v
 digit_read c v (inl h) =
     let e : c - 48 ≡ v = omega (arith, h.0, h.2) in
-    first_pick (nat_le 48 c && nat_le c 57) (Some (c - 48)) _ (within 48 57 c h.0 h.1) ∙ ap Some e
+    cond-true (nat_le 48 c && nat_le c 57) (Some (c - 48)) _ (within 48 57 c h.0 h.1) ∙ ap Some e
 digit_read c v (inr (inl h)) =
     let e : c - 87 ≡ v = omega (arith, h.0, h.2) in
     let high : 57 < c = omega (arith, h.0) in
-    second_pick (nat_le 48 c && nat_le c 57) (Some (c - 48)) _ (above 48 57 c high)
-    ∙ first_pick (nat_le 97 c && nat_le c 102) (Some (c - 87)) _ (within 97 102 c h.0 h.1) ∙ ap Some e
+    cond-false (nat_le 48 c && nat_le c 57) (Some (c - 48)) _ (above 48 57 c high)
+    ∙ cond-true (nat_le 97 c && nat_le c 102) (Some (c - 87)) _ (within 97 102 c h.0 h.1) ∙ ap Some e
 digit_read c v (inr (inr h)) =
     let e : c - 55 ≡ v = omega (arith, h.0, h.2) in
     let high : 57 < c = omega (arith, h.0) in
     let low : c < 97 = omega (arith, h.1) in
-    second_pick (nat_le 48 c && nat_le c 57) (Some (c - 48)) _ (above 48 57 c high)
-    ∙ second_pick (nat_le 97 c && nat_le c 102) (Some (c - 87)) _ (below 97 102 c low)
-    ∙ first_pick (nat_le 65 c && nat_le c 70) (Some (c - 55)) _ (within 65 70 c h.0 h.1) ∙ ap Some e
+    cond-false (nat_le 48 c && nat_le c 57) (Some (c - 48)) _ (above 48 57 c high)
+    ∙ cond-false (nat_le 97 c && nat_le c 102) (Some (c - 87)) _ (below 97 102 c low)
+    ∙ cond-true (nat_le 65 c && nat_le c 70) (Some (c - 55)) _ (within 65 70 c h.0 h.1) ∙ ap Some e
 
 self_by : (b : ℕ) (v : List ℕ) (x y : Bool) → x ≡ false → y ≡ false → (if x then escape_of v else (if y then None else Some (b, v)))
     ≡ Some (b, v)
