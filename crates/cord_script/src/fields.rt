@@ -22,12 +22,7 @@ pub fn begins_numeral(word: &[u8]) -> bool
 fn has_no_zero(bytes: &[u8]) -> bool
     ensures { result ≡ each (λ c. not (c == 0)) bytes.now }
 {
-    for byte in bytes {
-        if *byte == 0 {
-            return false;
-        }
-    }
-    true
+    !bytes.contains(&0)
 }
 
 // Whether bytes are UTF-8.
