@@ -4,17 +4,23 @@ use Rattle.cord_plan.proofs.Common.{ℕ, Bool, true, false, List, [], map, drop,
 use Rattle.cord_plan.proofs.Common.{option_map, refl, sym, ap, ◌∙◌, subst, arith, append_assoc, append-nil, length-append, replicate}
 use Rattle.cord_plan.proofs.Common.{slice_get, or_assoc, or-false, slice_get_read, at_drop_more, at_drop_all, drop-set-lt, drop_more}
 use Rattle.cord_plan.proofs.Common.{get_or-replicate, length-map, length-replicate, map-append, take_more, Statement, Expr, target_of}
-use Rattle.cord_plan.proofs.Common.{ChoiceTable, Choice, choices, defining, expr_of, expr_with, operands_chosen, grown, exprs, Has}
-use Rattle.cord_plan.proofs.Common.{choice_view, simple_operands, AreExpressions, AreLonger, IsBegun, IsReportedLonger, IsLongerAt, IsStep}
+use Rattle.cord_plan.proofs.Common.{ChoiceTable, Choice, defining, expr_of, expr_with, operands_chosen, grown, exprs, Has}
+use Rattle.cord_plan.proofs.Common.{choice_view, simple_operands, AreExpressions, AreLonger, IsBegun, IsReportedLonger, IsLongerAt, IsStep, is_longer}
 use Rattle.cord_plan.proofs.Common.{Takes, table_view, Operation, or_nothing, operation, operations, is_dead, is_first, is_from, some_from}
 use Rattle.cord_plan.proofs.Common.{planned, expr_view, operation_view}
 use Rattle.std.proofs.Math.Seq.{take-append_seam}
 use Rattle.std.proofs.lemmas.List.Recursion.{or_push}
 use Rattle.cord_plan.specs.Planned as plan
 use Rattle.cord_plan.specs.declared.expressions.Expr as expression
+use Rattle.cord_plan.specs.declared.planner.expression_facts.ExpressionFacts.{ExpressionFacts}
+use Rattle.cord_plan.specs.declared.planner.expressions.NextExpression.{NextExpression}
+use Rattle.cord_plan.specs.inner.Choices.{AreChoices}
+use Rattle.cord_plan.specs.inner.ExpressionFacts.{IsKnown}
+use Rattle.cord_plan.specs.inner.Steps.{IsNext}
+use Rattle.cord_plan.proofs.ExpressionFacts.{known_more}
 use Rattle.cord_plan.specs.declared.operations.Operation as program_operation
 use Rattle.cord_plan.specs.declared.planner.operand_choices.Choice as program
-use Rattle.cord_plan.proofs.Choices.{entry_of, chosen_simple, simple_reads}
+use Rattle.cord_plan.proofs.Choices.{entry_of, chosen_simple}
 use Rattle.cord_plan.proofs.Chosen.{grown_keeps, last_or}
 use Rattle.cord_plan.proofs.Pushed.{get_last}
 
@@ -64,30 +70,37 @@ module _ (s : List Statement) (later : List ℕ → ℕ → Bool) where
     entry_without t none = chosen_simple s later t b l ∙ ap (λ (o : Option (List (List ℕ))). entry_of s later t b l o) none
 
     -- a line that isn't simple has no expression, and takes none
-    pub next_without : (table : List (Option Expr)) (taken : List Bool) → simple_operands l ≡ None → IsStep s later b l table taken taken None
-    next_without table taken none = record {
-      expression = λ t has. sym (ap (λ (en : Option Expr × List Choice). en.0) (entry_without t none));
-      taken = λ t has. subst (λ (en : Option Expr × List Choice). Takes en.1 taken taken) (sym (entry_without t none)) (none_taken taken);
+    pub next_without : (table : List (Option Expr)) (taken : List Bool) (known : ExpressionFacts) (next : NextExpression) →
+        simple_operands l ≡ None → next.expression ≡ None → next.extends ≡ false → IsKnown s b table known →
+        IsNext s later b l table taken taken known next
+    next_without table taken known next none bare short before = record {
+      step = record {
+        expression = λ t has. ap (option_map expr_view) bare ∙ sym (ap (λ (en : Option Expr × List Choice). en.0) (entry_without t none));
+        taken = λ t has. subst (λ (en : Option Expr × List Choice). Takes en.1 taken taken) (sym (entry_without t none)) (none_taken taken);
+      };
+      longer = λ t has is. let bad : ⊥ = cc in absurd bad;
+      known = known_more s b table (option_map expr_view next.expression) known before;
     }
 
     -- a simple line with these choices
-    pub step_with : (table : List (Option Expr)) (old new : List Bool) (xs : List (List ℕ)) (cs : List Choice) →
-        simple_operands l ≡ Some xs → ((t : ChoiceTable) → Has table t → cs ≡ choices s later t b l [] xs) → Takes cs old new →
-        IsStep s later b l table old new (expr_with l (map (λ c. expr_of c) cs))
-    step_with table old new xs cs simple chosen takes = record {
-      expression = λ t has. ap (λ (en : Option Expr × List Choice). en.0) (made t has);
-      taken = λ t has. subst (λ (en : Option Expr × List Choice). Takes en.1 old new) (made t has) takes;
+    pub next_with : (table : List (Option Expr)) (old new : List Bool) (xs : List (List ℕ)) (cs : List Choice) (known : ExpressionFacts)
+        (next : NextExpression) → simple_operands l ≡ Some xs → AreChoices s later b l table cs → Takes cs old new →
+        option_map expr_view next.expression ≡ expr_with l (map (λ c. expr_of c) cs) → next.extends ≡ is_longer b l cs →
+        IsKnown s (b + 1) (table ++ expr_with l (map (λ c. expr_of c) cs) ∷ []) known → IsNext s later b l table old new known next
+    next_with table old new xs cs known next simple chosen takes made extends after = record {
+      step = record {
+        expression = λ t has. made ∙ ap (λ (en : Option Expr × List Choice). en.0) (entry_is t has);
+        taken = λ t has. subst (λ (en : Option Expr × List Choice). Takes en.1 old new) (entry_is t has) takes;
+      };
+      longer = λ t has is. ap (λ (en : Option Expr × List Choice). is_longer b l en.1) (sym (entry_is t has)) ∙ (sym extends ∙ is);
+      known = subst (λ (e : Option Expr). IsKnown s (b + 1) (table ++ e ∷ []) known) (sym made) after;
     }
       where
-        made : (t : ChoiceTable) → Has table t →
+        entry_is : (t : ChoiceTable) → Has table t →
             (expr_with l (map (λ c. expr_of c) cs), cs) ≡ operands_chosen s later t b l (defining l)
-        made t has =
-            ap (λ (ds : List Choice). (expr_with l (map (λ c. expr_of c) ds), ds))
-            (chosen t has ∙ ap (λ (ys : List (List ℕ)). choices s later t b l [] ys) (sym (simple_reads l xs simple)))
+        entry_is t has =
+            ap (λ (ds : List Choice). (expr_with l (map (λ c. expr_of c) ds), ds)) (chosen t has)
             ∙ sym (chosen_simple s later t b l ∙ ap (λ (o : Option (List (List ℕ))). entry_of s later t b l o) simple)
-
-    pub never_reported : (table : List (Option Expr)) → IsReportedLonger s later b l table false
-    never_reported table = λ t has is. let bad : ⊥ = cc in absurd bad
 
   -- ---- the lines so far
   pub begun_none : (taken : List Bool) → taken ≡ replicate (length s) false → IsBegun s later 0 [] taken
@@ -148,10 +161,6 @@ module _ (s : List Statement) (later : List ℕ → ℕ → Bool) where
           entered = there;
           longer = longer so_far.table so_far.has (sym f.1);
         })
-
-  pub begun_long : (b : ℕ) (table : List (Option Expr)) (taken : List Bool) → IsBegun s later b table taken → length table ≡ b
-  begun_long b table taken so_far =
-      ap length (sym so_far.has) ∙ (length-map so_far.table (λ (one : Option Expr × List Choice). one.0) ∙ so_far.long)
 
   -- after the last line
   pub all_begun : (b : ℕ) (table : List (Option Expr)) (taken : List Bool) → length s ≤ b → IsBegun s later b table taken →

@@ -2,7 +2,8 @@
 use Rattle.std.specs.Prelude.{◌≡◌, ◌+◌, ◌<◌, ◌∷◌, ◌++◌}
 use Rattle.cord_plan.proofs.Common.{ℕ, Bool, List, [], map, drop, length, get_or, Option, Some, None, refl, sym, ap, ◌∙◌, at_drop_more}
 use Rattle.cord_plan.proofs.Common.{Statement, Cat, Expr, name, read_by, Choice, named, ChoiceTable, expr_of, expr_with, setter, chosen_of}
-use Rattle.cord_plan.proofs.Common.{choices, entry, operands_chosen, defining, simple_operands}
+use Rattle.cord_plan.proofs.Common.{choices, entry, operands_chosen, defining, simple_operands, Has, IsChoice}
+use Rattle.cord_plan.specs.inner.Choices.{AreChoices}
 
 -- a simple line reads its operands
 pub simple_reads : (l : Statement) (xs : List (List ℕ)) → simple_operands l ≡ Some xs → read_by l ≡ xs
@@ -47,3 +48,23 @@ pub chosen_simple : (s : List Statement) (later : List ℕ → ℕ → Bool) (t 
     operands_chosen s later t b l (defining l) ≡ entry_of s later t b l (simple_operands l)
 chosen_simple s later t b (Cat line target left right) = refl
 chosen_simple s later t b l = refl
+
+-- the choices for the operands of a line that has few
+module _ (s : List Statement) (later : List ℕ → ℕ → Bool) (table : List (Option Expr)) (b : ℕ) (l : Statement) where
+  by_operands : (xs : List (List ℕ)) (cs : List Choice) → simple_operands l ≡ Some xs →
+      ((t : ChoiceTable) → Has table t → cs ≡ choices s later t b l [] xs) → AreChoices s later b l table cs
+  by_operands xs cs simple chosen = λ t has.
+      chosen t has ∙ ap (λ (ys : List (List ℕ)). choices s later t b l [] ys) (sym (simple_reads l xs simple))
+
+  pub none_chosen : simple_operands l ≡ Some [] → AreChoices s later b l table []
+  none_chosen simple = by_operands [] [] simple (λ t has. refl)
+
+  pub one_chosen : (x : List ℕ) (c : Choice) → simple_operands l ≡ Some (x ∷ []) → IsChoice s later b l (x ∷ []) x table [] c →
+      AreChoices s later b l table (c ∷ [])
+  one_chosen x c simple one = by_operands (x ∷ []) (c ∷ []) simple (λ t has. ap (λ (d : Choice). d ∷ []) (one t has))
+
+  pub two_chosen : (x y : List ℕ) (c d : Choice) → simple_operands l ≡ Some (x ∷ y ∷ []) →
+      IsChoice s later b l (x ∷ y ∷ []) x table [] c → IsChoice s later b l (x ∷ y ∷ []) y table (c ∷ []) d →
+      AreChoices s later b l table (c ∷ d ∷ [])
+  two_chosen x y c d simple one two = by_operands (x ∷ y ∷ []) (c ∷ d ∷ []) simple (λ t has.
+      ap (λ (e : Choice). c ∷ e ∷ []) (two t has) ∙ ap (λ (e : Choice). choices s later t b l (e ∷ []) (y ∷ [])) (one t has))

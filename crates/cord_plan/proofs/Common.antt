@@ -99,7 +99,7 @@ pub use Rattle.cord_plan.specs.inner.Choices.{room_left, room_left_by, simple_op
 pub use Rattle.cord_plan.specs.inner.ExpressionFacts.{AreFactsOf, HasFacts, IsChoiceOf, IsFacts}
 pub use Rattle.cord_plan.specs.inner.Extensions.{AreExtending}
 pub use Rattle.cord_plan.specs.inner.Fragments.{blank_after, exprs_after, fragment_text, fragments_text}
-pub use Rattle.cord_plan.specs.inner.Liveness.{AllLive, AreLive, ArePartly, ArePaths, IsLive, IsPartly, IsReported, NoBlocks, at, column_of}
+pub use Rattle.cord_plan.specs.inner.Liveness.{AllLive, AreLive, ArePartly, ArePaths, IsLive, IsPartly, NoBlocks, at, column_of}
 pub use Rattle.cord_plan.specs.inner.Liveness.{finds, innermost, places, places_at, reports, reports_of, shape_view}
 pub use Rattle.cord_plan.specs.inner.NameSets.{IsBit, Marks, bit, column, room}
 pub use Rattle.cord_plan.specs.inner.Numbering.{IsNumberIn, IsNumbered, IsNumbering, names_of, number_in, number_of}

@@ -8,7 +8,6 @@ mod straight_line;
 mod successors;
 
 pub(crate) use self::liveness::Later;
-pub(crate) use self::name_sets::{GROUP, has_bit, mark_number};
 pub(crate) use self::numbering::{LineNumbers, Numbering, number_at};
 pub(crate) use self::readings::{assigns, operands_of};
 pub(crate) use self::recent::{Recent, entry_at, is_before, unless_after};

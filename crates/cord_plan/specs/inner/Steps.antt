@@ -1,14 +1,30 @@
 -- What the code goes by that makes the expressions of all lines of a script in one pass, and then the operations.
-use Rattle.std.specs.Prelude.{◌≡◌, ℕ, ◌-◌, ◌<◌, ◌≤◌, Bool, true, false, ◌&&◌, ◌||◌, ◌==◌, List, [], ◌∷◌, map}
+use Rattle.std.specs.Prelude.{◌≡◌, ℕ, ◌+◌, ◌-◌, ◌<◌, ◌≤◌, Bool, true, false, ◌&&◌, ◌||◌, ◌==◌, List, [], ◌∷◌, ◌++◌, map}
 use Rattle.std.specs.Prelude.{drop, get_or, length, option_map, slice_get, Option, Some}
 use Rattle.cord_syntax.specs.declared.statements.Statement.{Statement}
 use Rattle.cord_syntax.specs.declared.statements.Statement.TheVariants.{Cat, Catn, Catc}
 use Rattle.cord_plan.specs.Exprs.{Expr, cat}
 use Rattle.cord_plan.specs.Inlined as plain
-use Rattle.cord_plan.specs.inner.Choices.{Has}
+use Rattle.cord_syntax.specs.Readings.{operand_names}
+use Rattle.cord_plan.specs.inner.Choices.{Has, simple_operands}
+use Rattle.cord_plan.specs.inner.ExpressionFacts.{IsKnown}
+use Rattle.cord_plan.specs.inner.Liveness.{IsReported}
+use Rattle.cord_plan.specs.inner.Numbering.{IsNumbered}
+use Rattle.cord_plan.specs.inner.Recent.{IsRecent}
 use Rattle.cord_plan.specs.Planned.{is_first, some_from}
 use Rattle.cord_plan.specs.Views.{expr_view}
 use Rattle.cord_plan.specs.declared.expressions.Expr as program
+use Rattle.cord_plan.specs.declared.planner.expression_facts.ExpressionFacts.{ExpressionFacts}
+use Rattle.cord_plan.specs.declared.planner.expressions.NextExpression.{NextExpression}
+use Rattle.cord_plan.specs.declared.planner.operand_choices.Line.{Line}
+
+-- a simple line of a script, with its operands, its numbers, and what the lines before it assign and read
+pub record IsSimpleLine (line : Line) : Type 0 where
+  pub here : slice_get line.statements.now line.place ≡ Some line.statement.now
+  pub operands : simple_operands line.statement.now ≡ Some (operand_names line.operands)
+  pub numbers : IsNumbered line.recent.now.later.now.numbering line.statement.now line.numbers
+  pub reported : IsReported line.recent.now.later.now line.statement.now line.place
+  pub recent : IsRecent line.statements.now line.place line.recent.now
 
 -- the expressions of lines
 abbrev pub table_view : List (Option program.Expr) → List (Option Expr)
@@ -34,11 +50,6 @@ is_longer b (Catn line target many) (c ∷ d ∷ []) = is_last b c && is_named d
 is_longer b (Catc line target operand byte) (c ∷ []) = is_last b c
 is_longer b l cs = false
 
--- whether a line joins a name and a byte
-abbrev pub is_catc : Statement → Bool
-is_catc (Catc line target operand byte) = true
-is_catc l = false
-
 -- it comes to be noted of the lines whose expressions these choices take
 pub record Takes (cs : List plain.Choice) (old new : List Bool) : Type 0 where
   pub size : length new ≡ length old
@@ -54,6 +65,13 @@ module _ (s : List Statement) (later : List ℕ → ℕ → Bool) where
   abbrev pub IsReportedLonger : ℕ → Statement → List (Option Expr) → Bool → Type 0
   IsReportedLonger b l table reported = (t : plain.ChoiceTable) → Has table t → reported ≡ true →
       is_longer b l (plain.operands_chosen s later t b l (plain.defining l)).1 ≡ true
+
+  -- what is made of the line l at b, and what comes to be noted of it
+  pub record IsNext (b : ℕ) (l : Statement) (table : List (Option Expr)) (old new : List Bool) (facts : ExpressionFacts)
+      (next : NextExpression) : Type 0 where
+    pub step : IsStep b l table old new (option_map expr_view next.expression)
+    pub longer : IsReportedLonger b l table next.extends
+    pub known : IsKnown s (b + 1) (table ++ option_map expr_view next.expression ∷ []) facts
 
   -- the choices of the line at p say it
   pub record IsLongerAt (p : ℕ) : Type 0 where

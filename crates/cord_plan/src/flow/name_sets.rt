@@ -18,8 +18,8 @@ pub(crate) fn has_bit(word: u128, i: usize) -> bool
     (word >> i) & 1 == 1
 }
 
-/// The word of the name of a number alone.
-pub(crate) fn mark_number(group: usize, number: usize) -> u128
+// The word of the name of a number alone.
+fn mark_number(group: usize, number: usize) -> u128
     ensures { (t : Numbering) (y : List ℕ) → number_of t y ≡ Some number → Marks t group (λ x. bytes_eq x y) result }
 {
     if number / GROUP == group {

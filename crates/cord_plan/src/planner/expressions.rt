@@ -1,16 +1,13 @@
 // The expressions of a script's lines, each over those of the lines before it.
-ghost use Rattle.std.specs.Prelude.{◌≡◌, ◌≤◌, ◌++◌, ◌∷◌, ◌&&◌, [], Some, IfOk, length, map};
-ghost use Rattle.std.specs.Prelude.{option_map};
-ghost use Rattle.cord_plan.specs.Inlined.{expr_of, expr_with};
-ghost use Rattle.cord_plan.specs.inner.Choices.{choice_view, simple_operands};
-ghost use Rattle.cord_syntax.specs.Readings.{operand_names};
-ghost use Rattle.cord_plan.specs.inner.ExpressionFacts.{AreFactsOf};
-ghost use Rattle.cord_plan.specs.inner.Liveness.{reports, AllReported, IsReported};
+ghost use Rattle.std.specs.Prelude.{◌≡◌, ◌∷◌, [], List, Option, Some, IfOk, map, slice_get};
+ghost use Rattle.cord_plan.specs.Exprs as plain;
+ghost use Rattle.cord_plan.specs.inner.Choices.{choice_view, AreChoices};
+ghost use Rattle.cord_plan.specs.inner.ExpressionFacts.{IsKnown};
+ghost use Rattle.cord_plan.specs.inner.Liveness.{reports, AllReported};
 ghost use Rattle.cord_plan.specs.inner.Numbering.{IsNumbered, IsNumbering};
 ghost use Rattle.cord_plan.specs.inner.Recent.{IsRecent};
-ghost use Rattle.cord_plan.specs.inner.Steps.{AreExpressions, AreLonger, IsReportedLonger, IsStep, Takes};
-ghost use Rattle.cord_plan.specs.inner.Steps.{is_catc, is_last, is_named, table_view};
-ghost use Rattle.cord_plan.specs.Views.{expr_view};
+ghost use Rattle.cord_plan.specs.inner.Steps.{AreExpressions, AreLonger, IsNext, IsSimpleLine, Takes};
+ghost use Rattle.cord_plan.specs.inner.Steps.{is_longer, table_view};
 
 use crate::Expr;
 use crate::flow::{Later, LineNumbers, Recent, operands_of};
@@ -38,31 +35,18 @@ struct NextExpression {
     extends: bool,
 }
 
-// Whether a line joins a name and a byte.
+// Whether a line with these choices joins the members that the line before it joins, and one more.
 #[inline(always)]
-fn is_catc(statement: &Statement) -> bool
-    ensures { result ≡ is_catc statement.now }
+fn is_longer(line: &Line, choices: &[Choice]) -> bool
+    ensures { result ≡ is_longer line.now.place line.now.statement.now (map choice_view choices.now) }
 {
-    match statement {
-        Statement::Catc { .. } => true,
+    match (line.statement, choices) {
+        (Statement::Catc { .. }, [first]) => is_last(first, line.place),
+        (Statement::Cat { .. } | Statement::Catn { .. }, [first, second]) => {
+            is_last(first, line.place) && is_named(second)
+        }
         _ => false,
     }
-}
-
-// Whether a line with this choice joins the members that the line before it joins, and a byte.
-#[inline(always)]
-fn adds_byte(line: &Line, choice: &Choice) -> bool
-    ensures { result ≡ (is_catc line.now.statement.now && is_last line.now.place (choice_view choice.now)) }
-{
-    is_catc(line.statement) && is_last(choice, line.place)
-}
-
-// Whether a line with these choices joins the members that the line before it joins, and a name.
-#[inline(always)]
-fn adds_name(line: &Line, first: &Choice, second: &Choice) -> bool
-    ensures { result ≡ (is_last line.now.place (choice_view first.now) && is_named (choice_view second.now)) }
-{
-    is_last(first, line.place) && is_named(second)
 }
 
 // Notes the line whose expression a choice takes, where it takes one.
@@ -90,26 +74,29 @@ fn note_choices(taken: &mut [bool], choices: &[Choice])
     }
 }
 
-// The expression of a simple line with these choices. The lines that they take are noted.
+// The expression of a simple line with these choices, which are noted.
 #[inline(always)]
 fn taking(
     alloc: Global,
     interner: &mut Interner,
-    statement: &Statement,
+    line: &Line,
     choices: &[Choice],
+    known: &mut ExpressionFacts,
     taken: &mut [bool],
-    extends: bool,
 ) -> Result<NextExpression, AllocError>
-    ensures made { IfOk result (λ n. option_map expr_view n.expression
-        ≡ expr_with statement.now (map expr_of (map choice_view choices.now))) }
-    ensures taken { Takes (map choice_view choices.now) taken.old taken.new }
-    ensures extends { IfOk result (λ n. n.extends ≡ extends) }
+    requires { IsSimpleLine line.now }
+    ensures { (table : List (Option plain.Expr)) → IsKnown line.now.statements.now line.now.place table known.old →
+        AreChoices line.now.statements.now (reports line.now.recent.now.later.now) line.now.place
+        line.now.statement.now table (map choice_view choices.now) → IfOk result (IsNext line.now.statements.now
+        (reports line.now.recent.now.later.now) line.now.place line.now.statement.now table taken.old taken.new
+        known.new) }
 {
+    known.note(line, choices);
     note_choices(taken, choices);
-    let expression = expression_with(alloc, interner, statement, choices)?;
+    let expression = expression_with(alloc, interner, line.statement, choices)?;
     Ok(NextExpression {
         expression,
-        extends,
+        extends: is_longer(line, choices),
     })
 }
 
@@ -122,40 +109,25 @@ fn expression_over<'a>(
     expressions: &'a [Option<Expr>],
     taken: &mut [bool],
 ) -> Result<NextExpression, AllocError>
-    requires place { line.now.place ≤ length line.now.statements.now }
-    requires recent { IsRecent line.now.statements.now line.now.place line.now.recent.now }
-    requires operands { simple_operands line.now.statement.now ≡ Some (operand_names line.now.operands) }
-    requires numbers { IsNumbered line.now.recent.now.later.now.numbering line.now.statement.now line.now.numbers }
-    requires reported { IsReported line.now.recent.now.later.now line.now.statement.now line.now.place }
-    requires long { length expressions.now ≡ line.now.place }
-    requires known { AreFactsOf line.now.recent.now.later.now.numbering (table_view expressions.now) known.old }
-    ensures made { IfOk result (λ n. IsStep line.now.statements.now (reports line.now.recent.now.later.now)
-        line.now.place line.now.statement.now (table_view expressions.now) taken.old taken.new
-        (option_map expr_view n.expression)) }
-    ensures extends { IfOk result (λ n. IsReportedLonger line.now.statements.now (reports line.now.recent.now.later.now)
-        line.now.place line.now.statement.now (table_view expressions.now) n.extends) }
-    ensures known { IfOk result (λ n. AreFactsOf line.now.recent.now.later.now.numbering
-        (table_view expressions.now ++ option_map expr_view n.expression ∷ []) known.new) }
+    requires line { IsSimpleLine line.now }
+    requires known { IsKnown line.now.statements.now line.now.place (table_view expressions.now) known.old }
+    ensures { IfOk result (IsNext line.now.statements.now (reports line.now.recent.now.later.now) line.now.place
+        line.now.statement.now (table_view expressions.now) taken.old taken.new known.new) }
 {
-    let statement = line.statement;
     match line.operands {
-        Operands::Nothing => taking(alloc, interner, statement, &[], taken, false),
+        Operands::Nothing => taking(alloc, interner, line, &[], known, taken),
         Operands::One(operand) => {
             let choice = choose(line, known, operand, expressions, &[]);
-            known.note_one(line, &choice);
-            let extends = adds_byte(line, &choice);
-            taking(alloc, interner, statement, &[choice], taken, extends)
+            taking(alloc, interner, line, &[choice], known, taken)
         }
         Operands::Two(left, right) => {
             let first = choose(line, known, left, expressions, &[]);
             let second = choose(line, known, right, expressions, &[first]);
-            known.note_two(line, &first, &second);
-            let (choices, extends) = ([first, second], adds_name(line, &first, &second));
-            taking(alloc, interner, statement, &choices, taken, extends)
+            taking(alloc, interner, line, &[first, second], known, taken)
         }
         Operands::Listed(operands) => {
             let choices = choose_all(alloc, line, known, operands, expressions)?;
-            taking(alloc, interner, statement, &choices, taken, false)
+            taking(alloc, interner, line, &choices, known, taken)
         }
     }
 }
@@ -173,18 +145,13 @@ fn next_expression(
     expressions: &[Option<Expr>],
     taken: &mut [bool],
 ) -> Result<NextExpression, AllocError>
-    requires place { place ≤ length statements.now }
+    requires here { slice_get statements.now place ≡ Some statement.now }
     requires recent { IsRecent statements.now place recent.now }
     requires numbers { IsNumbered recent.now.later.now.numbering statement.now numbers }
-    requires reported { IsReported recent.now.later.now statement.now place }
-    requires long { length expressions.now ≡ place }
-    requires known { AreFactsOf recent.now.later.now.numbering (table_view expressions.now) known.old }
-    ensures made { IfOk result (λ n. IsStep statements.now (reports recent.now.later.now) place statement.now
-        (table_view expressions.now) taken.old taken.new (option_map expr_view n.expression)) }
-    ensures extends { IfOk result (λ n. IsReportedLonger statements.now (reports recent.now.later.now) place
-        statement.now (table_view expressions.now) n.extends) }
-    ensures known { IfOk result (λ n. AreFactsOf recent.now.later.now.numbering
-        (table_view expressions.now ++ option_map expr_view n.expression ∷ []) known.new) }
+    requires reported { AllReported statements.now recent.now.later.now }
+    requires known { IsKnown statements.now place (table_view expressions.now) known.old }
+    ensures { IfOk result (IsNext statements.now (reports recent.now.later.now) place statement.now
+        (table_view expressions.now) taken.old taken.new known.new) }
 {
     let Some(operands) = operands_of(statement) else {
         return Ok(NextExpression {

@@ -2,10 +2,10 @@
 ghost use Rattle.std.specs.Prelude.{◌≡◌, pos, IfOk, IfSome};
 ghost use Rattle.cord_operands.specs.declared.operands.Number.TheVariants.{Numeral};
 ghost use Rattle.cord_plan.specs.Exprs as plain;
-ghost use Rattle.cord_plan.specs.Views.{shared_view};
+ghost use Rattle.cord_plan.specs.Views.{expr_view, shared_view};
 
 use crate::Expr;
-use crate::planner::constructors::{named, shared_byte};
+use crate::planner::constructors::{named, run, shared_byte};
 use cord_script::{Name, Number};
 use std::alloc::{AllocError, Global};
 use std::rc::Rc;
@@ -52,13 +52,6 @@ fn find_byte(slots: &[Option<Rc<Expr>>], slot: usize, byte: i64) -> Option<&Rc<E
     }
 }
 
-// A name as an expression, to be shared.
-fn shared_name(alloc: Global, name: &Name) -> Result<Rc<Expr>, AllocError>
-    ensures made { IfOk result (λ e. shared_view e ≡ plain.name name.now) }
-{
-    Ok(Rc::new(alloc, named(name)?)?)
-}
-
 // Slots without a name.
 fn empty_slots(alloc: Global) -> Result<Vec<Option<Rc<Expr>>>, AllocError> {
     let mut slots = Vec::with_capacity(alloc, SLOTS + BYTE_SLOTS)?;
@@ -77,9 +70,10 @@ impl Interner {
     }
 
     // Puts an expression into a slot, and gives it back.
-    fn put(&mut self, alloc: Global, slot: usize, shared: Rc<Expr>) -> Result<Rc<Expr>, AllocError>
-        ensures made { IfOk result (λ e. shared_view e ≡ shared_view shared) }
+    fn put(&mut self, alloc: Global, slot: usize, made: Expr) -> Result<Rc<Expr>, AllocError>
+        ensures made { IfOk result (λ e. shared_view e ≡ expr_view made) }
     {
+        let shared = Rc::new(alloc, made)?;
         if self.slots.is_empty() {
             self.slots = empty_slots(alloc)?;
         }
@@ -96,8 +90,8 @@ impl Interner {
     {
         let slot = name.hint();
         match find(&self.slots, slot, name) {
-            Some(shared) => Ok(shared.clone()?),
-            None => self.put(alloc, slot, shared_name(alloc, name)?),
+            Some(shared) => shared.clone(),
+            None => self.put(alloc, slot, named(name)?),
         }
     }
 
@@ -110,11 +104,8 @@ impl Interner {
         };
         let slot = SLOTS + usize::from(place);
         match find_byte(&self.slots, slot, byte) {
-            Some(shared) => Ok(shared.clone()?),
-            None => {
-                let shared = shared_byte(alloc, &Number::Numeral(byte))?;
-                self.put(alloc, slot, shared)
-            }
+            Some(shared) => shared.clone(),
+            None => self.put(alloc, slot, run(Number::Numeral(byte), Number::Numeral(1))),
         }
     }
 

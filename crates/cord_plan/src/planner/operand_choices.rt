@@ -1,20 +1,17 @@
 // What stands for the operands of a line: their names, or expressions of earlier lines.
-ghost use Rattle.std.specs.Prelude.{◌≡◌, ◌==◌, ◌+◌, ◌-◌, ◌<◌, ◌≤◌, ◌++◌, ◌∷◌, ◌||◌, ℕ, List, Option, Some};
+ghost use Rattle.std.specs.Prelude.{◌≡◌, ◌==◌, ◌+◌, ◌-◌, ◌<◌, ◌++◌, ◌∷◌, ◌||◌, ℕ, List, Option, Some};
 ghost use Rattle.std.specs.Prelude.{IfOk, IfSome, drop, length, map, not, option_map, slice_get};
 ghost use Rattle.cord_plan.specs.Exprs as plain;
 ghost use Rattle.cord_plan.specs.Exprs.{names, name, parts};
-ghost use Rattle.cord_plan.specs.declared.flow.numbering.Numbering.{Numbering};
+ghost use Rattle.cord_syntax.specs.declared.statements.Statement.{Statement};
 ghost use Rattle.cord_plan.specs.Operands.{assigns, count};
 ghost use Rattle.cord_plan.specs.Inlined.{is_small, expr_of, expr_with};
-ghost use Rattle.cord_plan.specs.inner.Choices.{simple_operands, parts_beside, expression_in, room_left, room_left_by};
-ghost use Rattle.cord_plan.specs.inner.Choices.{is_spare, stands};
+ghost use Rattle.cord_plan.specs.inner.Choices.{is_spare, parts_beside, expression_in, room_left, room_left_by, stands};
 ghost use Rattle.cord_plan.specs.inner.Choices.{choice_view, IsChoice, AreChoices};
 ghost use Rattle.cord_syntax.specs.Readings.{operand_names};
-ghost use Rattle.cord_plan.specs.inner.ExpressionFacts.{IsFacts, AreFactsOf};
-ghost use Rattle.cord_plan.specs.inner.Liveness.{reports, IsReported};
-ghost use Rattle.cord_plan.specs.inner.Numbering.{IsNumbered};
-ghost use Rattle.cord_plan.specs.inner.Recent.{IsRecent};
-ghost use Rattle.cord_plan.specs.inner.Steps.{is_cat, is_last, is_named, table_view};
+ghost use Rattle.cord_plan.specs.inner.ExpressionFacts.{IsFacts, IsKnown};
+ghost use Rattle.cord_plan.specs.inner.Liveness.{reports};
+ghost use Rattle.cord_plan.specs.inner.Steps.{is_cat, is_last, is_named, table_view, IsSimpleLine};
 ghost use Rattle.cord_plan.specs.Views.{expr_view};
 ghost use Rattle.std.specs.Str.{bytes_eq};
 
@@ -124,8 +121,8 @@ fn room_left_by(chosen: &[Choice], room: u32) -> Option<u32>
 }
 
 // How much of a room is left after the parts of an expression, of which this may be known.
-fn room_left_known(expression: &Expr, facts: Option<&Facts>, room: u32) -> Option<u32>
-    requires { (t : Numbering) × IfSome facts (λ f. IsFacts t (expr_view expression.now) f.now) }
+fn room_left_known(expression: &Expr, facts: Option<Facts>, room: u32) -> Option<u32>
+    requires { (s : List Statement) × (b : ℕ) × IfSome facts (λ f. IsFacts s b (expr_view expression.now) f) }
     ensures { result ≡ room_left (parts (expr_view expression.now)) room }
 {
     match facts {
@@ -135,10 +132,9 @@ fn room_left_known(expression: &Expr, facts: Option<&Facts>, room: u32) -> Optio
 }
 
 // Whether a line's expression stays small with this one for the next operand after those that were chosen for.
-fn stays_small(line: &Line, chosen: &[Choice], expression: &Expr, facts: Option<&Facts>) -> bool
-    requires facts { IfSome facts (λ f. IsFacts line.now.recent.now.later.now.numbering (expr_view expression.now)
-        f.now) }
-    requires operands { simple_operands line.now.statement.now ≡ Some (operand_names line.now.operands) }
+fn stays_small(line: &Line, chosen: &[Choice], expression: &Expr, facts: Option<Facts>) -> bool
+    requires facts { IfSome facts (λ f. IsFacts line.now.statements.now line.now.place (expr_view expression.now) f) }
+    requires line { IsSimpleLine line.now }
     requires more { length chosen.now < length (operand_names line.now.operands) }
     ensures { result ≡ is_small (expr_with line.now.statement.now
         (map expr_of (map choice_view chosen.now) ++ expr_view expression.now
@@ -171,13 +167,11 @@ fn stands(
     later: bool,
     source: usize,
     expression: &Expr,
-    facts: Option<&Facts>,
+    facts: Option<Facts>,
 ) -> bool
     requires later { later ≡ reports line.now.recent.now.later.now operand.now line.now.place }
-    requires place { line.now.place ≤ length line.now.statements.now }
-    requires facts { IfSome facts (λ f. IsFacts line.now.recent.now.later.now.numbering (expr_view expression.now)
-        f.now) }
-    requires recent { IsRecent line.now.statements.now line.now.place line.now.recent.now }
+    requires line { IsSimpleLine line.now }
+    requires facts { IfSome facts (λ f. IsFacts line.now.statements.now line.now.place (expr_view expression.now) f) }
     ensures { result ≡ stands line.now.statements.now (reports line.now.recent.now.later.now) (expr_view expression.now)
         source line.now.place line.now.statement.now (operand_names line.now.operands) operand.now }
 {
@@ -193,15 +187,9 @@ pub(crate) fn choose<'a>(
     expressions: &'a [Option<Expr>],
     chosen: &[Choice],
 ) -> Choice<'a>
-    requires numbers { IsNumbered line.now.recent.now.later.now.numbering line.now.statement.now line.now.numbers }
-    requires known { AreFactsOf line.now.recent.now.later.now.numbering
-        (table_view expressions.now) known.now }
-    requires place { line.now.place ≤ length line.now.statements.now }
-    requires recent { IsRecent line.now.statements.now line.now.place line.now.recent.now }
-    requires operands { simple_operands line.now.statement.now ≡ Some (operand_names line.now.operands) }
-    requires more { length chosen.now < length (operand_names line.now.operands) }
+    requires line { IsSimpleLine line.now }
+    requires known { IsKnown line.now.statements.now line.now.place (table_view expressions.now) known.now }
     requires operand { slice_get (operand_names line.now.operands) (length chosen.now) ≡ Some operand.now }
-    requires reported { IsReported line.now.recent.now.later.now line.now.statement.now line.now.place }
     ensures { IsChoice line.now.statements.now (reports line.now.recent.now.later.now) line.now.place
         line.now.statement.now (operand_names line.now.operands) operand.now
         (table_view expressions.now)
@@ -270,14 +258,9 @@ pub(crate) fn choose_all<'a>(
     operands: &'a [Name],
     expressions: &'a [Option<Expr>],
 ) -> Result<Vec<Choice<'a>>, AllocError>
-    requires known { AreFactsOf line.now.recent.now.later.now.numbering
-        (table_view expressions.now) known.now }
-    requires place { line.now.place ≤ length line.now.statements.now }
-    requires recent { IsRecent line.now.statements.now line.now.place line.now.recent.now }
+    requires known { IsKnown line.now.statements.now line.now.place (table_view expressions.now) known.now }
+    requires line { IsSimpleLine line.now }
     requires listed { operand_names line.now.operands ≡ operands.now }
-    requires operands { simple_operands line.now.statement.now ≡ Some (operand_names line.now.operands) }
-    requires numbers { IsNumbered line.now.recent.now.later.now.numbering line.now.statement.now line.now.numbers }
-    requires reported { IsReported line.now.recent.now.later.now line.now.statement.now line.now.place }
     ensures { IfOk result (λ cs. AreChoices line.now.statements.now
         (reports line.now.recent.now.later.now) line.now.place line.now.statement.now
         (table_view expressions.now) (map choice_view cs.items)) }

@@ -1,5 +1,6 @@
 use Rattle.std.specs.Prelude.{◌≡◌, ◌≤◌, ◌+◌, ◌-◌}
-use Rattle.cord_plan.proofs.Common.{length, vec_len, vec_capacity, AreFactsOf, reports, IsRecent, AreLonger, IsBegun, table_view}
+use Rattle.cord_plan.proofs.Common.{length, vec_len, vec_capacity, reports, IsRecent, AreLonger, IsBegun, table_view}
+use Rattle.cord_plan.specs.inner.ExpressionFacts.{IsKnown}
 use Rattle.cord_plan.proofs.planner.expressions.expressions_of.Given as goal
 
 -- the expressions of the lines so far, with room for those to come, and what was noted of those lines
@@ -12,5 +13,5 @@ invariant-loop-place l = record {
   longer : AreLonger l.statements (reports l.later) l.extending.items;
   later : l.recent.later.now ≡ l.later;
   recent : IsRecent l.statements l.place l.recent;
-  known : AreFactsOf l.later.numbering (table_view l.expressions.items) l.known;
+  known : IsKnown l.statements l.place (table_view l.expressions.items) l.known;
 }

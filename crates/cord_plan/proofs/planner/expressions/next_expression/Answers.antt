@@ -1,19 +1,19 @@
 use Rattle.std.specs.Prelude.{◌≡◌}
-use Rattle.cord_plan.proofs.Common.{None, rules, simple_operands, reports, table_view}
-use Rattle.cord_plan.proofs.Begun.{never_reported, next_without}
-use Rattle.cord_plan.proofs.ExpressionFacts.{known_more}
+use Rattle.cord_plan.proofs.Common.{None, refl, rules, simple_operands, reports, table_view}
+use Rattle.cord_plan.proofs.Begun.{next_without}
 use Rattle.cord_plan.proofs.planner.expressions.next_expression.Goals as goal
 
-pub returns-in_default-clause-made : goal.returns-in_default-clause-made
-returns-in_default-clause-made c =
+pub returns-in_default : goal.returns-in_default
+returns-in_default c =
     let none : simple_operands c.args.statement.now ≡ None = search rules in
     next_without c.args.statements.now (reports c.args.recent.now.later.now) c.args.place c.args.statement.now
-    (table_view c.args.expressions.now) c.args.taken.now none
+    (table_view c.args.expressions.now) c.args.taken.now c.args.known.now _ none refl refl c.requires.known
 
-pub returns-in_default-clause-known : goal.returns-in_default-clause-known
-returns-in_default-clause-known c = known_more c.args.recent.now.later.now.numbering (table_view c.args.expressions.now) None
-    c.args.known.now c.requires.known
-
-pub returns-in_default-clause-extends : goal.returns-in_default-clause-extends
-returns-in_default-clause-extends c = never_reported c.args.statements.now (reports c.args.recent.now.later.now) c.args.place
-    c.args.statement.now (table_view c.args.expressions.now)
+pub expression_over-requires-clause-line : goal.expression_over-requires-clause-line
+expression_over-requires-clause-line c = record {
+  here = c.requires.here;
+  operands = search rules;
+  numbers = c.requires.numbers;
+  reported = c.requires.reported c.args.place c.args.statement.now c.requires.here;
+  recent = c.requires.recent;
+}

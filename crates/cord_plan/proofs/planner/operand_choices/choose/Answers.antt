@@ -1,6 +1,6 @@
 use Rattle.std.specs.Prelude.{◌≡◌, ◌+◌, ◌&&◌, ◌∷◌, ◌++◌}
 use Rattle.cord_plan.proofs.Common.{Bool, true, false, map, drop, length, sym, ap, ◌∙◌, name, expr_of, expr_with, is_small, reports}
-use Rattle.cord_plan.proofs.Common.{table_view, expr_view, choice_view, operand_names}
+use Rattle.cord_plan.proofs.Common.{table_view, expr_view, choice_view, operand_names, slice_get_within}
 use Rattle.cord_plan.specs.inner.Choices.{stands}
 use Rattle.cord_plan.proofs.Numbers.{operand_number}
 use Rattle.cord_plan.proofs.Nearest.{bare_choice, far_choice, tested_choice}
@@ -8,19 +8,19 @@ use Rattle.cord_plan.proofs.planner.operand_choices.choose.Goals as goal
 use Rattle.cord_plan.proofs.planner.operand_choices.choose.Goals.{else-stands-via-then-stands+else-stays_small, else-stands-via-else-stands}
 
 pub stands-requires-clause-facts : goal.stands-requires-clause-facts
-stands-requires-clause-facts c = c.at-facts.ensures c.args.line.now.recent.now.later.now.numbering (table_view c.args.expressions.now)
-    (expr_view c.in-Some-expression_at.expression.now) c.requires.known (sym c.in-Some-expression_at.ensures)
+stands-requires-clause-facts c = c.at-facts.ensures c.args.line.now.statements.now c.args.line.now.place (table_view c.args.expressions.now)
+    (expr_view c.in-Some-expression_at.expression.now) c.requires.known.facts (sym c.in-Some-expression_at.ensures)
 
 pub stays_small-requires-clause-facts : goal.stays_small-requires-clause-facts
-stays_small-requires-clause-facts c = c.at-facts.ensures c.args.line.now.recent.now.later.now.numbering (table_view c.args.expressions.now)
-    (expr_view c.in-Some-expression_at.expression.now) c.requires.known (sym c.in-Some-expression_at.ensures)
+stays_small-requires-clause-facts c = c.at-facts.ensures c.args.line.now.statements.now c.args.line.now.place (table_view c.args.expressions.now)
+    (expr_view c.in-Some-expression_at.expression.now) c.requires.known.facts (sym c.in-Some-expression_at.ensures)
 
 pub returns-in-None : goal.returns-in-None
 returns-in-None c =
     let line = c.args.line.now in
     let xs = operand_names line.operands in
     let number = c.number_at-number.ensures ∙ operand_number line.recent.now.later.now.numbering line.statement.now line.numbers xs
-    (length c.args.chosen.now) c.args.operand.now c.requires.numbers c.requires.operands c.requires.operand in
+    (length c.args.chosen.now) c.args.operand.now c.requires.line.numbers c.requires.line.operands c.requires.operand in
     far_choice line.statements.now (reports line.recent.now.later.now) line.place line.statement.now xs c.args.operand.now
     (table_view c.args.expressions.now) (map choice_view c.args.chosen.now) (sym (c.in-None.ensures c.args.operand.now number))
 
@@ -29,7 +29,7 @@ returns-in-None-expression_at c =
     let line = c.args.line.now in
     let xs = operand_names line.operands in
     let number = c.number_at-number.ensures ∙ operand_number line.recent.now.later.now.numbering line.statement.now line.numbers xs
-    (length c.args.chosen.now) c.args.operand.now c.requires.numbers c.requires.operands c.requires.operand in
+    (length c.args.chosen.now) c.args.operand.now c.requires.line.numbers c.requires.line.operands c.requires.operand in
     bare_choice line.statements.now (reports line.recent.now.later.now) line.place line.statement.now xs c.args.operand.now
     (table_view c.args.expressions.now) (map choice_view c.args.chosen.now) c.in-Some.source
     (sym (c.in-Some.ensures c.args.operand.now number)) (sym c.in-None-expression_at.ensures)
@@ -40,11 +40,11 @@ returns-then-stays_small c =
     let xs = operand_names line.operands in
     let r = expr_view c.in-Some-expression_at.expression.now in
     let number = c.number_at-number.ensures ∙ operand_number line.recent.now.later.now.numbering line.statement.now line.numbers xs
-    (length c.args.chosen.now) c.args.operand.now c.requires.numbers c.requires.operands c.requires.operand in
+    (length c.args.chosen.now) c.args.operand.now c.requires.line.numbers c.requires.line.operands c.requires.operand in
     let small = is_small (expr_with line.statement.now (map (λ d. expr_of d) (map choice_view c.args.chosen.now)
     ++ r ∷ map (λ y. name y) (drop (length (map choice_view c.args.chosen.now) + 1) xs))) in
     tested_choice line.statements.now (reports line.recent.now.later.now) line.place line.statement.now xs c.args.operand.now
-    (table_view c.args.expressions.now) (map choice_view c.args.chosen.now) c.requires.operands c.in-Some.source r
+    (table_view c.args.expressions.now) (map choice_view c.args.chosen.now) c.requires.line.operands c.in-Some.source r
     (sym (c.in-Some.ensures c.args.operand.now number)) (sym c.in-Some-expression_at.ensures) true
     (ap (λ (v : Bool). v && small) (sym c.stands.ensures ∙ c.if-stands.true) ∙ (sym c.stays_small.ensures ∙ c.if-stays_small.true))
 
@@ -54,7 +54,7 @@ returns-else-stands c =
     let xs = operand_names line.operands in
     let r = expr_view c.in-Some-expression_at.expression.now in
     let number = c.number_at-number.ensures ∙ operand_number line.recent.now.later.now.numbering line.statement.now line.numbers xs
-    (length c.args.chosen.now) c.args.operand.now c.requires.numbers c.requires.operands c.requires.operand in
+    (length c.args.chosen.now) c.args.operand.now c.requires.line.numbers c.requires.line.operands c.requires.operand in
     let small = is_small (expr_with line.statement.now (map (λ d. expr_of d) (map choice_view c.args.chosen.now)
     ++ r ∷ map (λ y. name y) (drop (length (map choice_view c.args.chosen.now) + 1) xs))) in
     let refused : (stands line.statements.now (reports line.recent.now.later.now) r c.in-Some.source line.place line.statement.now xs
@@ -64,7 +64,7 @@ returns-else-stands c =
       | else-stands-via-else-stands w ↦ ap (λ (v : Bool). v && small) (sym c.stands.ensures ∙ w.if-stands.false)
     ] in
     tested_choice line.statements.now (reports line.recent.now.later.now) line.place line.statement.now xs c.args.operand.now
-    (table_view c.args.expressions.now) (map choice_view c.args.chosen.now) c.requires.operands c.in-Some.source r
+    (table_view c.args.expressions.now) (map choice_view c.args.chosen.now) c.requires.line.operands c.in-Some.source r
     (sym (c.in-Some.ensures c.args.operand.now number)) (sym c.in-Some-expression_at.ensures) false refused
 
 pub is_operand_later-later-requires-clause-number : goal.is_operand_later-later-requires-clause-number
@@ -72,4 +72,8 @@ is_operand_later-later-requires-clause-number c =
     let line = c.args.line.now in
     c.number_at-number.ensures
     ∙ operand_number line.recent.now.later.now.numbering line.statement.now line.numbers (operand_names line.operands)
-    (length c.args.chosen.now) c.args.operand.now c.requires.numbers c.requires.operands c.requires.operand
+    (length c.args.chosen.now) c.args.operand.now c.requires.line.numbers c.requires.line.operands c.requires.operand
+
+pub stays_small-requires-clause-more : goal.stays_small-requires-clause-more
+stays_small-requires-clause-more c =
+    slice_get_within (operand_names c.args.line.now.operands) (length c.args.chosen.now) c.args.operand.now c.requires.operand

@@ -7,12 +7,6 @@ use Rattle.cord_plan.specs.Inlined as plain
 use Rattle.cord_plan.proofs.Choices.{more_chosen, simple_reads}
 use Rattle.cord_plan.proofs.planner.operand_choices.choose_all.Goals as goal
 
-pub choose-choice-requires-clause-more : goal.choose-choice-requires-clause-more
-choose-choice-requires-clause-more c =
-    let same : length c.deref.result.now ≡ length c.loop-operand.chosen.items = ap length c.deref.ensures.value in
-    let listed : length (operand_names c.args.line.now.operands) ≡ length c.args.operands.now = ap length c.requires.listed in
-    omega arith
-
 pub loop-operand-preserved : goal.loop-operand-preserved
 loop-operand-preserved c =
     let line = c.args.line.now in
@@ -59,7 +53,7 @@ returns c =
     c.loop-operand-test.false)
     ∙ (c.loop-operand.invariant.so_far t has
     ∙ ap (λ (ys : List (List ℕ)). plain.choices s later t b l [] ys)
-    (sym (simple_reads l xs (c.requires.operands ∙ ap (λ (ys : List (List ℕ)). Some ys) c.requires.listed))))
+    (sym (simple_reads l xs (c.requires.line.operands ∙ ap (λ (ys : List (List ℕ)). Some ys) c.requires.listed))))
 
 pub choose-choice-requires-clause-operand : goal.choose-choice-requires-clause-operand
 choose-choice-requires-clause-operand c =
