@@ -4,12 +4,8 @@ use Rattle.cord_plan.proofs.Common.{ℕ, zero, suc, Bool, true, false, List, [],
 use Rattle.cord_plan.proofs.Common.{inl, inr, ⊎_elim, arith, append_assoc, append-nil, length-append, slice_get, eq-or-lt_of_le, map-append}
 use Rattle.cord_plan.proofs.Common.{Statement, Expr, name, assigns, assigns_at, ChoiceTable, Choice, named, replaced, expr_of, expr_with}
 use Rattle.cord_plan.proofs.Common.{first_of, defining, setter, fits, is_small, chosen_from, chosen_of, choices, operands_chosen, grown}
-use Rattle.cord_plan.proofs.Common.{exprs}
+use Rattle.cord_plan.proofs.Common.{exprs, and_parts}
 use Rattle.cord_plan.proofs.Pushed.{get_before}
-
-pub both_true : (a b : Bool) → (a && b) ≡ true → (a ≡ true) × (b ≡ true)
-both_true true b e = (refl, e)
-both_true false b e = let bad : ⊥ = cc in absurd bad
 
 -- the last element of a list, or one before it
 pub last_or : {X : Type 0} (xs : List X) (y : X) (k : ℕ) (z : X) → slice_get (xs ++ y ∷ []) k ≡ Some z → (slice_get xs k ≡ Some z) ⊎
@@ -85,7 +81,7 @@ module _ (s : List Statement) (later : List ℕ → ℕ → Bool) where
       pick : (v : Bool) → (fits s later r a b l x && is_small (expr_with l (before ++ r ∷ after))) ≡ v →
           Stands table b l before after x (if v then replaced a r else named x)
       pick true e =
-          let p = both_true (fits s later r a b l x) (is_small (expr_with l (before ++ r ∷ after))) e in
+          let p = and_parts (fits s later r a b l x) (is_small (expr_with l (before ++ r ∷ after))) e in
           (record { found = set; set = setter_is s x b a set; from = from; fit = p.0 }, p.1)
       pick false e = refl
 

@@ -3,8 +3,8 @@ pub use Rattle.std.proofs.Common.{Bor, Global, add-one, ap, append-nil, append_a
 pub use Rattle.std.proofs.Common.{refl, rules, subst, sym, to_z, w64, ⊎_elim, ◌∙◌}
 pub use Rattle.std.proofs.Math.Bool.{and-false, and-true, or-false, or_assoc}
 pub use Rattle.std.proofs.Math.Nat.{div-add-mod, eq-or-lt_of_le, mod-lt}
-pub use Rattle.std.proofs.lemmas.Bool.{cases_eq, cases_lt, eq-eqb, eqb-true, le-leb, leb-false, leb-true, lt-leb, ltb-false, ne_eqb}
-pub use Rattle.std.proofs.lemmas.Bool.{or_left, or_right, true≢false}
+pub use Rattle.std.proofs.lemmas.Bool.{and_parts, cases_eq, cases_lt, eq-eqb, eqb-true, false_from_ne_true, le-leb, leb-false, leb-true}
+pub use Rattle.std.proofs.lemmas.Bool.{lt-leb, ltb-false, ne_eqb, not-true, or_cases, or_left, or_right, true≢false}
 pub use Rattle.std.proofs.lemmas.Bool.Decides.{eqb_tells, leb_tells}
 pub use Rattle.std.proofs.lemmas.List.{at_drop_all, at_drop_more, drop-append-le, drop-map, drop-set-lt, drop_all, drop_more}
 pub use Rattle.std.proofs.lemmas.List.{get_or-replicate, length-drop, length-map, length-replicate, length-take, map-append, map-set}

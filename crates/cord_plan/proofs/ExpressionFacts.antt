@@ -4,7 +4,8 @@ use Rattle.cord_plan.proofs.Common.{ℕ, zero, suc, Bool, true, false, List, [],
 use Rattle.cord_plan.proofs.Common.{arith, ⊎_elim, not, slice_get, bytes_eq, or-false, eq-or-lt_of_le, le-leb, or_right, Statement, Expr}
 use Rattle.cord_plan.proofs.Common.{Exprs, cat, name, nothing, preceding, members, names, parts, assigns, has, is_this_name, read_by}
 use Rattle.cord_plan.proofs.Common.{reads_at, target_of, preserves, Has, expression_in, HasFacts, IsFacts, IsChoiceOf, AreFactsOf, IsNumber}
-use Rattle.cord_plan.proofs.Common.{entry_at, entry_of, is_before, reader, Numbering, All, or_assoc, length-append, parts_of}
+use Rattle.cord_plan.proofs.Common.{entry_at, entry_of, is_before, reader, Numbering, All, or_assoc, length-append, parts_of, or_cases}
+use Rattle.cord_plan.proofs.Common.{false_from_ne_true}
 use Rattle.cord_plan.specs.Exprs.{names_of}
 use Rattle.cord_plan.specs.inner.Choices.{AreChoices}
 use Rattle.cord_plan.specs.inner.ExpressionFacts.{IsKnown, IsReadIn}
@@ -12,9 +13,8 @@ use Rattle.std.proofs.lemmas.List.Elements.{All-push}
 use Rattle.cord_plan.specs.inner.Numbering.{names_of as all_names}
 use Rattle.cord_plan.specs.declared.planner.expression_facts.Facts.{Facts}
 use Rattle.cord_plan.specs.declared.planner.expression_facts.ExpressionFacts.{ExpressionFacts}
-use Rattle.cord_plan.proofs.Flows.{or_true}
 use Rattle.cord_plan.proofs.MarkedNames.{has_one}
-use Rattle.cord_plan.proofs.Named.{has_at, has_both, no_true, prefix_names, same_bytes}
+use Rattle.cord_plan.proofs.Named.{has_at, has_both, prefix_names, same_bytes}
 use Rattle.cord_plan.proofs.Nearest.{first_in}
 use Rattle.cord_plan.proofs.Numbers.{number_reported}
 use Rattle.cord_plan.proofs.PartSums.{parts_members, sum_append, sum_parts}
@@ -51,7 +51,7 @@ module _ (s : List Statement) where
   both_read b es e f g c one two first second x h = ⊎_elim
       (λ k. read_more x f.since b c b first (omega arith) (one.read x k))
       (λ k. read_more x g.since b c b second (omega arith) (two.read x k))
-      (or_true (has (names (cat (members es))) x) (has (names e) x) (sym (has_then es e x) ∙ h))
+      (or_cases (has (names (cat (members es))) x) (has (names e) x) (sym (has_then es e x) ∙ h))
 
   pub facts_later : (b : ℕ) (e : Expr) (f : Facts) → IsFacts s b e f → IsFacts s (b + 1) e f
   facts_later b e f facts = record {
@@ -75,7 +75,7 @@ module _ (s : List Statement) where
       ((x : List ℕ) → has xs x ≡ true → IsReadIn s a b x) → preserves (Some l) xs ≡ true
   all_kept a b l before [] read = refl
   all_kept a b l before (x ∷ xs) read =
-      let other : assigns l x ≡ false = no_true (assigns l x) (λ e.
+      let other : assigns l x ≡ false = false_from_ne_true (assigns l x) (λ e.
       let early = before x e in
       let late = last_read x a b (read x (has_at (x ∷ xs) 0 x refl)) in
       let bad : ⊥ = cc in bad) in

@@ -6,9 +6,9 @@ use Rattle.cord_plan.proofs.Common.{Put, Expr, Exprs, name, run, cat, nothing, m
 use Rattle.cord_plan.proofs.Common.{joined_at, joined_by, AreExtending, Choice, ChoiceTable, choices, defining, expr_of, expr_with, exprs}
 use Rattle.cord_plan.proofs.Common.{named, operands_chosen, preserves, replaced, AreLonger, IsLongerAt, is_last, is_longer, is_named}
 use Rattle.cord_plan.proofs.Common.{assigns, read_by, target_of, Joined, Operation, gives, is_dead, is_first, operation, or_nothing}
-use Rattle.cord_plan.proofs.Common.{planned}
+use Rattle.cord_plan.proofs.Common.{planned, and_parts}
 use Rattle.cord_plan.specs.Exprs.{names_of}
-use Rattle.cord_plan.proofs.Chosen.{AreChosen, IsPrefix, Taken, are_chosen, both_true, each_entry, line_there}
+use Rattle.cord_plan.proofs.Chosen.{AreChosen, IsPrefix, Taken, are_chosen, each_entry, line_there}
 use Rattle.cord_plan.proofs.Lacking.{preserves_lacking}
 use Rattle.cord_plan.proofs.Pairs.{EntryOf, entry_of, taken_at, taken_facts}
 use Rattle.cord_plan.proofs.PlannedPairs.{has_defining, operation_at}
@@ -63,7 +63,7 @@ no_cat v h = let bad : false ≡ true = sym (and-false v) ∙ h in cc
 last_reported : (b : ℕ) (c : Choice) → is_last b c ≡ true → Last b c
 last_reported b (named x) h = let bad : ⊥ = cc in absurd bad
 last_reported b (replaced a (cat es)) h =
-    let one : b - a ≡ 1 = eqb-true (b - a) 1 (both_true (b - a == 1) true h).0 in
+    let one : b - a ≡ 1 = eqb-true (b - a) 1 (and_parts (b - a == 1) true h).0 in
     record { place = a; first = es; before = (let next : a + 1 ≡ b = omega (arith, one) in next); is = refl }
 last_reported b (replaced a e) h = absurd (no_cat (b - a == 1) h)
 
@@ -103,7 +103,7 @@ joins_two : (b line : ℕ) (target x : List ℕ) (l : Statement) (c d : Choice) 
     ≡ gives (dead || paired) line target (Joined (cat (members (expr_of c ∷ expr_of d ∷ []))))) →
     (is_last b c && is_named d) ≡ true → Longer b l (c ∷ d ∷ [])
 joins_two b line target x l c d first made h =
-    let p = both_true (is_last b c) (is_named d) h in
+    let p = and_parts (is_last b c) (is_named d) h in
     let last : Last b c = last_reported b c p.0 in
     let other : (y : List ℕ) × (d ≡ named y) = named_reported d p.1 in
     record {

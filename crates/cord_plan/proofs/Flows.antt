@@ -1,13 +1,9 @@
 -- What a backwards fixed point over the lines tells of paths.
-use Rattle.std.specs.Prelude.{◌≡◌, ◌⊎◌, ◌+◌, ◌||◌, ◌&&◌, ◌∷◌}
+use Rattle.std.specs.Prelude.{◌≡◌, ◌⊎◌, ◌+◌, ◌&&◌, ◌∷◌}
 use Rattle.cord_plan.proofs.Common.{ℕ, zero, suc, Bool, true, false, List, [], map, Option, Some, None, refl, sym, ap, ◌∙◌, inl, inr}
 use Rattle.cord_plan.proofs.Common.{slice_get, not, or_left, or_right, Statement, Shape, Straight, Loop, Branch, Otherwise, Close, jump}
 use Rattle.cord_plan.proofs.Common.{Next, NextOf, NextOfClose, open_at, shape_of, reads_at, assigns_at, ReadBy, ReadLater, IsLater, IsFixed}
-use Rattle.cord_plan.proofs.Common.{successors, close_successors, shape_successors, some_of, live, later_within}
-
-pub or_true : (a b : Bool) → (a || b) ≡ true → (a ≡ true) ⊎ (b ≡ true)
-or_true true b e = inl refl
-or_true false b e = inr e
+use Rattle.cord_plan.proofs.Common.{successors, close_successors, shape_successors, some_of, live, later_within, or_cases}
 
 and_true : (a b : Bool) → (not a && b) ≡ true → (a ≡ false) × (b ≡ true)
 and_true true b e = let h : ⊥ = cc in absurd h
@@ -16,7 +12,7 @@ and_true false b e = (refl, e)
 module _ (holds : ℕ → Bool) where
   -- it holds of the one place
   of_one : (q : ℕ) → some_of holds (q ∷ []) ≡ true → holds q ≡ true
-  of_one q e = pick (or_true (holds q) false e)
+  of_one q e = pick (or_cases (holds q) false e)
     where
       pick : (holds q ≡ true) ⊎ (false ≡ true) → holds q ≡ true
       pick (inl h) = h
@@ -24,7 +20,7 @@ module _ (holds : ℕ → Bool) where
 
   -- it holds of one of the two places
   of_two : (q r : ℕ) → some_of holds (q ∷ r ∷ []) ≡ true → (holds q ≡ true) ⊎ (holds r ≡ true)
-  of_two q r e = pick (or_true (holds q) (some_of holds (r ∷ [])) e)
+  of_two q r e = pick (or_cases (holds q) (some_of holds (r ∷ [])) e)
     where
       pick : (holds q ≡ true) ⊎ (some_of holds (r ∷ []) ≡ true) → (holds q ≡ true) ⊎ (holds r ≡ true)
       pick (inl h) = inl h
@@ -114,7 +110,7 @@ module _ (s : List Statement) (k : ℕ) (x : List ℕ) (p : ℕ) (ih : (q : ℕ)
 pub path_of : (s : List Statement) (k : ℕ) (x : List ℕ) (p : ℕ) → live s k x p ≡ true → Reading s x p
 path_of s zero x p e = record { path = []; reads = e }
 path_of s (suc k) x p e = reading_step s k x p (λ q h. path_of s k x q h)
-    (or_true (reads_at (slice_get s p) x)
+    (or_cases (reads_at (slice_get s p) x)
     (not (assigns_at (slice_get s p) x) && some_of (λ q. live s k x q) (successors (map shape_of s) p)) e)
 
 module _ (s : List Statement) (k : ℕ) where

@@ -4,7 +4,7 @@ use Rattle.cord_plan.proofs.Common.{ℕ, zero, suc, Bool, true, false, List, [],
 use Rattle.cord_plan.proofs.Common.{refl, sym, ap, ◌∙◌, arith, slice_get, not, and-false, and-true, le-leb, leb_tells, Statement}
 use Rattle.cord_plan.proofs.Common.{at_drop_more, Exprs, append, names, Shared, members_of, shared_view, shape_of, assigns, assigns_at}
 use Rattle.cord_plan.proofs.Common.{reads, reads_at, Numbering, each_from, is_block, is_block_at, preserves, setter, nearest, PutsPlaces}
-use Rattle.cord_plan.proofs.Common.{entry_of, reader, blocker, is_before, is_after, stay, unless_after}
+use Rattle.cord_plan.proofs.Common.{entry_of, reader, blocker, is_before, is_after, stay, unless_after, or_right}
 use Rattle.cord_plan.specs.Exprs.{names_of}
 use Rattle.cord_plan.proofs.Appending.{names_append}
 use Rattle.cord_plan.proofs.Chosen.{setter_is}
@@ -53,10 +53,6 @@ module _ (s : List Statement) (x : List ℕ) where
       shut None below r k bars = refl
       shut (Some a) below r k bars = ap (λ (v : Bool). if v then None else Some a) (sym (bars a (below a refl)))
 
-      or_true : (v w : Bool) → w ≡ true → (v || w) ≡ true
-      or_true true w e = refl
-      or_true false w e = e
-
       by_assigns : (f k r : Bool) → nearest s x b ≡ unless_after (setter s x b) (reader s x b) (blocker s b)
           → (if f then Some b else (if k || r then None else nearest s x b)) ≡ unless_after (if f then Some b else setter s x b)
           (if r then Some b else reader s x b) (if k then Some b else blocker s b)
@@ -78,7 +74,7 @@ module _ (s : List Statement) (x : List ℕ) where
           free false true = rw (here, block) refl
           free false false = rw (read, block) refl
       by_assigns false true r ih = shut (setter s x b) (λ a e. (setter_is s x b a e).before) (if r then Some b else reader s x b) (Some b)
-          (λ a lt. or_true (is_after (if r then Some b else reader s x b) a) (is_after (Some b) a) (suffix b a lt))
+          (λ a lt. or_right (is_after (if r then Some b else reader s x b) a) (is_after (Some b) a) (suffix b a lt))
       by_assigns false false true ih = shut (setter s x b) (λ a e. (setter_is s x b a e).before) (Some b) (blocker s b)
           (λ a lt. ap (λ (v : Bool). v || is_after (blocker s b) a) (suffix b a lt))
       by_assigns false false false ih = ih

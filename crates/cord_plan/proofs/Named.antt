@@ -1,21 +1,13 @@
 -- What expressions name, and names in lists.
 use Rattle.std.specs.Prelude.{◌≡◌, ◌⊎◌, ◌+◌, ◌<◌, ◌≤◌, ◌∷◌, ◌++◌, ◌||◌, if◌then◌else◌}
 use Rattle.cord_plan.proofs.Common.{ℕ, zero, suc, pos, Bool, true, false, List, [], length, Option, Some, None, refl, sym, ap, ◌∙◌, subst}
-use Rattle.cord_plan.proofs.Common.{inl, inr, arith, append_assoc, append-nil, slice_get, not, nat_le, bytes_eq, or_left, or_right}
+use Rattle.cord_plan.proofs.Common.{inl, inr, arith, append-nil, slice_get, not, nat_le, bytes_eq, or_left, or_right}
 use Rattle.cord_plan.proofs.Common.{leb-true, leb-false, bytes_eq-Decides, Numeral, Statement, Chars, Nul, Cat, Catn, Catc, Substr, Put}
-use Rattle.cord_plan.proofs.Common.{Expr, run, cat, Exprs, nothing, member, append, preceding, members, names, number_names, count, has}
-use Rattle.cord_plan.proofs.Common.{assigns_at, expr_with, each_from, preserves, numbers_named}
+use Rattle.cord_plan.proofs.Common.{Expr, run, cat, Exprs, preceding, members, names, number_names, count, has}
+use Rattle.cord_plan.proofs.Common.{assigns_at, expr_with, each_from, preserves, numbers_named, not-true, or_cases, and_parts}
 use Rattle.cord_plan.specs.Exprs.{names_of}
-use Rattle.cord_plan.proofs.Chosen.{both_true, last_or}
-use Rattle.cord_plan.proofs.Flows.{or_true}
-
-pub not_true : (a : Bool) → not a ≡ true → a ≡ false
-not_true true e = let bad : ⊥ = cc in absurd bad
-not_true false e = refl
-
-pub no_true : (a : Bool) → (a ≡ true → ⊥) → a ≡ false
-no_true true h = absurd (h refl)
-no_true false h = refl
+use Rattle.cord_plan.proofs.Appending.{names_append}
+use Rattle.cord_plan.proofs.Chosen.{last_or}
 
 pub same_bytes : (x y : List ℕ) → bytes_eq x y ≡ true → x ≡ y
 same_bytes x y e = (bytes_eq-Decides x y).0 e
@@ -33,7 +25,7 @@ has_both (y ∷ xs) ys x = by_name (bytes_eq x y) (has_both xs ys x)
     by_name false ih = ih
 
 pub has_append : (xs ys : List (List ℕ)) (y : List ℕ) → has (xs ++ ys) y ≡ true → (has xs y ≡ true) ⊎ (has ys y ≡ true)
-has_append xs ys y e = or_true (has xs y) (has ys y) (sym (has_both xs ys y) ∙ e)
+has_append xs ys y e = or_cases (has xs y) (has ys y) (sym (has_both xs ys y) ∙ e)
 
 pub has_at : (xs : List (List ℕ)) (k : ℕ) (x : List ℕ) → slice_get xs k ≡ Some x → has xs x ≡ true
 has_at [] k x e = let bad : ⊥ = cc in absurd bad
@@ -80,13 +72,13 @@ one_place x (y ∷ xs) i j one e f = pick (bytes_eq x y) refl i j one e f (λ k 
 pub each_at : (holds : ℕ → Bool) (n a m : ℕ) → each_from holds n a ≡ true → a ≤ m → m < a + n → holds m ≡ true
 each_at holds zero a m e low high = absurd (omega arith)
 each_at holds (suc n) a m e low high = pick (nat_le m a) refl (λ above below.
-    each_at holds n (a + 1) m (both_true (holds a) (each_from holds n (a + 1)) e).1 above below)
+    each_at holds n (a + 1) m (and_parts (holds a) (each_from holds n (a + 1)) e).1 above below)
   where
     pick : (v : Bool) → nat_le m a ≡ v → (a + 1 ≤ m → m < a + 1 + n → holds m ≡ true) → holds m ≡ true
     pick true f others =
         let below : m ≤ a = leb-true m a f in
         let same : a ≡ m = omega arith in
-        ap holds (sym same) ∙ (both_true (holds a) (each_from holds n (a + 1)) e).0
+        ap holds (sym same) ∙ (and_parts (holds a) (each_from holds n (a + 1)) e).0
     pick false f others =
         let above : a < m = leb-false m a f in
         others (omega arith) (omega arith)
@@ -94,22 +86,17 @@ each_at holds (suc n) a m e low high = pick (nat_le m a) refl (λ above below.
 pub preserves_at : (l : Option Statement) (xs : List (List ℕ)) (y : List ℕ) → preserves l xs ≡ true → has xs y ≡ true →
     assigns_at l y ≡ false
 preserves_at l [] y e h = let bad : ⊥ = cc in absurd bad
-preserves_at l (x ∷ xs) y e h = pick (or_true (bytes_eq y x) (has xs y) h)
-    (λ f. preserves_at l xs y (both_true (not (assigns_at l x)) (preserves l xs) e).1 f)
+preserves_at l (x ∷ xs) y e h = pick (or_cases (bytes_eq y x) (has xs y) h)
+    (λ f. preserves_at l xs y (and_parts (not (assigns_at l x)) (preserves l xs) e).1 f)
   where
     pick : (bytes_eq y x ≡ true) ⊎ (has xs y ≡ true) → (has xs y ≡ true → assigns_at l y ≡ false) → assigns_at l y ≡ false
     pick (inl f) others = ap (λ (z : List ℕ). assigns_at l z) (same_bytes y x f)
-        ∙ not_true (assigns_at l x) (both_true (not (assigns_at l x)) (preserves l xs) e).0
+        ∙ not-true (assigns_at l x) (and_parts (not (assigns_at l x)) (preserves l xs) e).0
     pick (inr f) others = others f
 
 -- the names of members are those of the expressions
-append_names : (es others : Exprs) → names_of (append es others) ≡ names_of es ++ names_of others
-append_names nothing others = refl
-append_names (member e es) others = ap (λ (x : List (List ℕ)). names e ++ x) (append_names es others)
-    ∙ sym (append_assoc (names e) (names_of es) (names_of others))
-
 pub prefix_names : (e : Expr) (others : Exprs) → names_of (preceding e others) ≡ names e ++ names_of others
-prefix_names (cat es) others = append_names es others
+prefix_names (cat es) others = names_append es others
 prefix_names e others = refl
 
 -- one of these expressions names it

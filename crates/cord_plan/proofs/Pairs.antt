@@ -4,11 +4,11 @@ use Rattle.cord_plan.proofs.Common.{ℕ, zero, suc, Bool, true, false, List, [],
 use Rattle.cord_plan.proofs.Common.{⊎_elim, arith, append-nil, slice_get, not, nat_le, bytes_eq, leb-true, leb-false, eqb-true, Grammar}
 use Rattle.cord_plan.proofs.Common.{ReadsBy, Statement, Expr, parts, names, count, has, read_by, reads_at, assigns, assigns_at, ChoiceTable}
 use Rattle.cord_plan.proofs.Common.{Choice, named, replaced, expr_of, expr_with, is_small, is_block_at, each_from, preserves, first_of}
-use Rattle.cord_plan.proofs.Common.{defining, choices, operands_chosen, IsPair, numbers_named, numbers_named_at, IsNoNumber}
+use Rattle.cord_plan.proofs.Common.{defining, choices, operands_chosen, IsPair, numbers_named, numbers_named_at, IsNoNumber, or_cases}
+use Rattle.cord_plan.proofs.Common.{not-true, false_from_ne_true, and_parts}
 use Rattle.cord_plan.specs.declared.TheConstants.{MAX_EXPR_PARTS}
-use Rattle.cord_plan.proofs.Chosen.{both_true, Taken, Chosen, AreChosen, are_chosen, stay_small, EachEntry, IsPrefix, each_entry}
-use Rattle.cord_plan.proofs.Flows.{or_true}
-use Rattle.cord_plan.proofs.Named.{not_true, no_true, same_bytes, has_at, one_place, each_at, preserves_at, SomeNames, Names, with_names}
+use Rattle.cord_plan.proofs.Chosen.{Taken, Chosen, AreChosen, are_chosen, stay_small, EachEntry, IsPrefix, each_entry}
+use Rattle.cord_plan.proofs.Named.{same_bytes, has_at, one_place, each_at, preserves_at, SomeNames, Names, with_names}
 use Rattle.cord_plan.proofs.ReadKinds.{no_number}
 
 module _ (s : List Statement) (later : List ℕ → ℕ → Bool) where
@@ -24,20 +24,20 @@ module _ (s : List Statement) (later : List ℕ → ℕ → Bool) where
   taken_facts table b l x a r h =
       let quiet : ℕ → Bool = λ m. not (is_block_at (slice_get s m)) && not (reads_at (slice_get s m) x) in
       let preserved : ℕ → Bool = λ m. preserves (slice_get s m) (names r) in
-      let p = both_true (each_from quiet (b - (a + 1)) (a + 1))
+      let p = and_parts (each_from quiet (b - (a + 1)) (a + 1))
       ((count x (read_by l) == 1) && ((assigns l x || not (later x b)) && each_from preserved (b - a) a)) h.fit in
-      let q = both_true (count x (read_by l) == 1) ((assigns l x || not (later x b)) && each_from preserved (b - a) a) p.1 in
-      let w = both_true (assigns l x || not (later x b)) (each_from preserved (b - a) a) q.1 in
+      let q = and_parts (count x (read_by l) == 1) ((assigns l x || not (later x b)) && each_from preserved (b - a) a) p.1 in
+      let w = and_parts (assigns l x || not (later x b)) (each_from preserved (b - a) a) q.1 in
       let between : (m : ℕ) → a < m → m < b → quiet m ≡ true =
       λ m low high. each_at quiet (b - (a + 1)) (a + 1) m p.0 (omega arith) (omega arith) in
       record {
-        straight = λ m low high. not_true (is_block_at (slice_get s m))
-            (both_true (not (is_block_at (slice_get s m))) (not (reads_at (slice_get s m) x)) (between m low high)).0;
-        not_live = λ m low high. not_true (reads_at (slice_get s m) x)
-            (both_true (not (is_block_at (slice_get s m))) (not (reads_at (slice_get s m) x)) (between m low high)).1;
+        straight = λ m low high. not-true (is_block_at (slice_get s m))
+            (and_parts (not (is_block_at (slice_get s m))) (not (reads_at (slice_get s m) x)) (between m low high)).0;
+        not_live = λ m low high. not-true (reads_at (slice_get s m) x)
+            (and_parts (not (is_block_at (slice_get s m))) (not (reads_at (slice_get s m) x)) (between m low high)).1;
         once = eqb-true (count x (read_by l)) 1 q.0;
-        later_or = ⊎_elim (λ (e : assigns l x ≡ true). inl e) (λ (e : not (later x b) ≡ true). inr (not_true (later x b) e))
-            (or_true (assigns l x) (not (later x b)) w.0);
+        later_or = ⊎_elim (λ (e : assigns l x ≡ true). inl e) (λ (e : not (later x b) ≡ true). inr (not-true (later x b) e))
+            (or_cases (assigns l x) (not (later x b)) w.0);
         fixed = λ m low high. each_at preserved (b - a) a m w.1 low (omega arith);
       }
 
@@ -137,7 +137,7 @@ module _ (s : List Statement) (later : List ℕ → ℕ → Bool) where
     chosen_named k f y c is_named = pick c.choice c.is c.chosen
       where
         pick : (d : Choice) → expr_of d ≡ f → Chosen s later table b l c.operand d → NamedBy b y
-        pick (named z) same is = one (or_true (bytes_eq y z) false (subst (λ (g : Expr). has (names g) y ≡ true) (sym same) is_named))
+        pick (named z) same is = one (or_cases (bytes_eq y z) false (subst (λ (g : Expr). has (names g) y ≡ true) (sym same) is_named))
           where
             one : (bytes_eq y z ≡ true) ⊎ (false ≡ true) → NamedBy b y
             one (inr bad) = let no_one : ⊥ = cc in absurd no_one
@@ -195,7 +195,7 @@ module _ (s : List Statement) (later : List ℕ → ℕ → Bool) where
         where
           pick : (d : Choice) → expr_of d ≡ f → slice_get made k ≡ Some d → Chosen s later table b l c.operand d → ⊥
           pick (named z) same there is =
-              one (or_true (bytes_eq t z) false (subst (λ (g : Expr). has (names g) t ≡ true) (sym same) is_named))
+              one (or_cases (bytes_eq t z) false (subst (λ (g : Expr). has (names g) t ≡ true) (sym same) is_named))
             where
               one : (bytes_eq t z ≡ true) ⊎ (false ≡ true) → ⊥
               one (inr bad) = let no_one : ⊥ = cc in no_one
@@ -208,7 +208,7 @@ module _ (s : List Statement) (later : List ℕ → ℕ → Bool) where
           pick (replaced k q) same there h = not_there c.operand k q h (subst (λ (g : Expr). has (names g) t ≡ true) (sym same) is_named)
 
       left_out : (e : Expr) → expr_with l (map (λ c. expr_of c) made) ≡ Some e → has (names e) t ≡ false
-      left_out e is = no_true (has (names e) t)
+      left_out e is = false_from_ne_true (has (names e) t)
           (λ is_named. pick (subst (λ (q : Option Expr). Names l (map (λ c. expr_of c) made) t q) is
           (with_names l (map (λ c. expr_of c) made) t) is_named))
         where

@@ -7,10 +7,9 @@ use Rattle.cord_plan.proofs.Common.{name, names, count, read_by, target_of, is_t
 use Rattle.cord_plan.proofs.Common.{ChoiceTable, Choice, named, replaced, expr_of, expr_with, first_of, defining, setter, preserves}
 use Rattle.cord_plan.proofs.Common.{choices, operands_chosen, entry, grown, exprs, or_nothing, operation, operations, is_dead, is_first}
 use Rattle.cord_plan.proofs.Common.{some_from, planned, Decisions, decided, decided_from, is_simple, is_simple_at, HasKinds, stands}
-use Rattle.cord_plan.proofs.Common.{stands_by, IsInlined, MeetsConditions}
+use Rattle.cord_plan.proofs.Common.{stands_by, IsInlined, MeetsConditions, or_cases, not-true}
 use Rattle.cord_plan.proofs.Chosen.{AreChosen, Chosen, EachEntry, IsPrefix, IsSetter, Taken, are_chosen, each_entry, line_there}
-use Rattle.cord_plan.proofs.Flows.{or_true}
-use Rattle.cord_plan.proofs.Named.{not_true, one_place}
+use Rattle.cord_plan.proofs.Named.{one_place}
 use Rattle.cord_plan.proofs.Pairs.{Facts, taken_at, taken_facts}
 
 simple_defining : (l : Statement) (e : Expr) → defining l ≡ Some e → is_simple l ≡ true
@@ -106,7 +105,7 @@ has_source (y ∷ xs) (replaced b q ∷ cs) x (suc i) a r e f none = pick (λ n.
 some_reported : (p : ℕ) (cs : List Choice) → some_from p cs ≡ true → (i : ℕ) × (r : Expr) × (slice_get cs i ≡ Some (replaced p r))
 some_reported p [] e = let bad : ⊥ = cc in absurd bad
 some_reported p (named x ∷ cs) e = let w = some_reported p cs e in (suc w.0, w.1, w.2)
-some_reported p (replaced a r ∷ cs) e = pick (λ h. some_reported p cs h) (or_true (a == p) (some_from p cs) e)
+some_reported p (replaced a r ∷ cs) e = pick (λ h. some_reported p cs h) (or_cases (a == p) (some_from p cs) e)
   where
     pick : (some_from p cs ≡ true → (i : ℕ) × (r : Expr) × (slice_get cs i ≡ Some (replaced p r))) → ((a == p) ≡ true) ⊎
         (some_from p cs ≡ true) → (i : ℕ) × (q : Expr) × (slice_get (replaced a r ∷ cs) i ≡ Some (replaced p q))
@@ -116,7 +115,7 @@ some_reported p (replaced a r ∷ cs) e = pick (λ h. some_reported p cs h) (or_
 first_reported : (p : ℕ) (table : ChoiceTable) → is_first p table ≡ true → (b : ℕ) × (en : Option Expr × List Choice) ×
     (slice_get table b ≡ Some en) × (some_from p en.1 ≡ true)
 first_reported p [] e = let bad : ⊥ = cc in absurd bad
-first_reported p (en ∷ table) e = pick (λ h. first_reported p table h) (or_true (some_from p en.1) (is_first p table) e)
+first_reported p (en ∷ table) e = pick (λ h. first_reported p table h) (or_cases (some_from p en.1) (is_first p table) e)
   where
     pick : (is_first p table ≡ true → (b : ℕ) × (en : Option Expr × List Choice) × (slice_get table b ≡ Some en) ×
         (some_from p en.1 ≡ true)) → (some_from p en.1 ≡ true) ⊎ (is_first p table ≡ true) → (b : ℕ) ×
@@ -356,7 +355,7 @@ module _ (s : List Statement) (later : List ℕ → ℕ → Bool) where
         by_target : (t : Option (List ℕ)) → is_dead later p t ≡ true → is_this_name t x ≡ true → NotLive s x p
         by_target None e f = let bad : ⊥ = cc in absurd bad
         by_target (Some z) e f = subst (λ (y : List ℕ). NotLive s y p) (sym ((bytes_eq-Decides x z).0 f))
-            (reported.not_live z p (not_true (later z p) e))
+            (reported.not_live z p (not-true (later z p) e))
 
         pick : (o : Option Statement) → is_dead later p (target_at o) ≡ true → assigns_at o x ≡ true → NotLive s x p
         pick None e f = let bad : ⊥ = cc in absurd bad

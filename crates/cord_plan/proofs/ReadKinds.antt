@@ -5,13 +5,12 @@ use Rattle.cord_plan.proofs.Common.{slice_get, not, is_some, bytes_eq, bytes_eq-
 use Rattle.cord_plan.proofs.Common.{Substr, Balance, Sprintf, Len, Fetch, Cmp, Ncmp, Str, Chr, Rchr, Assign, Add, Sub, EcInit, EcCat, Put}
 use Rattle.cord_plan.proofs.Common.{Grammar, terms_of, argument_term, Scope, kind_of, with_name, names_after, after_all, AreAllowed}
 use Rattle.cord_plan.proofs.Common.{ReadsBy, start, has, read_by, cord_arguments, assigns, reads_at, makes_cord, assigns_other_at, HasKinds}
-use Rattle.cord_plan.proofs.Common.{numbers_named, numbers_named_at, IsNoNumber}
+use Rattle.cord_plan.proofs.Common.{numbers_named, numbers_named_at, IsNoNumber, or_cases, false_from_ne_true}
 use Rattle.cord_script.specs.declared.TheConstants.{MAX_NAMES}
 use Rattle.cord_script.specs.declared.kinds.Kind.TheVariants as kinds
 use Rattle.cord_operands.specs.declared.operands.Argument.TheVariants as arguments
 use Rattle.cord_script.specs.Forms.Term.{Operand}
-use Rattle.cord_plan.proofs.Flows.{or_true}
-use Rattle.cord_plan.proofs.Named.{has_at, no_true}
+use Rattle.cord_plan.proofs.Named.{has_at}
 use Rattle.cord_plan.proofs.ReadNames.{HasScope, line_scope, numbers_known}
 
 -- a name that stands after others, and not among them, has its kind
@@ -67,7 +66,7 @@ module _ (scope : Scope) (x : List ℕ) where
 
   cord_known : (xs : List (List ℕ)) → AreAllowed scope (map (Operand kinds.Cord) xs) → has xs x ≡ true → IsCord
   cord_known [] h e = let bad : ⊥ = cc in absurd bad
-  cord_known (y ∷ xs) h e = pick (λ r. cord_known xs h.1 r) (or_true (bytes_eq x y) (has xs x) e)
+  cord_known (y ∷ xs) h e = pick (λ r. cord_known xs h.1 r) (or_cases (bytes_eq x y) (has xs x) e)
     where
       pick : (has xs x ≡ true → IsCord) → (bytes_eq x y ≡ true) ⊎ (has xs x ≡ true) → IsCord
       pick rest (inl r) = ap (λ (z : List ℕ). kind_of scope.names z) ((bytes_eq-Decides x y).0 r) ∙ h.0
@@ -77,7 +76,7 @@ module _ (scope : Scope) (x : List ℕ) where
   argument_known [] h e = let bad : ⊥ = cc in absurd bad
   argument_known (arguments.Number n ∷ args) h e = argument_known args h.1 e
   argument_known (arguments.Cord y ∷ args) h e = pick (λ r. argument_known args h.1 r)
-      (or_true (bytes_eq x y) (has (cord_arguments args) x) e)
+      (or_cases (bytes_eq x y) (has (cord_arguments args) x) e)
     where
       pick : (has (cord_arguments args) x ≡ true → IsCord) → (bytes_eq x y ≡ true) ⊎ (has (cord_arguments args) x ≡ true) → IsCord
       pick rest (inl r) = ap (λ (z : List ℕ). kind_of scope.names z) ((bytes_eq-Decides x y).0 r) ∙ h.0
@@ -102,7 +101,7 @@ module _ (scope : Scope) (x : List ℕ) where
   read_known l h e = let bad : ⊥ = cc in absurd bad
 
 pub read_kinds : (g : Grammar) (b : List ℕ) (s : List Statement) → ReadsBy g b s → HasKinds s
-read_kinds g b s read p q x assigned = no_true (reads_at (slice_get s q) x)
+read_kinds g b s read p q x assigned = false_from_ne_true (reads_at (slice_get s q) x)
     (λ reads. clash (slice_get s p) refl assigned (slice_get s q) refl reads)
   where
     last : List Known
@@ -142,7 +141,7 @@ no_number g b s p k l t read at operand = λ q. at_line (slice_get s q) q refl
 
     at_line : (o : Option Statement) (q : ℕ) → slice_get s q ≡ o → has (numbers_named_at o) t ≡ false
     at_line None q here = refl
-    at_line (Some m) q here = no_true (has (numbers_named m) t) (λ named. (
+    at_line (Some m) q here = false_from_ne_true (has (numbers_named m) t) (λ named. (
         let said : HasScope m last = line_scope g read.lines 1 start s q m read.say here in
         let number : kind_of last t ≡ Some kinds.Number =
         said.stays.kept t kinds.Number (numbers_known m said.scope t said.allowed named) in

@@ -3,11 +3,10 @@ use Rattle.std.specs.Prelude.{◌≡◌, ◌⊎◌, ◌+◌, ◌∷◌, ◌++◌
 use Rattle.cord_plan.proofs.Common.{ℕ, zero, suc, Bool, true, false, List, [], Option, Some, None, sym, ap, ◌∙◌, subst, inl, inr, slice_get}
 use Rattle.cord_plan.proofs.Common.{is_some, bytes_eq, Kind, Number, Numeral, Named, Known, Statement, Chars, Nul, Catc, Substr, Grammar}
 use Rattle.cord_plan.proofs.Common.{Term, terms_of, Scope, kind_of, with_name, names_after, after_all, IsAllowed, AreAllowed, LinesSay}
-use Rattle.cord_plan.proofs.Common.{start, Expr, number_names, has, numbers_named}
+use Rattle.cord_plan.proofs.Common.{start, Expr, number_names, has, numbers_named, or_cases}
 use Rattle.cord_script.specs.declared.kinds.Kind.TheVariants as kinds
 use Rattle.cord_script.specs.Forms.Term.{Target, Value}
 use Rattle.cord_script.specs.Script.{after}
-use Rattle.cord_plan.proofs.Flows.{or_true}
 use Rattle.cord_plan.proofs.Named.{has_append, same_bytes}
 
 -- what is known of names stays known
@@ -81,7 +80,7 @@ module _ (g : Grammar) where
 number_known : (scope : Scope) (n : Number) (y : List ℕ) → IsAllowed scope (Value n) → has (number_names n) y ≡ true →
     kind_of scope.names y ≡ Some kinds.Number
 number_known scope (Numeral z) y h e = let bad : ⊥ = cc in absurd bad
-number_known scope (Named x) y h e = pick (or_true (bytes_eq y x) false e)
+number_known scope (Named x) y h e = pick (or_cases (bytes_eq y x) false e)
   where
     pick : (bytes_eq y x ≡ true) ⊎ (false ≡ true) → kind_of scope.names y ≡ Some kinds.Number
     pick (inl f) = ap (λ (z : List ℕ). kind_of scope.names z) (same_bytes y x f) ∙ h

@@ -6,7 +6,6 @@ ghost use Rattle.std.specs.Str.{bytes_eq};
 ghost use Rattle.cord_meaning.specs.Blocks.{jump};
 ghost use Rattle.cord_iter.specs.Output.{Writes};
 ghost use Rattle.cord_plan.specs.Extending.{Extends};
-ghost use Rattle.cord_plan.specs.Inlined.{defining};
 ghost use Rattle.cord_plan.specs.inner.Extensions.{AreExtending};
 ghost use Rattle.cord_plan.specs.Verbatim.{KeepsNoOther};
 ghost use Rattle.cord_plan.specs.Meaning.{IsPlanOf, operation_shape};
@@ -52,19 +51,6 @@ impl Model for Plan {
     ghost invariant = { λ p. HasPlanFacts p.extending.items (map operation_view p.operations.items) p.names.items };
 }
 
-// The operation that makes a line's defining expression.
-fn trivial_operation(
-    alloc: Global,
-    interner: &mut Interner,
-    statement: &Statement,
-) -> Result<Operation, AllocError>
-    ensures { IfOk result (λ o. operation_view o
-        ≡ plan.operation statement.now (plan.or_nothing (defining statement.now)) false false) }
-{
-    let mut expression = defining_expression(alloc, interner, statement)?;
-    operation_of(statement, &mut expression, false, false)
-}
-
 // The operations of the trivial plan.
 fn trivial_operations(alloc: Global, statements: &[Statement]) -> Result<Vec<Operation>, AllocError>
     ensures made { IfOk result (λ os. map operation_view os.items ≡ plan.trivial statements.now) }
@@ -72,7 +58,9 @@ fn trivial_operations(alloc: Global, statements: &[Statement]) -> Result<Vec<Ope
     let mut operations = Vec::with_capacity(alloc, statements.len())?;
     let mut interner = Interner::of(alloc);
     'lines: for statement in statements {
-        operations.push_reserved(trivial_operation(alloc, &mut interner, statement)?);
+        let mut expression = defining_expression(alloc, &mut interner, statement)?;
+        let operation = operation_of(statement, &mut expression, false, false)?;
+        operations.push_reserved(operation);
     }
     Ok(operations)
 }

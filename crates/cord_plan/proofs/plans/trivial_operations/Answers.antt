@@ -25,6 +25,7 @@ one_more xs i l before o within at so_far made =
 pub lines-preserved : goal.lines-preserved
 lines-preserved c = record {
   so_far = ap (map operation_view) c.push_reserved.ensures.items
-      ∙ one_more _ _ _ _ _ c.lines-test.true c.statement-item.is c.lines.invariant.so_far c.in_ok-trivial_operation.ensures;
+      ∙ one_more _ _ _ _ _ c.lines-test.true c.statement-item.is c.lines.invariant.so_far
+      (c.in_ok-operation.ensures.made ∙ ap (λ e. operation c.statement-item.result (or_nothing e) false false) c.in_ok-expression.ensures.made);
   room = omega (arith, c.lines-test.true, c.lines.invariant.room, c.push_reserved.ensures.len, c.push_reserved.ensures.capacity);
 }
