@@ -37,16 +37,6 @@ pub(crate) struct ExpressionFacts {
 }
 
 impl Facts {
-    // Of no members, in the line at a place.
-    fn none(place: usize) -> Self
-        ensures { (s : List Statement) (b : ℕ) → IsFacts s b (plain.cat (members [])) result }
-    {
-        Facts {
-            parts: 0,
-            since: place,
-        }
-    }
-
     // Of a name that the line at a place reads.
     fn of_name(place: usize) -> Self
         ensures { (s : List Statement) (x : List ℕ) → reads_at (slice_get s place) x ≡ true →
@@ -132,7 +122,10 @@ impl ExpressionFacts {
             All (IsChoiceOf s line.now.place table) (map choice_view choices.now) → IfSome result (λ f.
             IsFacts s (line.now.place + 1) (plain.cat (members (map expr_of (map choice_view choices.now)))) f) }
     {
-        let mut facts = Facts::none(line.place);
+        let mut facts = Facts {
+            parts: 0,
+            since: line.place,
+        };
         for (index, choice) in choices.iter().enumerate() {
             let number = number_at(line.numbers.read, index);
             let more = self.of_choice(choice, number, line.place)?;

