@@ -1,7 +1,7 @@
 -- Names that several proofs of this crate cite, passed on from one place. Declares nothing.
 pub use Rattle.std.proofs.Common.{ap, append-nil, append_assoc, arith, inl, inr, length-append, length-drop, length-take, of_z, refl, rules}
 pub use Rattle.std.proofs.Common.{subst, sym, take-append-drop, to_z, w64, ⊎_elim, ◌∙◌}
-pub use Rattle.std.proofs.lemmas.Bool.{le-leb, leb-false, leb-true, lt-leb}
+pub use Rattle.std.proofs.lemmas.Bool.{leb-false, leb-true, lt-leb}
 pub use Rattle.std.proofs.lemmas.Int.{to_z-of_z}
 pub use Rattle.std.proofs.lemmas.List.{drop-append-le, drop-drop, drop-map, drop-replicate, drop-take, drop_all, drop_at, drop_min}
 pub use Rattle.std.proofs.lemmas.List.{drop_more, length-map, length-replicate, length-take-le, map-append, set-get_or, take-append-le}
@@ -26,11 +26,8 @@ pub use Rattle.cord_core.proofs.Catting.{IsCatting, catting_end, catting_start, 
 pub use Rattle.cord_core.proofs.OverLemmas.{CordFits-reported, CordFitsIn-longer, all_over, bytes-text, length-bytes}
 pub use Rattle.cord_core.specs.Equations.{IsAllOf, IsCatOf, IsSameText, IsSourceRange}
 pub use Rattle.cord_core.specs.Forms.{IsLeafOf}
-pub use Rattle.cord_core.specs.Refusals.{IsRefusal}
 pub use Rattle.cord_iter.specs.Output.{CountsFaults}
 pub use Rattle.cord_file.specs.Files.{as_long_as_reported}
-pub use Rattle.cord_file.specs.Opening.{Grows}
-pub use Rattle.cord_file.specs.Sources.{device_in, opened_in}
 pub use Rattle.cord_ec.specs.Grown.{IsCordOf}
 pub use Rattle.cord_edit.specs.Edits.{edited}
 pub use Rattle.cord_printf.specs.declared.pieces.Piece.{Piece}
@@ -38,7 +35,6 @@ pub use Rattle.cord_operands.specs.declared.operands.Argument.{Argument}
 pub use Rattle.cord_operands.specs.declared.operands.Function.{Function}
 pub use Rattle.cord_operands.specs.declared.operands.Function.TheVariants.{Bytes, Digits}
 pub use Rattle.cord_operands.specs.declared.operands.Number.TheVariants.{Named, Numeral}
-pub use Rattle.cord_syntax.specs.Families.{statement_of}
 pub use Rattle.cord_syntax.specs.declared.families.Computation.{Computation}
 pub use Rattle.cord_syntax.specs.declared.statements.Statement.TheVariants.{Add, Balance, Cat, Catc, Catn, Chars, Eager, EcToCord, Else}
 pub use Rattle.cord_syntax.specs.declared.statements.Statement.TheVariants.{File, FromFn, If, Lazy, Len, Let, Nul, Put, Repeat, Sprintf}
@@ -63,7 +59,7 @@ pub use Rattle.cord_meaning.specs.inner.Running.{Ran, puts_of}
 pub use Rattle.cord_meaning.specs.inner.Simulation.{IsControl}
 pub use Rattle.cord_plan.proofs.ExprViews.{view-Cat, view-Name, view-Run, view-Sub}
 pub use Rattle.cord_plan.proofs.Halves.{halves_Some, prefix_falls, prefix_lighter, rest_falls}
-pub use Rattle.cord_plan.proofs.Values.{cat_joined, fits_within, is_within, passes}
+pub use Rattle.cord_plan.proofs.Values.{cat_joined, fits_within, is_within, passes, same_text}
 pub use Rattle.cord_plan.specs.Edits.{edit_view, middle_then, own_range}
 pub use Rattle.cord_plan.specs.Exprs.{names, number_names}
 pub use Rattle.cord_plan.specs.Meaning.{IsPlanOf, KeepsMeaning, builds, extent, held_length, held_text, if_all, is_text, measures}
@@ -82,54 +78,42 @@ pub use Rattle.cord_run.specs.declared.expressions.ranges.Wanted.{Wanted}
 pub use Rattle.cord_run.specs.declared.targets.edits.Replaced.{Replaced}
 pub use Rattle.cord_run.specs.declared.targets.files.Reading.{Reading}
 pub use Rattle.cord_run.specs.declared.targets.files.Reading.TheVariants.{ByLength}
-pub use Rattle.cord_run.specs.inner.Appends.{Began, Changes, FitsSome, GoesWithin, GrowsOn, HasBeside, IsLengthReported, IsMadeAfter}
-pub use Rattle.cord_run.specs.inner.Appends.{IsSettled, IsStopOfNoDevice, JoinsTo, MeasuresBeside, Narrowed, PutIn, PutMiddle}
-pub use Rattle.cord_run.specs.inner.Appends.{ReportsLength, Spot, SpotFits, StepsTo, Works, WorksOrLeaves, holding_with, point_of}
-pub use Rattle.cord_run.specs.inner.Appends.{spot_growing, spot_of}
-pub use Rattle.cord_run.specs.inner.Common.{All, AllFitIn, AreFrom, AreHeldIn, Bool, Bor, Build, Cell, Content, ControlStop, CordError}
-pub use Rattle.cord_run.specs.inner.Common.{CordFits, CordFitsIn, End, Entry, Err, Expr, Exprs, FailureCounts, FaultKind, FileSystem}
-pub use Rattle.cord_run.specs.inner.Common.{Growth, HasLengths, HasText, Held, Holding, IfErr, IfOk, IfSome, IsCord, IsGrownBy, IsPrefixOf}
-pub use Rattle.cord_run.specs.inner.Common.{IsSome, IsSpliced, IsSubstring, Joined, Lengths, List, Long, MAX_LEN, Made, Measure, Negative}
-pub use Rattle.cord_run.specs.inner.Common.{Node, None, Number, OfEager, OfFile, OfLazy, Ok, Opened, Operation, Option, Overflow, PartsFrom}
-pub use Rattle.cord_run.specs.inner.Common.{PlanOutcome, Printed, Result, Some, State, Statement, Stop, StopAt, Table, Takes, Text, TooLong}
-pub use Rattle.cord_run.specs.inner.Common.{TooManyTurns, Whole, [], all_bytes, all_len, all_parts, all_text, all_texts, and_then, append}
-pub use Rattle.cord_run.specs.inner.Common.{as_byte, as_index, as_length, bytes_eq, bytes_of, bytes_of_cells, cat, copies, cords, cords_of}
-pub use Rattle.cord_run.specs.inner.Common.{does, drop, false, fits_i64, get_or, gets, jump, keeps, known, lacks, length}
-pub use Rattle.cord_run.specs.inner.Common.{length_of, lengths_in, lengths_of, made_length, made_text, map, measured, measured_members}
-pub use Rattle.cord_run.specs.inner.Common.{member, min, name, names_of, nat_lt, negsuc, nothing, number_value, opened, operation_line}
-pub use Rattle.cord_run.specs.inner.Common.{operation_shape, part_of, parts_of, plain, plan_end, plan_rules, plan_trace, pos, raised}
-pub use Rattle.cord_run.specs.inner.Common.{replicate, run, slice_get, start_holding, sub, suc, table_in, take, text, text_in, text_len}
-pub use Rattle.cord_run.specs.inner.Common.{texts_to_build, texts_to_measure, true, values, with_value, within, zero, ℕ, ℤ, ⊤}
-pub use Rattle.cord_run.specs.inner.Contents.{IsCordOfText, IsExtended, IsFaultOver, IsFileAt, IsLength, IsLengthAt, IsLengthOfNames}
-pub use Rattle.cord_run.specs.inner.Contents.{IsMade, IsMadeOfNames, IsNoFileAt, IsReportedOver, IsStartAsked, IsStartOf, IsStopBy}
-pub use Rattle.cord_run.specs.inner.Contents.{IsStopOver, IsTextOver, IsUnmade, IsUnmadeOfNames, IsUnmeasured, IsUnmeasuredOfNames}
-pub use Rattle.cord_run.specs.inner.Contents.{TakesNoMemory, argument_in, extensible_length, function_source, has_failed, length_or_stop}
-pub use Rattle.cord_run.specs.inner.Contents.{start_extent, stop_of_cord, stop_of_print}
-pub use Rattle.cord_run.specs.inner.Controls.{Goal, Goes, IsTurnAt, Where, begun, chosen, closed, repeated, statement_at, where_of}
-pub use Rattle.cord_run.specs.inner.Definitions.{file_made}
-pub use Rattle.cord_run.specs.inner.Edits.{Edited, HasSplice, IsContentSpliced, IsEdit, IsMiddle, IsNoMiddle, IsReplaced, IsWholeAt}
-pub use Rattle.cord_run.specs.inner.Edits.{IsWholeContent, edited_text, form_view, middle_cords, middle_text, spliced_len}
-pub use Rattle.cord_run.specs.inner.Ends.{Closes, FailsToFinish, HasFinished}
-pub use Rattle.cord_run.specs.inner.Entries.{ContentFits, ExtensibleFits, HasContent, HasExtensible, HasNoEntry, HasNumber, IsEntryAt}
-pub use Rattle.cord_run.specs.inner.Entries.{IsFirstEntry, IsOver, SameEntries, are_distinct, cells_in, content_in, content_length, cord_in}
-pub use Rattle.cord_run.specs.inner.Entries.{extensible_in, is_among, length_in, names_in, number_in, operand_in, value_in}
-pub use Rattle.cord_run.specs.inner.Expressions.{AreWhole, IsBuilt, IsUnbuilt}
-pub use Rattle.cord_run.specs.inner.Extensibles.{Becomes, Grew, GrewTo, IsTakenOut, cells_or_none, longer_text, refusal_of}
-pub use Rattle.cord_run.specs.inner.Extents.{counted, extent_in, extent_with, length_with, members_extent, members_seen}
-pub use Rattle.cord_run.specs.inner.Failing.{FailsAmong, FailsBy, FailsIn, StopsAmong, StopsIn}
-pub use Rattle.cord_run.specs.inner.Holdings.{extended_over, held_over, holding_of, plain_of}
-pub use Rattle.cord_run.specs.inner.Joins.{ArePreceding, IsJoinOfFirst}
-pub use Rattle.cord_run.specs.inner.Known.{EndsInName, IsExtent, IsKnownAt, IsKnownOf, Measures, StaysKnown}
-pub use Rattle.cord_run.specs.inner.Numbers.{CountsFinding, Finds, FindsOver, byte_place, fetched, in_i64, nearest, number_or_stop}
-pub use Rattle.cord_run.specs.inner.Numbers.{text_over, text_place}
-pub use Rattle.cord_run.specs.inner.Origins.{AddsAtMostOne, AddsInTurn, AreCopies, InTurn, IsCutOf, IsPieceFrom, Origin, copied, named}
-pub use Rattle.cord_run.specs.inner.Origins.{origins, origins_of}
-pub use Rattle.cord_run.specs.inner.Outcomes.{CountsReadStop, Gave, Gives, IsFree, Served, ServesIfFree, TookPrefix}
-pub use Rattle.cord_run.specs.inner.Output.{CountsStops, Puts, PutsText, Wrote, stop_of_failure}
-pub use Rattle.cord_run.specs.inner.Ranges.{AddsCopies, AddsCordRange, AddsExpression, AddsFew, AddsMembers, AddsRange, AddsRun, IsAfter}
-pub use Rattle.cord_run.specs.inner.Ranges.{IsInnerWanted, IsOutside, IsPast, joined_over}
-pub use Rattle.cord_run.specs.inner.Served.{EndsRun, IsUnderway, Steps, World, point_at, world_of}
-pub use Rattle.cord_run.specs.inner.Slices.{AreTextsIn, IsSliceOf, IsTextIn, texts_in}
-pub use Rattle.cord_run.specs.inner.Statements.{MeansOver, StaysOver}
-pub use Rattle.cord_run.specs.inner.Steps.{Advances, AppendBuffer, Comes, FaithfulPlan, IsFit, IsRefusedAt, Point, Progress, at_line}
-pub use Rattle.cord_run.specs.inner.Steps.{end_at, end_of_run, exit_in, goal_of, grown_over, held_at, reason_in, stop_of_control, work_left}
+pub use Rattle.cord_run.specs.inner.{AddsAtMostOne, AddsCopies, AddsCordRange, AddsExpression, AddsFew, AddsInTurn, AddsMembers, AddsRange}
+pub use Rattle.cord_run.specs.inner.{AddsRun, Advances, All, AllFitIn, AppendBuffer, AreCopies, AreHeldIn, ArePreceding, AreTextsIn}
+pub use Rattle.cord_run.specs.inner.{AreWhole, Becomes, Began, Bool, Bor, Build, Cell, Changes, Closes, Comes, Content, ContentFits}
+pub use Rattle.cord_run.specs.inner.{ControlStop, CordError, CordFits, CordFitsIn, CountsFinding, CountsReadStop, CountsStops, Edited, End}
+pub use Rattle.cord_run.specs.inner.{EndsInName, EndsRun, Entry, Err, Expr, Exprs, ExtensibleFits, FailsAmong, FailsBy, FailsIn}
+pub use Rattle.cord_run.specs.inner.{FailsToFinish, FailureCounts, FaithfulPlan, FaultKind, FileSystem, Finds, FindsOver, FitsSome, Gave}
+pub use Rattle.cord_run.specs.inner.{Gives, Goal, Goes, GoesWithin, Grew, GrewTo, Grows, GrowsOn, Growth, HasBeside, HasContent}
+pub use Rattle.cord_run.specs.inner.{HasExtensible, HasFinished, HasLengths, HasNoEntry, HasNumber, HasSplice, HasText, Held, Holding}
+pub use Rattle.cord_run.specs.inner.{IfErr, IfOk, IfSome, InTurn, IsAfter, IsBuilt, IsContentSpliced, IsCord, IsCordOfText, IsCutOf, IsEdit}
+pub use Rattle.cord_run.specs.inner.{IsEntryAt, IsExtended, IsExtent, IsFaultOver, IsFileAt, IsFirstEntry, IsFit, IsFree, IsGrownBy}
+pub use Rattle.cord_run.specs.inner.{IsInnerWanted, IsJoinOfFirst, IsKnownAt, IsKnownOf, IsLength, IsLengthAt, IsLengthOfNames}
+pub use Rattle.cord_run.specs.inner.{IsLengthReported, IsMade, IsMadeAfter, IsMadeOfNames, IsMiddle, IsNoFileAt, IsNoMiddle, IsOutside}
+pub use Rattle.cord_run.specs.inner.{IsOver, IsPast, IsPieceFrom, IsPrefixOf, IsRefusal, IsRefusedAt, IsReplaced, IsReportedOver, IsSettled}
+pub use Rattle.cord_run.specs.inner.{IsSliceOf, IsSome, IsStartAsked, IsStartOf, IsStopBy, IsStopOfNoDevice, IsStopOver, IsSubstring}
+pub use Rattle.cord_run.specs.inner.{IsTakenOut, IsTextIn, IsTextOver, IsTurnAt, IsUnbuilt, IsUnderway, IsUnmade, IsUnmadeOfNames}
+pub use Rattle.cord_run.specs.inner.{IsUnmeasured, IsUnmeasuredOfNames, IsWholeAt, IsWholeContent, Joined, JoinsTo, Lengths, List, Long}
+pub use Rattle.cord_run.specs.inner.{MAX_LEN, Made, MeansOver, Measure, Measures, MeasuresBeside, Narrowed, Negative, Node, None, Number}
+pub use Rattle.cord_run.specs.inner.{OfEager, OfFile, OfLazy, Ok, Opened, Operation, Option, Origin, Overflow, PartsFrom, PlanOutcome}
+pub use Rattle.cord_run.specs.inner.{Point, Printed, Progress, PutIn, PutMiddle, Puts, PutsText, ReportsLength, Result, SameEntries, Served}
+pub use Rattle.cord_run.specs.inner.{ServesIfFree, Some, Spot, SpotFits, State, Statement, StaysKnown, StaysOver, StepsTo, Stop}
+pub use Rattle.cord_run.specs.inner.{StopAt, StopsAmong, StopsIn, Table, Takes, TakesNoMemory, Text, TooLong, TooManyTurns, TookPrefix}
+pub use Rattle.cord_run.specs.inner.{Where, Whole, Works, WorksOrLeaves, World, Wrote, [], all_bytes, all_len, all_parts, all_text}
+pub use Rattle.cord_run.specs.inner.{all_texts, and_then, append, are_distinct, argument_in, as_byte, as_index, as_length, at_line, begun}
+pub use Rattle.cord_run.specs.inner.{byte_place, bytes_eq, bytes_of, bytes_of_cells, cat, cells_in, cells_or_none, chosen, closed}
+pub use Rattle.cord_run.specs.inner.{content_in, content_length, copied, copies, cord_in, cords, cords_of, counted, device_in, does, drop}
+pub use Rattle.cord_run.specs.inner.{edited_text, end_at, end_of_run, exit_in, extended_over, extensible_in, extensible_length, extent_in}
+pub use Rattle.cord_run.specs.inner.{extent_with, false, fetched, file_made, fits_i64, form_view, function_source, get_or, gets, goal_of}
+pub use Rattle.cord_run.specs.inner.{grown_over, has_failed, held_at, held_over, holding_of, holding_with, in_i64, is_among, joined_over}
+pub use Rattle.cord_run.specs.inner.{jump, keeps, known, lacks, length, length_in, length_of, length_or_stop, length_with, lengths_in}
+pub use Rattle.cord_run.specs.inner.{lengths_of, longer_text, made_length, made_text, map, measured, measured_members, member}
+pub use Rattle.cord_run.specs.inner.{members_extent, members_seen, middle_cords, middle_text, min, name, named, names_in, names_of, nat_lt}
+pub use Rattle.cord_run.specs.inner.{nearest, negsuc, nothing, number_in, number_or_stop, number_value, opened, opened_in, operand_in}
+pub use Rattle.cord_run.specs.inner.{operation_line, operation_shape, origins, origins_of, part_of, parts_of, plain, plain_of, plan_end}
+pub use Rattle.cord_run.specs.inner.{plan_rules, plan_trace, point_at, point_of, pos, raised, reason_in, refusal_of, repeated, replicate}
+pub use Rattle.cord_run.specs.inner.{run, slice_get, spliced_len, spot_growing, spot_of, start_extent, start_holding, statement_at}
+pub use Rattle.cord_run.specs.inner.{statement_of, stop_of_control, stop_of_cord, stop_of_failure, stop_of_print, sub, suc, table_in, take}
+pub use Rattle.cord_run.specs.inner.{text, text_in, text_len, text_over, text_place, texts_to_build, texts_to_measure, true, value_in}
+pub use Rattle.cord_run.specs.inner.{values, where_of, with_value, within, work_left, world_of, zero, ℕ, ℤ, ⊤}
+pub use Rattle.cord_run.specs.inner.Steps.{Steps}

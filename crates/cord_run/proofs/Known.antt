@@ -1,17 +1,17 @@
 -- Lengths that are known without being computed.
 use Rattle.std.specs.Prelude.{◌≡◌, ◌+◌, ◌-◌, ◌^◌, ◌&&◌, ◌∷◌, ◌++◌, if◌then◌else◌}
-use Rattle.cord_run.proofs.Common.{ℕ, suc, Bool, true, false, List, [], Result, Ok, Err, refl, length, map, sym, ap, subst, ◌∙◌, arith}
-use Rattle.cord_run.proofs.Common.{Some, min, not, slice_get, bytes_eq, bytes_eq-Decides, MAX_LEN, Number, Numeral, Named, FaultKind}
-use Rattle.cord_run.proofs.Common.{and_then, as_length, Expr, Exprs, name, run, cat, sub, nothing, member, append, lacks, names, names_of}
+use Rattle.cord_run.proofs.Common.{ℕ, suc, Bool, true, false, List, [], Result, Ok, refl, length, map, sym, ap, subst, ◌∙◌, arith, Some}
+use Rattle.cord_run.proofs.Common.{min, not, slice_get, bytes_eq, bytes_eq-Decides, MAX_LEN, Number, Numeral, Named, FaultKind, and_then}
+use Rattle.cord_run.proofs.Common.{as_length, Expr, Exprs, name, run, cat, sub, nothing, member, append, lacks, names, names_of}
 use Rattle.cord_run.proofs.Common.{number_names, Made, Joined, Operation, Measure, measured_copies, measured_part, Shared, members_of}
 use Rattle.cord_run.proofs.Common.{shared_view, Long, Entry, Reading, ByLength, file_made, HasContent, content_in, content_length}
 use Rattle.cord_run.proofs.Common.{length_in, operand_in, extent_in, members_extent, EndsInName, IsExtent, IsKnownAt, IsKnownOf, Measures}
-use Rattle.cord_run.proofs.Common.{StaysKnown}
+use Rattle.cord_run.proofs.Common.{StaysKnown, passes}
 use Rattle.cord_plan.specs.Extending.{Extends, IsLonger, joined_at, joined_by}
 use Rattle.cord_run.specs.declared.targets.files.Reading.TheVariants.{Eager, Lazy}
-use Rattle.cord_run.proofs.Prefixes.{added, extent_both}
+use Rattle.cord_run.proofs.MemberRanges.{added, extent_both}
 use Rattle.cord_run.proofs.Lengths.{Both, both, length_passed}
-use Rattle.cord_run.proofs.Members.{counted_length}
+use Rattle.cord_run.proofs.ShortTexts.{counted_length}
 
 -- ---- what is made of a file
 module _ (entries : List Entry) (made : Made) (len : ℕ) where
@@ -83,26 +83,18 @@ last_is d (member f es) e = last_is f es e
 module _ (entries : List Entry) where
   one_more : (es all : Exprs) (e : Expr) (z : List ℕ) (len : ℕ) → all ≡ append es (member e nothing) → e ≡ name z →
       extent_in entries (cat es) ≡ Ok len → extent_in entries (cat all) ≡ as_length MAX_LEN (min (len + length_in entries z) (2 ^ 64 - 1))
-  one_more es all e z len is ends reported = by_sum (members_extent entries es) refl reported
-    where
-      more : ℕ
-      more = length_in entries z
-
-      whole : members_extent entries all ≡ added (members_extent entries es) (Ok (more + 0))
-      whole =
-          ap (λ (ms : Exprs). members_extent entries ms) (is ∙ ap (λ (f : Expr). append es (member f nothing)) ends)
-          ∙ extent_both entries es (member (name z) nothing)
-
-      by_sum : (r : Result ℕ FaultKind) → members_extent entries es ≡ r → and_then r (λ n. as_length MAX_LEN n) ≡ Ok len →
-          extent_in entries (cat all) ≡ as_length MAX_LEN (min (len + more) (2 ^ 64 - 1))
-      by_sum (Err kind) same h = let bad : ⊥ = cc in absurd bad
-      by_sum (Ok k) same h =
-          let passed : k ≡ len = (length_passed k len h).0 in
-          let sum : members_extent entries all ≡ Ok (k + (more + 0)) =
-          whole ∙ ap (λ (r : Result ℕ FaultKind). added r (Ok (more + 0))) same in
-          let capped : min (len + more) (2 ^ 64 - 1) ≡ min (0 + (k + (more + 0))) (2 ^ 64 - 1) = omega (arith, passed) in
-          ap (λ (r : Result ℕ FaultKind). and_then r (λ n. as_length MAX_LEN n)) sum
-          ∙ sym (counted_length (min (len + more) (2 ^ 64 - 1)) (Ok (k + (more + 0))) (ap (λ (n : ℕ). Ok n) capped))
+  one_more es all e z len is ends reported =
+      let more : ℕ = length_in entries z in
+      let whole : members_extent entries all ≡ added (members_extent entries es) (Ok (more + 0)) =
+      ap (λ (ms : Exprs). members_extent entries ms) (is ∙ ap (λ (f : Expr). append es (member f nothing)) ends)
+      ∙ extent_both entries es (member (name z) nothing) in
+      let p = passes (members_extent entries es) (λ n. as_length MAX_LEN n) len reported in
+      let passed : p.middle ≡ len = (length_passed p.middle len p.next).0 in
+      let sum : members_extent entries all ≡ Ok (p.middle + (more + 0)) =
+      whole ∙ ap (λ (r : Result ℕ FaultKind). added r (Ok (more + 0))) p.first in
+      let capped : min (len + more) (2 ^ 64 - 1) ≡ min (0 + (p.middle + (more + 0))) (2 ^ 64 - 1) = omega (arith, passed) in
+      ap (λ (r : Result ℕ FaultKind). and_then r (λ n. as_length MAX_LEN n)) sum
+      ∙ sym (counted_length (min (len + more) (2 ^ 64 - 1)) (Ok (p.middle + (more + 0))) (ap (λ (n : ℕ). Ok n) capped))
 
   longer_known : (line : ℕ) (x : List ℕ) (made : Made) (next : Operation) (all : Exprs) (z : List ℕ) →
       StaysKnown entries (Measure line x made) → IsLonger (joined_by (Measure line x made)) (joined_by next) → Measures all next →

@@ -1,16 +1,20 @@
 -- The lengths known of expressions are those of their texts, over every table that the names fit.
 use Rattle.std.specs.Prelude.{◌≡◌, ◌≤◌, ◌-◌, ◌&&◌, ◌∷◌, ◌++◌, if◌then◌else◌}
-use Rattle.cord_run.proofs.Common.{ℕ, ℤ, Bool, true, false, List, [], length, replicate, Result, Ok, Err, refl, sym, ap, subst, ◌∙◌, inl}
-use Rattle.cord_run.proofs.Common.{inr, arith, nat_le, min, Some, None, leb-true, length-replicate, Table, Lengths, MAX_LEN, lengths_of}
-use Rattle.cord_run.proofs.Common.{len_limit, bytes_of, CordFitsIn, length-bytes, Number, Numeral, Named, FaultKind, TooLong, State}
+use Rattle.cord_run.proofs.Common.{ℕ, ℤ, Bool, true, false, List, [], length, replicate, Ok, Err, refl, sym, ap, subst, ◌∙◌, inl, inr}
+use Rattle.cord_run.proofs.Common.{arith, nat_le, min, Some, None, leb-true, length-replicate, Table, Lengths, MAX_LEN, lengths_of}
+use Rattle.cord_run.proofs.Common.{len_limit, bytes_of, CordFitsIn, IsCord, length-bytes, Number, Numeral, Named, TooLong, State}
 use Rattle.cord_run.proofs.Common.{number_value, and_then, as_index, as_byte, as_length, Expr, name, run, cat, sub, measured}
 use Rattle.cord_run.proofs.Common.{measured_members, length_of, text_in, Held, Text, Holding, plain, is_text, held_text, held_length}
 use Rattle.cord_run.proofs.Common.{all_texts, cords, extent, Content, Whole, Long, Entry, extent_in, content_in, length_in, operand_in}
-use Rattle.cord_run.proofs.Common.{content_length, cord_in, ContentFits, IsOver, held_over, holding_of, plain_of}
+use Rattle.cord_run.proofs.Common.{content_length, cord_in, ContentFits, IsOver, held_over, holding_of, plain_of, passes}
 use Rattle.cord_plan.specs.Meaning as meaning
 use Rattle.cord_plan.proofs.Evaluation.{In, value_same, extent_is}
 
 -- the cord of a content that fits
+pub cord_sound : (lengths : Lengths) (c : Content) → ContentFits lengths c → IsCord (cord_in c)
+cord_sound lengths (Whole cord) h = h.0
+cord_sound lengths (Long len) h = tt
+
 pub cord_fits : (lengths : Lengths) (c : Content) → ContentFits lengths c → CordFitsIn lengths (cord_in c)
 cord_fits lengths (Whole cord) h = h.1
 cord_fits lengths (Long len) h = tt
@@ -110,25 +114,20 @@ module _ (lengths : List ℕ → ℕ) (numbers : Number → ℤ) (short : (x : L
   measured_short (name x) len e =
       let same : lengths x ≡ len = cc in
       subst (λ (n : ℕ). n ≤ MAX_LEN) same (short x)
-  measured_short (run c n) len e = by_checks (as_byte (numbers c)) (as_index (numbers n)) e
-    where
-      by_checks : (rb rn : Result ℕ FaultKind) → and_then rb (λ b. and_then rn (λ k. as_length MAX_LEN k)) ≡ Ok len → len ≤ MAX_LEN
-      by_checks (Err kind) rn h = let bad : ⊥ = cc in absurd bad
-      by_checks (Ok b) (Err kind) h = let bad : ⊥ = cc in absurd bad
-      by_checks (Ok b) (Ok k) h = (length_passed k len h).1
-  measured_short (cat es) len e = by_checks (measured_members MAX_LEN lengths numbers es) e
-    where
-      by_checks : (r : Result ℕ FaultKind) → and_then r (λ k. as_length MAX_LEN k) ≡ Ok len → len ≤ MAX_LEN
-      by_checks (Err kind) h = let bad : ⊥ = cc in absurd bad
-      by_checks (Ok k) h = (length_passed k len h).1
-  measured_short (sub inner i n) len e = by_checks (measured MAX_LEN lengths numbers inner) (as_index (numbers i)) (as_index (numbers n)) e
-    where
-      by_checks : (r ri rn : Result ℕ FaultKind) → and_then r (λ k. and_then ri (λ a. and_then rn (λ m. as_length MAX_LEN (min m (k - a)))))
-          ≡ Ok len → len ≤ MAX_LEN
-      by_checks (Err kind) ri rn h = let bad : ⊥ = cc in absurd bad
-      by_checks (Ok k) (Err kind) rn h = let bad : ⊥ = cc in absurd bad
-      by_checks (Ok k) (Ok a) (Err kind) h = let bad : ⊥ = cc in absurd bad
-      by_checks (Ok k) (Ok a) (Ok m) h = (length_passed (min m (k - a)) len h).1
+  measured_short (run c n) len e =
+      let p = passes (as_byte (numbers c)) (λ b. and_then (as_index (numbers n)) (λ k. as_length MAX_LEN k)) len e in
+      let q = passes (as_index (numbers n)) (λ k. as_length MAX_LEN k) len p.next in
+      (length_passed q.middle len q.next).1
+  measured_short (cat es) len e =
+      let p = passes (measured_members MAX_LEN lengths numbers es) (λ k. as_length MAX_LEN k) len e in
+      (length_passed p.middle len p.next).1
+  measured_short (sub inner i n) len e =
+      let p = passes (measured MAX_LEN lengths numbers inner)
+      (λ k. and_then (as_index (numbers i)) (λ a. and_then (as_index (numbers n)) (λ m. as_length MAX_LEN (min m (k - a))))) len e in
+      let q = passes (as_index (numbers i)) (λ a. and_then (as_index (numbers n)) (λ m. as_length MAX_LEN (min m (p.middle - a)))) len
+      p.next in
+      let r = passes (as_index (numbers n)) (λ m. as_length MAX_LEN (min m (p.middle - q.middle))) len q.next in
+      (length_passed (min r.middle (p.middle - q.middle)) len r.next).1
 
 -- a length that is known of a name is that of a cord
 pub known_short : (lengths : Lengths) (entries : List Entry) → IsOver lengths entries → (x : List ℕ) → length_in entries x ≤ MAX_LEN

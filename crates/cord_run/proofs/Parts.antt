@@ -1,20 +1,88 @@
--- The cords of expressions of one part or of two.
-use Rattle.std.specs.Prelude.{◌≡◌, ◌+◌, ◌≤◌, ◌<◌, ◌∷◌, ◌++◌}
-use Rattle.cord_run.proofs.Common.{ℕ, true, ℤ, List, [], length, take, drop, replicate, Result, Ok, Err, refl, sym, ap, subst, ◌∙◌, inl}
-use Rattle.cord_run.proofs.Common.{append-nil, append_assoc, length-append, arith, Option, take_all, Table, Lengths, MAX_LEN, CordError}
-use Rattle.cord_run.proofs.Common.{Node, Part, PartsFrom, lengths_of, PartsFrom-join, PartsFrom-self, bytes_of, text_len, parts_of}
-use Rattle.cord_run.proofs.Common.{CordFits, CordFitsIn, IsCord, all_bytes, all_parts, AllFitIn, IsCatOf, IsSubstring, HasText, IsRefusal}
-use Rattle.cord_run.proofs.Common.{length-bytes, Number, FaultKind, TooLong, number_value, and_then, as_index, as_byte, as_length, Expr}
-use Rattle.cord_run.proofs.Common.{name, run, cat, sub, member, nothing, all_texts, cords, copies, measured_copies, part_of, text_in}
-use Rattle.cord_run.proofs.Common.{within, Stop, Entry, stop_of_cord, content_in, cord_in, operand_in, IsOver, holding_of, plain_of}
-use Rattle.cord_run.proofs.Common.{IsBuilt, IsUnbuilt, Origin, named, copied, origins, InTurn, IsCutOf, IsPieceFrom, stop_by}
+-- Cords of expressions, whole and of parts.
+use Rattle.std.specs.Prelude.{◌≡◌, ◌∷◌, ◌++◌, ◌+◌, ◌≤◌, ◌<◌}
+use Rattle.cord_run.proofs.Common.{ℕ, true, List, [], length, take, drop, Result, Ok, Err, refl, sym, ap, subst, ◌∙◌, arith, Option}
+use Rattle.cord_run.proofs.Common.{take_all, Table, MAX_LEN, Node, lengths_of, PartsFrom, all_bytes, all_parts, parts_of, AllFitIn, IsCord}
+use Rattle.cord_run.proofs.Common.{IsAllOf, FaultKind, Expr, all_texts, cords, length_of, text_in, Entry, extent_in, IsOver, holding_of}
+use Rattle.cord_run.proofs.Common.{plain_of, AddsExpression, AddsInTurn, InTurn, origins, AreWhole, IsBuilt, ℤ, replicate, inl, append-nil}
+use Rattle.cord_run.proofs.Common.{append_assoc, length-append, Lengths, CordError, Part, PartsFrom-join, PartsFrom-self, bytes_of}
+use Rattle.cord_run.proofs.Common.{text_len, CordFits, CordFitsIn, IsCatOf, IsSubstring, HasText, IsRefusal, length-bytes, Number, TooLong}
+use Rattle.cord_run.proofs.Common.{number_value, and_then, as_index, as_byte, as_length, name, run, cat, sub, member, nothing, copies}
+use Rattle.cord_run.proofs.Common.{measured_copies, part_of, within, Stop, stop_of_cord, content_in, cord_in, operand_in, IsUnbuilt, Origin}
+use Rattle.cord_run.proofs.Common.{named, copied, IsCutOf, IsPieceFrom, stop_by, is_within, same_text}
+use Rattle.cord_run.proofs.Lengths.{text_reported, Both, cord_fits, content_text, length_passed, operand_value, texts_split}
 use Rattle.cord_io.specs.declared.faults.CordError.TheVariants as errors
 use Rattle.cord_run.specs.declared.stops.Stop.TheVariants as stops
-use Rattle.cord_run.proofs.Files.{long_text, short_text}
-use Rattle.cord_run.proofs.Prefixes.{joined}
-use Rattle.cord_run.proofs.Lengths.{Both, cord_fits, content_text, length_passed, operand_value, texts_split}
-use Rattle.cord_run.proofs.Definitions.{cord_limit}
-use Rattle.cord_run.proofs.Origins.{turns_joined}
+use Rattle.cord_run.proofs.TargetNames.{long_text}
+use Rattle.cord_run.proofs.MemberRanges.{joined, turns_joined}
+use Rattle.cord_run.proofs.Definitions.{cord_within}
+
+-- a text that has a length
+record Known (r : Result (List ℕ) FaultKind) (len : ℕ) : Type 0 where
+  text : List ℕ
+  is : r ≡ Ok text
+  long : length text ≡ len
+
+known : (r : Result (List ℕ) FaultKind) (len : ℕ) → Ok len ≡ length_of r → Known r len
+known (Ok text) len e = let long : length text ≡ len = cc in record { text = text; is = refl; long = long }
+known (Err kind) len e = let bad : ⊥ = cc in absurd bad
+
+faulty : (r : Result (List ℕ) FaultKind) (kind : FaultKind) → Err kind ≡ length_of r → r ≡ Err kind
+faulty (Ok text) kind e = let bad : ⊥ = cc in absurd bad
+faulty (Err other) kind e = cc
+
+empty_text : (text : List ℕ) → length text ≡ 0 → text ≡ []
+empty_text [] h = refl
+empty_text (b ∷ text) h = absurd (omega (arith, h))
+
+module _ (entries : List Entry) (e : Expr) where
+  -- an expression of no bytes needs no cord
+  pub whole_nothing : (pieces : List (Option Node)) → pieces ≡ [] → extent_in entries e ≡ Ok 0 → AreWhole entries e pieces
+  whole_nothing pieces none extent = subst (λ (ps : List (Option Node)). AreWhole entries e ps) (sym none) (record {
+    fits = λ lengths over. tt;
+    bytes = λ t over there.
+        let k = known (text_in MAX_LEN (plain_of t entries) e) 0 (sym extent ∙ text_reported t entries over e there) in
+        k.is ∙ ap (λ (u : List ℕ). Ok u) (empty_text k.text k.long);
+  })
+
+  -- all its bytes
+  pub whole_range : (len : ℕ) (old pieces : List (Option Node)) → old ≡ [] → extent_in entries e ≡ Ok len →
+      AddsExpression entries e (record { skip = 0; count = len }) old pieces → AreWhole entries e pieces
+  whole_range len old pieces none extent part = record {
+    fits = λ lengths over. part.fits lengths over (subst (λ (ps : List (Option Node)). AllFitIn lengths ps) (sym none) tt);
+    bytes = λ t over there.
+        let k = known (text_in MAX_LEN (plain_of t entries) e) len (sym extent ∙ text_reported t entries over e there) in
+        let all : all_bytes t pieces ≡ k.text =
+        part.bytes t over there k.text k.is
+        ∙ ap (λ (ps : List (Option Node)). all_bytes t ps ++ take len (drop 0 k.text)) none
+        ∙ take_all len k.text (omega (arith, k.long)) in
+        k.is ∙ ap (λ (u : List ℕ). Ok u) (sym all);
+  }
+
+  -- and they come from its names in turn
+  pub whole_in_turn : (old pieces : List (Option Node)) → old ≡ [] → AddsInTurn entries (origins e) old pieces →
+      InTurn entries (origins e) pieces
+  whole_in_turn old pieces none turns =
+      let same : turns.added ≡ pieces = ap (λ (ps : List (Option Node)). ps ++ turns.added) (sym none) ∙ sym turns.is in
+      subst (λ (ps : List (Option Node)). InTurn entries (origins e) ps) same turns.each
+
+  -- one cord of them
+  pub whole_built : (pieces : List (Option Node)) (cord : Option Node) → AreWhole entries e pieces → InTurn entries (origins e) pieces →
+      PartsFrom (all_parts pieces) (parts_of cord) → IsAllOf pieces cord → IsCord cord → IsBuilt entries e cord
+  whole_built pieces cord whole turns agrees all sound = record {
+    sound = sound;
+    fits = λ lengths over. all.fits lengths (whole.fits lengths over);
+    bytes = λ t over there. whole.bytes t over there ∙ ap (λ (u : List ℕ). Ok u) (sym (all.bytes t (whole.fits (lengths_of t) over)));
+    pieces = pieces;
+    whole = whole;
+    in_turn = turns;
+    shared = agrees;
+  }
+
+  -- its fault
+  pub whole_faulty : (kind : FaultKind) → Err kind ≡ extent_in entries e → (t : Table) → IsOver (lengths_of t) entries →
+      all_texts (holding_of t entries) (cords e) ≡ true → text_in MAX_LEN (plain_of t entries) e ≡ Err kind
+  whole_faulty kind extent t over there = faulty (text_in MAX_LEN (plain_of t entries) e) kind
+      (extent ∙ text_reported t entries over e there)
 
 -- ---- one part
 module _ (entries : List Entry) where
@@ -34,11 +102,6 @@ module _ (entries : List Entry) where
     in_turn = subst (λ (os : List Origin). InTurn entries os (cord ∷ [])) (sym from) (inl (piece, tt));
     shared = subst (λ (ps : List Part). PartsFrom ps (parts_of cord)) (sym (append-nil (parts_of cord))) (PartsFrom-self (parts_of cord));
   }
-
-  -- a text that a cord has is within the limit
-  cord_within : (t : Table) (cord : Option Node) → IsCord cord → CordFits t cord → within MAX_LEN (bytes_of t cord) ≡ Ok (bytes_of t cord)
-  cord_within t cord sound fits = short_text (bytes_of t cord)
-      (subst (λ (n : ℕ). n ≤ MAX_LEN) (length-bytes t cord sound fits) (cord_limit cord sound))
 
   -- a name
   whole_cut : (cord : Option Node) → IsCord cord → IsCutOf cord cord
@@ -136,10 +199,6 @@ all_bytes_both t [] qs = refl
 all_bytes_both t (p ∷ ps) qs = ap (λ (u : List ℕ). bytes_of t p ++ u) (all_bytes_both t ps qs)
     ∙ sym (append_assoc (bytes_of t p) (all_bytes t ps) (all_bytes t qs))
 
--- a text that is reported twice
-same_text : (r : Result (List ℕ) FaultKind) (u v : List ℕ) → r ≡ Ok u → r ≡ Ok v → u ≡ v
-same_text r u v first second = cc
-
 all_parts_both : (ps qs : List (Option Node)) → all_parts (ps ++ qs) ≡ all_parts ps ++ all_parts qs
 all_parts_both [] qs = refl
 all_parts_both (p ∷ ps) qs = ap (λ (u : List Part). parts_of p ++ u) (all_parts_both ps qs)
@@ -179,7 +238,7 @@ module _ (entries : List Entry) (d e : Expr) where
     pair_text t over there short =
         let h = here t there in
         both_text t (bytes_of t prefix) (bytes_of t suffix) (one.bytes t over h.first) (other.bytes t over h.second)
-        ∙ short_text (bytes_of t prefix ++ bytes_of t suffix) (subst (λ (n : ℕ). n ≤ MAX_LEN) (long t over) short)
+        ∙ is_within MAX_LEN (bytes_of t prefix ++ bytes_of t suffix) (subst (λ (n : ℕ). n ≤ MAX_LEN) (long t over) short)
 
     -- the bytes of the pieces of both
     pieces_same : (t : Table) → IsOver (lengths_of t) entries → all_texts (holding_of t entries) (cords both) ≡ true →

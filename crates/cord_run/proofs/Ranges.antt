@@ -10,8 +10,7 @@ use Rattle.cord_run.proofs.Common.{measured_copies, text_in, passes, fits_within
 use Rattle.cord_run.proofs.Common.{content_in, cord_in, operand_in, holding_of, plain_of, AddsAtMostOne, AreCopies, IsCutOf, named, copied}
 use Rattle.cord_run.proofs.Common.{AddsCordRange, AddsCopies, AddsRun, AddsExpression, AddsMembers, AddsFew, IsAfter, IsInnerWanted}
 use Rattle.cord_run.proofs.Common.{IsOutside, IsPast}
-use Rattle.cord_run.proofs.MemberRanges.{nothing_taken}
-use Rattle.cord_run.proofs.Origins.{one_in_turn}
+use Rattle.cord_run.proofs.MemberRanges.{nothing_taken, one_in_turn}
 use Rattle.cord_run.proofs.Lengths.{cord_fits, content_text, operand_value, length_passed}
 
 -- ---- one cord more
@@ -82,13 +81,6 @@ name_added entries x wanted old new part turn = record {
 }
 
 -- ---- copies
--- what copies that have a length are
-pub record IsRun (z w : ℤ) (len : ℕ) : Type 0 where
-  pub byte : ℕ
-  pub is : as_byte z ≡ Ok byte
-  pub count : as_index w ≡ Ok len
-  pub short : len ≤ MAX_LEN
-
 -- copies that are made are those whose length is computed
 pub record AreMade (z w : ℤ) (whole : List ℕ) : Type 0 where
   pub byte : ℕ
@@ -98,22 +90,15 @@ pub record AreMade (z w : ℤ) (whole : List ℕ) : Type 0 where
   pub same : replicate count byte ≡ whole
 
 pub run_made : (z w : ℤ) (whole : List ℕ) → copies MAX_LEN z w ≡ Ok whole → AreMade z w whole
-run_made z w whole h = by_checks (as_byte z) (as_index w) refl refl h
-  where
-    by_length : (b n : ℕ) (r : Result ℕ FaultKind) → as_byte z ≡ Ok b → as_index w ≡ Ok n → as_length MAX_LEN n ≡ r →
-        and_then r (λ _. Ok (replicate n b)) ≡ Ok whole → AreMade z w whole
-    by_length b n (Err kind) e f g h = let bad : ⊥ = cc in absurd bad
-    by_length b n (Ok k) e f g h =
-        let passed = length_passed n k g in
-        let reported : measured_copies MAX_LEN z w ≡ Ok n =
-        (λ i. and_then (e i) (λ b. and_then (f i) (λ m. as_length MAX_LEN m))) ∙ g ∙ ap (λ (m : ℕ). Ok m) (sym passed.0) in
-        record { byte = b; count = n; is = e; reported = reported; same = cc }
-
-    by_checks : (rb rn : Result ℕ FaultKind) → as_byte z ≡ rb → as_index w ≡ rn →
-        and_then rb (λ b. and_then rn (λ n. and_then (as_length MAX_LEN n) (λ _. Ok (replicate n b)))) ≡ Ok whole → AreMade z w whole
-    by_checks (Err kind) rn e f h = let bad : ⊥ = cc in absurd bad
-    by_checks (Ok b) (Err kind) e f h = let bad : ⊥ = cc in absurd bad
-    by_checks (Ok b) (Ok n) e f h = by_length b n (as_length MAX_LEN n) e f refl h
+run_made z w whole h =
+    let p = passes (as_byte z) (λ b. and_then (as_index w) (λ n. and_then (as_length MAX_LEN n) (λ _. Ok (replicate n b)))) whole h in
+    let q = passes (as_index w) (λ n. and_then (as_length MAX_LEN n) (λ _. Ok (replicate n p.middle))) whole p.next in
+    let r = passes (as_length MAX_LEN q.middle) (λ _. Ok (replicate q.middle p.middle)) whole q.next in
+    let passed = length_passed q.middle r.middle r.first in
+    let reported : measured_copies MAX_LEN z w ≡ Ok q.middle =
+    (λ i. and_then (p.first i) (λ b. and_then (q.first i) (λ m. as_length MAX_LEN m))) ∙ r.first ∙ ap (λ (m : ℕ). Ok m) (sym passed.0) in
+    let next : ◌≡◌ {A = Result (List ℕ) FaultKind} (Ok (replicate q.middle p.middle)) (Ok whole) = r.next in
+    record { byte = p.middle; count = q.middle; is = p.first; reported = reported; same = cc }
 
 -- a range of copies
 range_of_copies : (skip count n b : ℕ) → replicate (min count (n - skip)) b ≡ take count (drop skip (replicate n b))
@@ -160,17 +145,19 @@ cat_added entries es wanted old new part = record {
   in_turn = part.in_turn;
 }
 
+-- what is wanted after a length that is let pass
+past_checked : (wanted after : Wanted) (n : ℕ) (r : Result ℕ FaultKind) → as_length MAX_LEN n ≡ r → IsPast n wanted after →
+    IsAfter r wanted after
+past_checked wanted after n (Err kind) e h = tt
+past_checked wanted after n (Ok k) e h = subst (λ (m : ℕ). IsPast m wanted after) (length_passed n k e).0 h
+
 pub cat_past : (entries : List Entry) (es : Exprs) (wanted after : Wanted) → IsAfter (members_extent entries es) wanted after →
     IsAfter (extent_in entries (cat es)) wanted after
 cat_past entries es wanted after h = by_members (members_extent entries es) h
   where
-    by_length : (n : ℕ) (r : Result ℕ FaultKind) → as_length MAX_LEN n ≡ r → IsPast n wanted after → IsAfter r wanted after
-    by_length n (Err kind) e h = tt
-    by_length n (Ok k) e h = subst (λ (m : ℕ). IsPast m wanted after) (length_passed n k e).0 h
-
     by_members : (r : Result ℕ FaultKind) → IsAfter r wanted after → IsAfter (and_then r (λ n. as_length MAX_LEN n)) wanted after
     by_members (Err kind) h = tt
-    by_members (Ok n) h = by_length n (as_length MAX_LEN n) refl h
+    by_members (Ok n) h = past_checked wanted after n (as_length MAX_LEN n) refl h
 
 -- ---- a `sub`
 -- a range of a range
@@ -216,18 +203,15 @@ record IsPartOf (u : List ℕ) (z w : ℤ) (whole : List ℕ) : Type 0 where
   same : take most (drop first u) ≡ whole
 
 part_known : (u : List ℕ) (z w : ℤ) (whole : List ℕ) → part_of MAX_LEN u z w ≡ Ok whole → IsPartOf u z w whole
-part_known u z w whole h = by_checks (as_index z) (as_index w) refl refl h
-  where
-    by_checks : (ri rn : Result ℕ FaultKind) → as_index z ≡ ri → as_index w ≡ rn →
-        and_then ri (λ a. and_then rn (λ m. within MAX_LEN (take m (drop a u)))) ≡ Ok whole → IsPartOf u z w whole
-    by_checks (Err kind) rn e f h = let bad : ⊥ = cc in absurd bad
-    by_checks (Ok a) (Err kind) e f h = let bad : ⊥ = cc in absurd bad
-    by_checks (Ok a) (Ok m) e f h = record {
-      first = a;
-      most = m;
-      start_is = e;
-      count_is = f;
-      same = (fits_within MAX_LEN (take m (drop a u)) whole h).same;
+part_known u z w whole h =
+    let p = passes (as_index z) (λ a. and_then (as_index w) (λ m. within MAX_LEN (take m (drop a u)))) whole h in
+    let q = passes (as_index w) (λ m. within MAX_LEN (take m (drop p.middle u))) whole p.next in
+    record {
+      first = p.middle;
+      most = q.middle;
+      start_is = p.first;
+      count_is = q.first;
+      same = (fits_within MAX_LEN (take q.middle (drop p.middle u)) whole q.next).same;
     }
 
 module _ (entries : List Entry) (e : Expr) (i n : Number) (start most : ℕ) (wanted inner : Wanted)
@@ -262,17 +246,13 @@ module _ (entries : List Entry) (e : Expr) (i n : Number) (start most : ℕ) (wa
     pub sub_past : IsAfter (extent_in entries e) inner rest → IsAfter (extent_in entries (sub e i n)) wanted after
     sub_past h = by_checks (extent_in entries e) (as_index (operand_in entries i)) (as_index (operand_in entries n)) h start_is most_is
       where
-        by_length : (k : ℕ) (r : Result ℕ FaultKind) → as_length MAX_LEN k ≡ r → IsPast k wanted after → IsAfter r wanted after
-        by_length k (Err kind) f past = tt
-        by_length k (Ok m) f past = subst (λ (x : ℕ). IsPast x wanted after) (length_passed k m f).0 past
-
         by_checks : (r ri rn : Result ℕ FaultKind) → IsAfter r inner rest → IfOk ri (λ k. start ≡ k) → IfOk rn (λ k. most ≡ k) →
             IsAfter (and_then r (λ len. and_then ri (λ a. and_then rn (λ m. as_length MAX_LEN (min m (len - a)))))) wanted after
         by_checks (Err kind) ri rn past at up_to = tt
         by_checks (Ok len) (Err kind) rn past at up_to = tt
         by_checks (Ok len) (Ok a) (Err kind) past at up_to = tt
         by_checks (Ok len) (Ok a) (Ok m) past at up_to =
-            by_length (min m (len - a)) (as_length MAX_LEN (min m (len - a))) refl
+            past_checked wanted after (min m (len - a)) (as_length MAX_LEN (min m (len - a))) refl
             (subst (λ (x : ℕ). IsPast x wanted after) (λ j. min (up_to j) (len - at j)) (part_past len past))
 
 -- ---- results

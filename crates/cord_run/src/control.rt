@@ -4,8 +4,8 @@ pub(crate) mod lines;
 
 ghost use Rattle.std.specs.Prelude.{get_or, map, reverse, ◌≡◌, ◌+◌, ◌-◌, ◌^◌, ◌<◌, ◌∷◌, [], Ok, IfOk, IfErr};
 ghost use Rattle.cord_meaning.specs.declared.TheConstants.{MAX_TURNS};
-ghost use Rattle.cord_run.specs.inner.Steps.{stop_of_control};
-ghost use Rattle.cord_run.specs.inner.Controls.{Goes, IsTurnAt, begun, block_view, chosen, closed, repeated, where_of};
+ghost use Rattle.cord_run.specs.inner.{stop_of_control, Goes, IsTurnAt, begun, block_view, chosen, closed, repeated};
+ghost use Rattle.cord_run.specs.inner.{where_of};
 
 use crate::checks::as_index;
 use crate::stops::{Stop, StopAt};

@@ -8,10 +8,7 @@ mod short_texts;
 pub(crate) mod slices;
 
 ghost use Rattle.std.specs.Prelude.{◌≡◌, IfErr, IfOk, Ok};
-ghost use Rattle.cord_plan.specs.Views.{expr_view};
-ghost use Rattle.cord_run.specs.inner.Extents.{extent_in};
-ghost use Rattle.cord_run.specs.inner.Origins.{InTurn, origins};
-ghost use Rattle.cord_run.specs.inner.Expressions.{AreWhole, IsBuilt, IsUnbuilt};
+ghost use Rattle.cord_run.specs.inner.{expr_view, extent_in, InTurn, origins, AreWhole, IsBuilt, IsUnbuilt};
 
 use crate::expressions::joins::join_all;
 use crate::expressions::lengths::length_of;

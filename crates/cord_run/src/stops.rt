@@ -1,7 +1,7 @@
 // Why an operation stops a run, and what a refusal of a call on cords, files or prints is to one.
 ghost use Rattle.std.specs.Prelude.{◌≡◌};
-ghost use Rattle.cord_run.specs.inner.Contents.{stop_of_cord, stop_of_file, stop_of_print};
 ghost use Rattle.cord_run.specs.declared.stops.Stop.TheVariants.{Fault, NoMemory};
+ghost use Rattle.cord_run.specs.inner.{stop_of_cord, stop_of_file, stop_of_print};
 
 use cord_file::FileError;
 use cord_io::CordError;

@@ -8,7 +8,7 @@ ghost use Rattle.std.specs.Prelude.{◌≡◌, ◌+◌, ◌<◌, ◌≤◌, ℕ,
 ghost use Rattle.std.specs.Prelude.{Err, None, Some, IfErr, IsErr};
 ghost use Rattle.cord_core.specs.Cord.{text_len};
 ghost use Rattle.cord_core.specs.Refusals.{IsRefusal};
-ghost use Rattle.cord_run.specs.inner.Edits.{HasSplice, IsWholeContent, IsWholeAt, spliced_len};
+ghost use Rattle.cord_run.specs.inner.Contents.{HasSplice, IsWholeContent, IsWholeAt, spliced_len};
 ghost use Rattle.cord_run.specs.inner.Extensibles.{cells_or_none, Grew};
 ghost use Rattle.cord_run.specs.inner.Entries.{are_distinct, cells_in, content_in, content_length, cord_in};
 ghost use Rattle.cord_run.specs.inner.Entries.{extensible_in, length_in, names_in, number_in, operand_in, HasContent, HasExtensible};

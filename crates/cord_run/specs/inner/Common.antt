@@ -4,7 +4,7 @@ pub use Rattle.std.specs.Prelude.{All, Bool, Err, IfErr, IfOk, IfSome, IsSome, L
 pub use Rattle.std.specs.Prelude.{get_or, length, map, min, nat_lt, negsuc, pos, replicate, reverse, slice_get, suc, take}
 pub use Rattle.std.specs.Prelude.{true, zero, ℕ, ℤ, ⊤}
 pub use Rattle.std.specs.Str.{bytes_eq}
-pub use Rattle.cord_io.specs.Device.{FileSystem, raised}
+pub use Rattle.cord_io.specs.Device.{FileSystem, raised, count_after}
 pub use Rattle.cord_io.specs.Table.{HasLengths, Lengths, Table}
 pub use Rattle.cord_io.specs.declared.TheConstants.{MAX_LEN}
 pub use Rattle.cord_io.specs.declared.faults.CordError.{CordError}
@@ -15,13 +15,17 @@ pub use Rattle.cord_node.specs.declared.Node.{Node}
 pub use Rattle.cord_core.specs.Cord.{AllFitIn, CordFits, CordFitsIn, IsCord, all_bytes, all_len, all_parts, all_text, bytes_of, parts_of}
 pub use Rattle.cord_core.specs.Cord.{text, text_len}
 pub use Rattle.cord_core.specs.Equations.{HasText, IsSpliced, IsSubstring}
+pub use Rattle.cord_core.specs.Refusals.{IsRefusal}
 pub use Rattle.cord_iter.specs.Output.{FailureCounts, IsPrefixOf, Takes}
 pub use Rattle.cord_file.specs.FileTable.{Opened, lengths_in, table_in}
+pub use Rattle.cord_file.specs.Sources.{device_in, opened_in}
+pub use Rattle.cord_file.specs.Opening.{Grows}
 pub use Rattle.cord_ec.specs.Gathered.{Growth}
 pub use Rattle.cord_ec.specs.Grown.{IsGrownBy, bytes_of_cells}
 pub use Rattle.cord_operands.specs.declared.operands.Number.{Number}
 pub use Rattle.cord_syntax.specs.declared.statements.Statement.{Statement}
-pub use Rattle.cord_meaning.specs.Blocks.{jump}
+pub use Rattle.cord_syntax.specs.Families.{statement_of}
+pub use Rattle.cord_meaning.specs.Blocks.{jump, Straight}
 pub use Rattle.cord_meaning.specs.State.{State, and_then, as_byte, as_index, as_length, fits_i64, number_value, with_value}
 pub use Rattle.cord_meaning.specs.declared.ends.End.{End}
 pub use Rattle.cord_meaning.specs.declared.ends.FaultKind.{FaultKind}
@@ -31,7 +35,8 @@ pub use Rattle.cord_plan.specs.Meaning.{Held, Holding, IsNeverStuck, PlanOutcome
 pub use Rattle.cord_plan.specs.Meaning.{made_length, made_text, opened, operation_line, operation_shape, plain, plan_end, plan_rules}
 pub use Rattle.cord_plan.specs.Meaning.{plan_trace, start_holding, texts_to_build, texts_to_measure}
 pub use Rattle.cord_plan.specs.Planned.{Build, Joined, Made, Measure, OfEager, OfFile, OfLazy, Operation, Printed}
-pub use Rattle.cord_plan.specs.Values.{copies, length_of, measured, measured_members, part_of, text_in, values, within}
+pub use Rattle.cord_plan.specs.Values.{copies, length_of, measured, measured_members, part_of, text_in, values, within, measured_copies}
+pub use Rattle.cord_plan.specs.Views.{expr_view, made_view, members_view, operation_view}
 pub use Rattle.cord_run.specs.declared.control.Control.{Control}
 pub use Rattle.cord_run.specs.declared.control.ControlStop.{ControlStop}
 pub use Rattle.cord_run.specs.declared.stops.Stop.{Stop}
@@ -39,3 +44,4 @@ pub use Rattle.cord_run.specs.declared.stops.StopAt.{StopAt}
 pub use Rattle.cord_run.specs.declared.store.Content.{Content}
 pub use Rattle.cord_run.specs.declared.store.Content.TheVariants.{Long, Whole}
 pub use Rattle.cord_run.specs.declared.store.Entry.{Entry}
+pub use Rattle.cord_run.specs.Failing.{IsFileMade}

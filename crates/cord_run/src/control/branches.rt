@@ -1,9 +1,7 @@
 // Where `repeat`, `if`, `else` and `end` lead.
 ghost use Rattle.std.specs.Prelude.{get_or, ◌≡◌, ◌+◌, ◌-◌, ◌^◌, ◌<◌, IfNone, IfSome};
-ghost use Rattle.cord_meaning.specs.Blocks.{Straight};
 ghost use Rattle.cord_meaning.specs.Statements.{compares, shape_of};
-ghost use Rattle.cord_run.specs.inner.Controls.{Goes, statement_at, where_of};
-ghost use Rattle.cord_run.specs.inner.Steps.{IsRefusedAt, goal_of};
+ghost use Rattle.cord_run.specs.inner.{Straight, Goes, statement_at, where_of, IsRefusedAt, goal_of};
 
 use crate::control::{Control, ControlStop, exit_at};
 use crate::store::Store;

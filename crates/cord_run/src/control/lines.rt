@@ -1,7 +1,6 @@
 // The lines of operations.
 ghost use Rattle.std.specs.Prelude.{◌≡◌};
-ghost use Rattle.cord_plan.specs.Meaning.{operation_line};
-ghost use Rattle.cord_plan.specs.Views.{operation_view};
+ghost use Rattle.cord_run.specs.inner.{operation_line, operation_view};
 
 use cord_plan::Operation;
 

@@ -1,9 +1,7 @@
 // Cords put one after another.
 ghost use Rattle.std.specs.Prelude.{◌<◌, IfOk, length};
-ghost use Rattle.cord_core.specs.Cord.{all_parts, parts_of, IsCord};
 ghost use Rattle.cord_core.specs.Equations.{IsAllOf};
-ghost use Rattle.cord_node.specs.PartsFrom.{PartsFrom};
-ghost use Rattle.cord_run.specs.inner.Joins.{ArePreceding, IsJoinOfFirst};
+ghost use Rattle.cord_run.specs.inner.{all_parts, parts_of, IsCord, PartsFrom, ArePreceding, IsJoinOfFirst};
 
 use crate::expressions::slices::leaf_slice;
 use arrayvec::ArrayVec;

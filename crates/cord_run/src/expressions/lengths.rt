@@ -3,10 +3,8 @@ ghost use Rattle.std.specs.Prelude.{◌≡◌, ◌≤◌, ◌+◌, Err, IfErr, I
 ghost use Rattle.cord_meaning.specs.State as meant;
 ghost use Rattle.cord_plan.specs.Exprs as plain;
 ghost use Rattle.cord_plan.specs.Values.{measured_copies, measured_part};
-ghost use Rattle.cord_plan.specs.Views.{expr_view, members_view};
-ghost use Rattle.cord_run.specs.inner.Entries.{length_in};
-ghost use Rattle.cord_run.specs.inner.Extents.{counted, extent_beside, extent_in, length_beside, members_extent};
-ghost use Rattle.cord_run.specs.inner.Extents.{members_seen};
+ghost use Rattle.cord_run.specs.inner.{expr_view, members_view, length_in, counted, extent_beside, extent_in};
+ghost use Rattle.cord_run.specs.inner.{length_beside, members_extent, members_seen};
 
 use crate::checks::{as_byte, as_index, as_length};
 use crate::expressions::parts::{pair_of, range_parts};

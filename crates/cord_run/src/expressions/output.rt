@@ -1,16 +1,9 @@
 // Expressions that are put.
 ghost use Rattle.std.specs.Prelude.{◌≡◌, true, IfNone, IfSome};
-ghost use Rattle.cord_core.specs.Cord.{all_bytes, AllFitIn};
-ghost use Rattle.cord_io.specs.declared.TheConstants.{MAX_LEN};
 ghost use Rattle.cord_iter.specs.Output.{CountsFaults, failures_of};
-ghost use Rattle.cord_plan.specs.Meaning.{all_texts, cords};
-ghost use Rattle.cord_plan.specs.Values.{text_in};
-ghost use Rattle.cord_plan.specs.Views.{expr_view};
-ghost use Rattle.cord_run.specs.inner.Entries.{IsOver};
-ghost use Rattle.cord_run.specs.inner.Holdings.{holding_of, plain_of};
-ghost use Rattle.cord_run.specs.inner.Output.{CountsStops, Puts, PutsBytes, PutsText, Wrote, stop_of_failure};
-ghost use Rattle.cord_io.specs.Device.{FileSystem};
-ghost use Rattle.cord_run.specs.inner.Frames.{IsSameSource};
+ghost use Rattle.cord_run.specs.inner.{all_bytes, AllFitIn, MAX_LEN, all_texts, cords, text_in, expr_view, IsOver};
+ghost use Rattle.cord_run.specs.inner.{holding_of, plain_of, CountsStops, Puts, PutsBytes, PutsText, Wrote};
+ghost use Rattle.cord_run.specs.inner.{stop_of_failure, FileSystem, IsSameSource};
 
 use crate::expressions::pieces_of;
 use crate::expressions::short_texts::gather;

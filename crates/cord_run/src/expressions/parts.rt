@@ -1,8 +1,7 @@
 // Expressions of one part or of two: their cords are made without a list of pieces.
 ghost use Rattle.std.specs.Prelude.{◌≡◌, IfErr, IfOk, IfSome};
 ghost use Rattle.cord_plan.specs.Exprs as plain;
-ghost use Rattle.cord_plan.specs.Views.{expr_view, members_view};
-ghost use Rattle.cord_run.specs.inner.Expressions.{IsBuilt, IsUnbuilt};
+ghost use Rattle.cord_run.specs.inner.{expr_view, members_view, IsBuilt, IsUnbuilt};
 
 use crate::checks::as_index;
 use crate::expressions::build_of_pieces;
@@ -50,11 +49,7 @@ pub(crate) fn range_parts(expression: &Expr) -> Option<(&Name, &Number, &Number)
 pub(crate) fn is_part(expression: &Expr) -> bool {
     match expression {
         Expr::Name(_) | Expr::Run { .. } => true,
-        Expr::Sub { expression, .. } => match expression.as_ref() {
-            Expr::Name(_) => true,
-            _ => false,
-        },
-        Expr::Cat(_) => false,
+        _ => range_parts(expression).is_some(),
     }
 }
 

@@ -2,16 +2,11 @@
 // handed on from member to member, so each length is asked for once. A `sub` hands on less, and makes no cord of what
 // it is cut from.
 ghost use Rattle.std.specs.Prelude.{◌≡◌, ◌+◌, ◌-◌, ◌<◌, ◌≤◌, ◌^◌, ℤ, min, replicate, true, IfOk, Ok};
-ghost use Rattle.cord_core.specs.Cord.{IsCord, text_len};
-ghost use Rattle.cord_core.specs.Equations.{HasText};
 ghost use Rattle.cord_meaning.specs.State as meant;
-ghost use Rattle.cord_plan.specs.Values.{measured_copies};
-ghost use Rattle.cord_plan.specs.Views.{expr_view, members_view};
-ghost use Rattle.cord_run.specs.inner.Extents.{extent_in, members_extent, members_seen};
-ghost use Rattle.cord_run.specs.inner.Entries.{content_in, cord_in, length_in, operand_in};
-ghost use Rattle.cord_run.specs.inner.Ranges.{AddsCopies, AddsExpression, AddsMembers, AddsCordRange, AddsRun, AddsFew};
-ghost use Rattle.cord_run.specs.inner.Ranges.{IsAfter, IsInnerWanted, IsOutside, IsPast};
-ghost use Rattle.cord_run.specs.inner.Origins.{AddsAtMostOne, AreCopies, IsCutOf};
+ghost use Rattle.cord_run.specs.inner.{IsCord, text_len, HasText, measured_copies, expr_view, members_view, extent_in};
+ghost use Rattle.cord_run.specs.inner.{members_extent, members_seen, content_in, cord_in, length_in, operand_in};
+ghost use Rattle.cord_run.specs.inner.{AddsCopies, AddsExpression, AddsMembers, AddsCordRange, AddsRun, AddsFew};
+ghost use Rattle.cord_run.specs.inner.{IsAfter, IsInnerWanted, IsOutside, IsPast, AddsAtMostOne, AreCopies, IsCutOf};
 
 use crate::checks::as_index;
 use crate::expressions::lengths::copies_asked;

@@ -1,9 +1,6 @@
 // Expressions of short texts side by side, whose text is gathered without memory.
 ghost use Rattle.std.specs.Prelude.{◌≡◌, ◌≤◌, [], length, true};
-ghost use Rattle.cord_plan.specs.Exprs.{Exprs, append};
-ghost use Rattle.cord_plan.specs.Views.{expr_view, members_view};
-ghost use Rattle.cord_run.specs.inner.Extents.{members_seen};
-ghost use Rattle.cord_run.specs.inner.Slices.{AreTextsIn, IsTextIn};
+ghost use Rattle.cord_run.specs.inner.{Exprs, append, expr_view, members_view, members_seen, AreTextsIn, IsTextIn};
 
 use crate::expressions::slices::slice_of;
 use crate::store::Store;

@@ -1,11 +1,7 @@
 // Expressions whose text is one slice of memory: a name whose cord is one leaf, or a range of one.
 ghost use Rattle.std.specs.Prelude.{◌≡◌, ◌<◌, IfSome, Ok, length, map};
-ghost use Rattle.cord_core.specs.Cord.{parts_of, text, text_len};
-ghost use Rattle.cord_node.specs.Tree.{known};
-ghost use Rattle.cord_plan.specs.Values.{part_of};
-ghost use Rattle.cord_plan.specs.Views.{expr_view};
-ghost use Rattle.cord_run.specs.inner.Entries.{content_in, cord_in};
-ghost use Rattle.cord_run.specs.inner.Slices.{IsSliceOf, IsTextIn};
+ghost use Rattle.cord_run.specs.inner.{parts_of, text, text_len, known, part_of, expr_view, content_in, cord_in};
+ghost use Rattle.cord_run.specs.inner.{IsSliceOf, IsTextIn};
 
 use crate::checks::{as_index, as_length};
 use crate::store::Store;

@@ -1,8 +1,7 @@
 // The end of a run: what it is, how the output is ended, and which end is reported.
 ghost use Rattle.std.specs.Prelude.{◌≡◌};
 ghost use Rattle.cord_io.specs.SinkCounts.{sink_counts};
-ghost use Rattle.cord_run.specs.inner.Ends.{Closes};
-ghost use Rattle.cord_run.specs.inner.Steps.{end_of_run};
+ghost use Rattle.cord_run.specs.inner.{Closes, end_of_run};
 
 use crate::stops::{Stop, StopAt};
 use cord_io::Sink;

@@ -1,7 +1,6 @@
 // Lengths that follow from those of the operations before.
 ghost use Rattle.std.specs.Prelude.{◌≡◌, ◌-◌, ◌^◌, ◌<◌, IfSome, Some, map, slice_get};
-ghost use Rattle.cord_plan.specs.Views.{members_view, operation_view};
-ghost use Rattle.cord_run.specs.inner.Known.{EndsInName, IsKnownAt, Measures, StaysKnown};
+ghost use Rattle.cord_run.specs.inner.{members_view, operation_view, EndsInName, IsKnownAt, Measures, StaysKnown};
 
 use crate::store::Store;
 use cord_plan::{Expr, Made, Members, Operation, Plan};

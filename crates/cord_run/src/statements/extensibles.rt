@@ -1,15 +1,10 @@
 // Statements that begin extensible cords, and let them grow.
 ghost use Rattle.std.specs.Prelude.{◌≡◌, ℕ, [], IfErr, IfOk, Some};
-ghost use Rattle.cord_io.specs.Table.{Table};
 ghost use Rattle.cord_meaning.specs.State as meant;
-ghost use Rattle.cord_node.specs.Tables.{lengths_of};
-ghost use Rattle.cord_syntax.specs.Families.{statement_of};
 ghost use Rattle.cord_syntax.specs.declared.families.Family.TheVariants as families;
-ghost use Rattle.cord_run.specs.inner.Extensibles.{Becomes, GrowsByByte, IsTakenOut, longer_text, refusal_of};
-ghost use Rattle.cord_run.specs.inner.Numbers.{text_over};
-ghost use Rattle.cord_run.specs.inner.Entries.{HasExtensible, IsOver};
-ghost use Rattle.cord_run.specs.inner.Statements.{MeansOver, StaysOver};
-ghost use Rattle.cord_run.specs.inner.Outcomes.{CountsReadStop};
+ghost use Rattle.cord_run.specs.inner.{Table, lengths_of, statement_of, Becomes, GrowsByByte, IsTakenOut, longer_text};
+ghost use Rattle.cord_run.specs.inner.{refusal_of, text_over, HasExtensible, IsOver, MeansOver, StaysOver};
+ghost use Rattle.cord_run.specs.inner.{CountsReadStop};
 
 use crate::checks::as_byte;
 use crate::statements::numbers::cord_or;

@@ -1,20 +1,13 @@
 // Statements that give a name a number.
 ghost use Rattle.std.specs.Prelude.{◌≡◌, ◌≤◌, ◌+ℤ◌, ◌-ℤ◌, ℕ, List, IfErr, IfOk, IfSome, IsSome, None, Some, pos};
-ghost use Rattle.cord_io.specs.Device.{FileSystem};
-ghost use Rattle.cord_io.specs.Table.{Table};
-ghost use Rattle.cord_io.specs.declared.TheConstants.{MAX_LEN};
-ghost use Rattle.cord_node.specs.Tables.{lengths_of};
-ghost use Rattle.cord_syntax.specs.Families.{statement_of};
 ghost use Rattle.cord_syntax.specs.Lines.{line_of};
 ghost use Rattle.cord_syntax.specs.Targets.{target_of};
 ghost use Rattle.cord_syntax.specs.declared.families.Family.TheVariants as families;
-ghost use Rattle.cord_syntax.specs.declared.statements.Statement.{Statement};
 ghost use Rattle.cord_syntax.specs.declared.statements.Statement.TheVariants as statements;
-ghost use Rattle.cord_run.specs.inner.Numbers.{CountsFinding, FindsOver, HasReadForNumber, in_i64, number_or_stop};
-ghost use Rattle.cord_run.specs.inner.Entries.{content_in, cord_in, HasNumber, IsOver, length_in};
-ghost use Rattle.cord_run.specs.inner.Statements.{MeansOver, StaysOver};
-ghost use Rattle.cord_run.specs.inner.Frames.{IsSameSource};
-ghost use Rattle.cord_run.specs.inner.Outcomes.{CountsReadStop};
+ghost use Rattle.cord_run.specs.inner.{FileSystem, Table, MAX_LEN, lengths_of, statement_of, Statement, CountsFinding};
+ghost use Rattle.cord_run.specs.inner.{FindsOver, HasReadForNumber, in_i64, number_or_stop, content_in, cord_in};
+ghost use Rattle.cord_run.specs.inner.{HasNumber, IsOver, length_in, MeansOver, StaysOver, IsSameSource};
+ghost use Rattle.cord_run.specs.inner.{CountsReadStop};
 
 use crate::statements::searches::{
     Direction, byte_found, compared, fetched, ranges_compared, text_found,
@@ -27,8 +20,8 @@ use cord_meaning::FaultKind;
 use cord_script::{Name, Number, Statement};
 use cord_syntax::{Computation, Family, Look, Search};
 
-// Gives the name that a statement assigns the number that was found for it.
-fn assign_found(
+/// Gives the name that a statement assigns the number that was found for it.
+pub(crate) fn assign_found(
     store: &mut Store,
     statement: &Statement,
     number: Result<i64, Stop>,
@@ -124,28 +117,12 @@ fn reported_length(store: &Store, name: &Name) -> i64
     store.length_of(name) as i64
 }
 
-/// Gives the name that a look at cords assigns what it finds.
-pub(crate) fn serve_look<R: Source>(
-    store: &mut Store,
+/// The byte or the order that a look at cords finds.
+pub(crate) fn look_number<R: Source>(
+    store: &Store,
     source: &mut R,
-    statement: &Statement,
     look: Look<'_>,
-) -> Result<(), Stop>
-    requires over { IsOver (R.lengths source.old) store.old.entries.items }
-    requires of { statement_of (line_of statement.now) (families.Look look) ≡ statement.now }
-    ensures over { StaysOver store.old.entries.items store.new.entries.items result }
-    ensures means { (file_system : FileSystem) → R.consistent source.new file_system →
-        MeansOver (R.table source.old file_system) statement.now store.old.entries.items store.new.entries.items result }
-    ensures counts { CountsReadStop (R.failures source.old) (R.failures source.new) result }
-    ensures same { IsSameSource ⟦<R as Source>⟧ source.old source.new }
-{
-    let number = look_number(store, source, look);
-    assign_found(store, statement, number)
-}
-
-// The byte or the order that a look at cords finds.
-#[inline(always)]
-fn look_number<R: Source>(store: &Store, source: &mut R, look: Look<'_>) -> Result<i64, Stop>
+) -> Result<i64, Stop>
     requires over { IsOver (R.lengths source.old) store.now.entries.items }
     ensures found { (file_system : FileSystem) → R.consistent source.new file_system → (line : ℕ) →
         FindsOver (R.table source.old file_system) (statement_of line (families.Look look.entry))
@@ -208,28 +185,12 @@ fn ranges_number<R: Source>(
     )
 }
 
-/// Gives the name that a search assigns the place that it finds, or -1.
-pub(crate) fn serve_search<R: Source>(
-    store: &mut Store,
+/// The place that a search finds, or -1.
+pub(crate) fn search_number<R: Source>(
+    store: &Store,
     source: &mut R,
-    statement: &Statement,
     search: Search<'_>,
-) -> Result<(), Stop>
-    requires over { IsOver (R.lengths source.old) store.old.entries.items }
-    requires of { statement_of (line_of statement.now) (families.Search search) ≡ statement.now }
-    ensures over { StaysOver store.old.entries.items store.new.entries.items result }
-    ensures means { (file_system : FileSystem) → R.consistent source.new file_system →
-        MeansOver (R.table source.old file_system) statement.now store.old.entries.items store.new.entries.items result }
-    ensures counts { CountsReadStop (R.failures source.old) (R.failures source.new) result }
-    ensures same { IsSameSource ⟦<R as Source>⟧ source.old source.new }
-{
-    let number = search_number(store, source, search);
-    assign_found(store, statement, number)
-}
-
-// The place that a search finds, or -1.
-#[inline(always)]
-fn search_number<R: Source>(store: &Store, source: &mut R, search: Search<'_>) -> Result<i64, Stop>
+) -> Result<i64, Stop>
     requires over { IsOver (R.lengths source.old) store.now.entries.items }
     ensures found { (file_system : FileSystem) → R.consistent source.new file_system → (line : ℕ) →
         FindsOver (R.table source.old file_system) (statement_of line (families.Search search.entry))

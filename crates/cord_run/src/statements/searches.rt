@@ -1,14 +1,11 @@
 // The numbers that statements find in cords. Each checks its numbers in order, before it reads.
 ghost use Rattle.std.specs.Prelude.{◌≡◌, ◌<◌, ◌≤◌, IfErr, IfOk, IfSome, Ok, is_err};
-ghost use Rattle.cord_core.specs.Cord.{bytes_of, text_len, CordFitsIn};
 ghost use Rattle.cord_core.specs.Texts.{order};
-ghost use Rattle.cord_io.specs.declared.TheConstants.{MAX_LEN};
 ghost use Rattle.cord_meaning.specs.State as meant;
 ghost use Rattle.cord_meaning.specs.Statements as statements;
-ghost use Rattle.cord_run.specs.inner.Frames.{IsSameSource};
-ghost use Rattle.cord_run.specs.inner.Numbers.{byte_place, fetched, Finds, HasReadForNumber, nearest, ranges_order};
-ghost use Rattle.cord_run.specs.inner.Numbers.{Refuses, text_place};
-ghost use Rattle.cord_io.specs.Device.{FileSystem, count_after};
+ghost use Rattle.cord_run.specs.inner.{bytes_of, text_len, CordFitsIn, MAX_LEN, IsSameSource, byte_place, fetched};
+ghost use Rattle.cord_run.specs.inner.{Finds, HasReadForNumber, nearest, ranges_order, Refuses, text_place, FileSystem};
+ghost use Rattle.cord_run.specs.inner.{count_after};
 
 use crate::checks::{as_byte, as_index};
 use crate::stops::Stop;

@@ -1,8 +1,7 @@
 // The growth of the extensible cord of an entry.
 ghost use Rattle.std.specs.Prelude.{◌≡◌, ◌+◌, ◌<◌, ◌≤◌, [], true, length, IfOk, IsErr, OnOk, Err};
-ghost use Rattle.cord_ec.specs.Grown.{IsGrownBy};
-ghost use Rattle.cord_run.specs.inner.Extensibles.{cells_or_none, Grew, GrewTo};
-ghost use Rattle.cord_run.specs.inner.Entries.{are_distinct, cells_in, extensible_in, names_in, IsEntryAt};
+ghost use Rattle.cord_run.specs.inner.{IsGrownBy, cells_or_none, Grew, GrewTo, are_distinct, cells_in, extensible_in};
+ghost use Rattle.cord_run.specs.inner.{names_in, IsEntryAt};
 
 use crate::store::Entry;
 use cord_ec::ExtCord;

@@ -1,11 +1,8 @@
 // What the entry of a name gets.
 ghost use Rattle.std.specs.Prelude.{◌≡◌, ◌<◌, ℕ, List, true, length, Err, IfErr, IfOk, IsErr};
-ghost use Rattle.cord_core.specs.Cord.{text_len};
-ghost use Rattle.cord_core.specs.Refusals.{IsRefusal};
-ghost use Rattle.cord_run.specs.inner.Edits.{HasSplice, IsContentSpliced, IsWholeContent, IsWholeAt, spliced_len};
-ghost use Rattle.cord_run.specs.inner.Entries.{are_distinct, cells_in, content_in, cord_in, extensible_in, names_in};
-ghost use Rattle.cord_run.specs.inner.Entries.{HasContent};
-ghost use Rattle.cord_run.specs.inner.Entries.{HasExtensible, HasNumber, IsEntryAt};
+ghost use Rattle.cord_run.specs.inner.{text_len, IsRefusal, HasSplice, IsContentSpliced, IsWholeContent, IsWholeAt};
+ghost use Rattle.cord_run.specs.inner.{spliced_len, are_distinct, cells_in, content_in, cord_in, extensible_in};
+ghost use Rattle.cord_run.specs.inner.{names_in, HasContent, HasExtensible, HasNumber, IsEntryAt};
 
 use crate::store::{Content, Entry};
 use cord_core::Cord;

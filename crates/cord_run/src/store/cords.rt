@@ -1,8 +1,7 @@
 // Cords of what names hold.
 ghost use Rattle.std.specs.Prelude.{◌≡◌, IfOk, Ok};
-ghost use Rattle.cord_core.specs.Cord.{IsCord};
-ghost use Rattle.cord_run.specs.inner.Contents.{IsExtended, IsTextOver, extensible_length};
-ghost use Rattle.cord_run.specs.inner.Entries.{SameEntries, cells_in, content_in, cord_in, extensible_in};
+ghost use Rattle.cord_run.specs.inner.{IsCord, IsExtended, IsTextOver, extensible_length, SameEntries, cells_in};
+ghost use Rattle.cord_run.specs.inner.{content_in, cord_in, extensible_in};
 
 use crate::store::Store;
 use cord_core::Cord;

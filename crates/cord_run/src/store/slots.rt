@@ -1,6 +1,6 @@
 // The slots of names among the entries.
 ghost use Rattle.std.specs.Prelude.{◌≡◌, ◌<◌, true, length, IfOk, IfSome, IfNone};
-ghost use Rattle.cord_run.specs.inner.Entries.{are_distinct, names_in, HasNoEntry, IsEntryAt, IsFirstEntry, SameEntries};
+ghost use Rattle.cord_run.specs.inner.{are_distinct, names_in, HasNoEntry, IsEntryAt, IsFirstEntry, SameEntries};
 
 use crate::store::{Content, Entry};
 use cord_core::Cord;

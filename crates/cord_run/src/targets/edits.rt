@@ -1,9 +1,8 @@
 // Edits: a name that gets its own text again, with another one in the place of a range of it. Its cord is changed where
 // it is held.
 ghost use Rattle.std.specs.Prelude.{◌≡◌, IfErr, IfOk, IfSome, IsErr};
-ghost use Rattle.cord_plan.specs.Views.{made_view};
-ghost use Rattle.cord_run.specs.inner.Contents.{IsUnmadeOfNames};
-ghost use Rattle.cord_run.specs.inner.Edits.{Edited, IsEdit, IsMiddle, IsNoMiddle, IsReplaced, form_view};
+ghost use Rattle.cord_run.specs.inner.{made_view, IsUnmadeOfNames, Edited, IsEdit, IsMiddle, IsNoMiddle, IsReplaced};
+ghost use Rattle.cord_run.specs.inner.{form_view};
 
 use crate::expressions::parts::build_part;
 use crate::stops::Stop;

@@ -1,13 +1,7 @@
 // Cords and lengths of files.
 ghost use Rattle.std.specs.Prelude.{◌≡◌, IfErr, IfNone, IfOk, IfSome, OnErr};
-ghost use Rattle.cord_io.specs.Device.{count_after};
-ghost use Rattle.cord_file.specs.Opening.{Grows};
-ghost use Rattle.cord_file.specs.Sources.{device_in, opened_in};
-ghost use Rattle.cord_plan.specs.Views.{made_view};
-ghost use Rattle.cord_run.specs.Failing.{IsFileMade};
-ghost use Rattle.cord_run.specs.inner.Definitions.{file_made};
-ghost use Rattle.cord_run.specs.inner.Contents.{IsFileAt, IsLengthAt, IsNoFileAt, has_failed};
-ghost use Rattle.cord_run.specs.inner.Frames.{NoMoreConsistent};
+ghost use Rattle.cord_run.specs.inner.{count_after, Grows, device_in, opened_in, made_view, IsFileMade, file_made};
+ghost use Rattle.cord_run.specs.inner.{IsFileAt, IsLengthAt, IsNoFileAt, has_failed, NoMoreConsistent};
 
 use crate::stops::Stop;
 use cord_core::Cord;

@@ -1,7 +1,7 @@
 // Cords of literals and of functions.
 ghost use Rattle.std.specs.Prelude.{◌≡◌, ◌<◌, ◌≤◌, Err, IfErr, IfOk, length};
-ghost use Rattle.cord_core.specs.Refusals.{IsRefusal};
-ghost use Rattle.cord_run.specs.inner.Contents.{IsStopBy, IsStartAsked, IsStartOf, IsCordOfText, function_source, start_extent};
+ghost use Rattle.cord_run.specs.inner.{IsRefusal, IsStopBy, IsStartAsked, IsStartOf, IsCordOfText, function_source};
+ghost use Rattle.cord_run.specs.inner.{start_extent};
 
 use crate::checks::{as_index, as_length};
 use crate::stops::Stop;

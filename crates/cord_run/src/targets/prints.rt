@@ -1,9 +1,7 @@
 // Prints of what names hold.
 ghost use Rattle.std.specs.Prelude.{◌≡◌, IfErr, IfOk, map};
 ghost use Rattle.cord_meaning.specs.Formats.{format_text};
-ghost use Rattle.cord_plan.specs.Values.{within};
-ghost use Rattle.cord_meaning.specs.State.{and_then};
-ghost use Rattle.cord_run.specs.inner.Contents.{IsFaultOver, IsTextOver, IsReportedOver, argument_in};
+ghost use Rattle.cord_run.specs.inner.{within, and_then, IsFaultOver, IsTextOver, IsReportedOver, argument_in};
 
 use crate::stops::Stop;
 use crate::store::Store;

@@ -1,5 +1,5 @@
 use Rattle.cord_run.proofs.Common.{List, subst, Option, Node, PartsFrom, all_parts, parts_of, IsAllOf, expr_view}
-use Rattle.cord_run.proofs.ExpressionCords.{whole_built}
+use Rattle.cord_run.proofs.Parts.{whole_built}
 use Rattle.cord_run.proofs.expressions.build_of_pieces.Goals as goal
 
 pub returns-in-Ok-clause-built : goal.returns-in-Ok-clause-built

@@ -1,5 +1,5 @@
 use Rattle.cord_run.proofs.Common.{expr_view}
-use Rattle.cord_run.proofs.ExpressionCords.{whole_faulty}
+use Rattle.cord_run.proofs.Parts.{whole_faulty}
 use Rattle.cord_run.proofs.expressions.pieces_of.Goals as goal
 
 pub returns-in-Err-clause-refused : goal.returns-in-Err-clause-refused

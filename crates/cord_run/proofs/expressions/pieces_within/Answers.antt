@@ -1,6 +1,6 @@
 use Rattle.cord_run.proofs.Common.{◌∙◌, ap, sym, subst, List, Ok, ℕ, Option, Node, expr_view, InTurn, origins}
-use Rattle.cord_run.proofs.Origins.{none_in_turn}
-use Rattle.cord_run.proofs.ExpressionCords.{whole_in_turn, whole_nothing, whole_range}
+use Rattle.cord_run.proofs.MemberRanges.{none_in_turn}
+use Rattle.cord_run.proofs.Parts.{whole_in_turn, whole_nothing, whole_range}
 use Rattle.cord_run.proofs.expressions.pieces_within.Goals as goal
 
 pub returns-then-len-eq0-clause-whole : goal.returns-then-len-eq0-clause-whole

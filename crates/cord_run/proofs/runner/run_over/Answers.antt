@@ -1,6 +1,6 @@
 use Rattle.cord_run.proofs.Common.{ℕ, List, ap, map, subst, sym, device_in, Finishes, SinkCounts, sink_counts, MAX_LEN, MAX_TURNS, End}
 use Rattle.cord_run.proofs.Common.{FaithfulOutput, plan_end, plan_trace, Operation, operation_view, Closes, end_of_run}
-use Rattle.cord_run.proofs.Ends.{closed_fails, closed_faithful, closed_named, no_put_failed, put_failed, run_fails}
+use Rattle.cord_run.proofs.Meaning.{closed_fails, closed_faithful, closed_named, no_put_failed, put_failed, run_fails}
 use Rattle.cord_run.proofs.runner.run_over.Goals as goal
 
 pub returns : goal.returns

@@ -2,9 +2,8 @@ use Rattle.std.specs.Prelude.{◌≡◌}
 use Rattle.cord_run.proofs.Common.{rules, sym, subst, IfOk, IfErr, IfOk-weaker, FileSystem, as_long_as_reported, device_in, opened_in, Made}
 use Rattle.cord_run.proofs.Common.{made_view, IsFileMade, FailsBy, IsLength, IsUnmeasured, TakesNoMemory, file_made}
 use Rattle.cord_run.proofs.Failures.{fails_reading, never_fails}
-use Rattle.cord_run.proofs.Files.{file_measured, file_unmeasured, of_file, takes_memory}
+use Rattle.cord_run.proofs.TargetNames.{file_measured, file_unmeasured, of_file, takes_memory, names_reported, names_unreported, no_device}
 use Rattle.cord_run.proofs.Known.{file_extent}
-use Rattle.cord_run.proofs.TargetNames.{names_reported, names_unreported, no_device}
 use Rattle.cord_run.proofs.targets.measure.Goals as goal
 
 pub returns-in-Some : goal.returns-in-Some

@@ -5,8 +5,8 @@ use Rattle.cord_run.proofs.Common.{extent_in, members_extent, members_seen, hand
 use Rattle.cord_plan.specs.Exprs as plain
 use Rattle.cord_plan.specs.declared.expressions.Expr.{Expr}
 use Rattle.cord_run.specs.declared.expressions.lengths.Named.{Named}
-use Rattle.cord_run.proofs.Prefixes.{all_counted}
-use Rattle.cord_run.proofs.Members.{weight, weights, member_counted, member_smaller, member_faulty, resolve_all, counted_length}
+use Rattle.cord_run.proofs.MemberRanges.{all_counted}
+use Rattle.cord_run.proofs.ShortTexts.{weight, weights, member_counted, member_smaller, member_faulty, resolve_all, counted_length}
 use Rattle.cord_run.proofs.expressions.lengths.+length_of.Goals as goal
 use Rattle.cord_run.proofs.expressions.lengths.+length_of.Goals.{length_after-in-Name, length_after-in_default+in_ok-len-in_default}
 

@@ -4,7 +4,7 @@ use Rattle.cord_run.proofs.Common.{members_view, shared_view, view-Name, view-Ru
 use Rattle.cord_run.proofs.Common.{members_seen, prefix_falls, halves_Some, rest_falls, AddsExpression, AddsMembers, IsAfter}
 use Rattle.cord_plan.specs.Exprs as plain
 use Rattle.cord_plan.specs.declared.expressions.Expr.{Expr}
-use Rattle.cord_run.proofs.Members.{weight, weights, member_smaller, members_left}
+use Rattle.cord_run.proofs.ShortTexts.{weight, weights, member_smaller, members_left}
 use Rattle.cord_run.proofs.Ranges.{name_added, run_added, cat_added, cat_past, still_ok_both, sub_added, sub_past}
 use Rattle.cord_run.proofs.MemberRanges.{SoFar, WantedSoFar, starts, goes_on, ends_early, ends_last, wanted_goes_on, wanted_ends_early}
 use Rattle.cord_run.proofs.MemberRanges.{both_added, wanted_after_both, wanted_ends}

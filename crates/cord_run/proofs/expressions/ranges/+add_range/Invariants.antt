@@ -1,6 +1,6 @@
 use Rattle.std.specs.Prelude.{◌+◌}
 use Rattle.cord_run.proofs.Common.{drop, expr_view, members_view, members_seen, AddsFew}
-use Rattle.cord_run.proofs.Members.{weight, weights}
+use Rattle.cord_run.proofs.ShortTexts.{weight, weights}
 use Rattle.cord_run.proofs.MemberRanges.{SoFar, WantedSoFar}
 use Rattle.cord_run.proofs.expressions.ranges.+add_range.Given as goal
 

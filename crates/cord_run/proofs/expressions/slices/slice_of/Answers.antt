@@ -3,7 +3,7 @@ use Rattle.cord_run.proofs.Common.{Ok, ℤ, IfSome, of_z, to_z, w64, sym, ap, su
 use Rattle.cord_run.proofs.Common.{view-Name, view-Sub, operand_in, IsTextIn}
 use Rattle.cord_plan.specs.Exprs as plain
 use Rattle.cord_run.proofs.Numbers.{handed}
-use Rattle.cord_run.proofs.Slices.{name_is, sub_is}
+use Rattle.cord_run.proofs.ShortTexts.{name_is, sub_is}
 use Rattle.cord_run.proofs.expressions.slices.slice_of.Goals as goal
 
 pub returns-in-Name : goal.returns-in-Name

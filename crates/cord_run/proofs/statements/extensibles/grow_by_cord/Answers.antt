@@ -1,14 +1,14 @@
 use Rattle.std.specs.Prelude.{◌+◌, ◌<◌, ◌≤◌, ◌++◌}
 use Rattle.cord_run.proofs.Common.{ℕ, List, Err, sym, subst, ◌∙◌, ap, length, Stop, Becomes, longer_text, MAX_LEN, lengths_of}
 use Rattle.cord_run.proofs.Common.{bytes_of_cells, text_over}
-use Rattle.cord_run.proofs.Extensibles.{cord_inside, cord_length, cord_text, grown_over, grown_becomes, grown_refused}
+use Rattle.cord_run.proofs.Extensibles.{cord_inside, cord_length, cord_text, given_becomes, given_over, grown_refused}
 use Rattle.cord_run.proofs.statements.extensibles.grow_by_cord.Goals as goal
 
 pub returns-in-Ok-clause-over : goal.returns-in-Ok-clause-over
 returns-in-Ok-clause-over c =
     let before = c.in_ok-extensible.extensible.text in
     let took = c.in_ok-extensible.ensures.taken in
-    grown_over c.args.name.now before c.append_cord.new.self.text c.args.store.now.entries.items c.taken.new.store.entries.items
+    given_over c.args.name.now before c.append_cord.new.self.text c.args.store.now.entries.items c.taken.new.store.entries.items
     c.give.new.store.entries.items took c.give.result c.give.ensures.has
     (λ ls over held. c.in-Ok.ensures.over.fits ls held (cord_inside c.args.name.now before before c.args.store.now.entries.items
     c.taken.new.store.entries.items c.taken.new.store.entries.items took c.args.operand.now c.cord_or.result.now c.cord_or.ensures ls
@@ -18,7 +18,7 @@ pub returns-in-Ok-clause-becomes : goal.returns-in-Ok-clause-becomes
 returns-in-Ok-clause-becomes c =
     let before = c.in_ok-extensible.extensible.text in
     let took = c.in_ok-extensible.ensures.taken in
-    grown_becomes c.args.name.now before c.append_cord.new.self.text c.args.store.now.entries.items c.taken.new.store.entries.items
+    given_becomes c.args.name.now before c.append_cord.new.self.text c.args.store.now.entries.items c.taken.new.store.entries.items
     c.give.new.store.entries.items took c.give.result (λ t. text_over t c.args.store.now.entries.items c.args.operand.now)
     c.give.ensures.has c.give.ensures.refused (λ t over held.
     c.in-Ok.ensures.over.bytes t held (cord_inside c.args.name.now before before c.args.store.now.entries.items
@@ -38,7 +38,7 @@ returns-clause-becomes c =
     let middle = c.taken.new.store.entries.items in
     subst (λ (h : Stop). Becomes c.args.name.now (λ t. longer_text old c.args.name.now
     (text_over t c.args.store.now.entries.items c.args.operand.now) t) old middle (Err h)) (sym c.refusal.ensures)
-    (grown_refused c.args.name.now before c.append_cord.new.self.text old middle middle took c.in-Err.error
+    (grown_refused c.args.name.now before old took.cells_are middle c.in-Err.error
     (λ t. text_over t c.args.store.now.entries.items c.args.operand.now)
     (λ is t over. subst (λ (n : ℕ). MAX_LEN < length before + n)
     (cord_length c.args.name.now before before c.args.store.now.entries.items c.taken.new.store.entries.items

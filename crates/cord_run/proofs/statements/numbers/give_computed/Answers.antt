@@ -1,7 +1,6 @@
 use Rattle.cord_run.proofs.Common.{ℤ, Result, refl, subst, rules, IfOk, FaultKind, HasNumber, FindsOver, number_or_stop}
 use Rattle.cord_run.specs.declared.stops.Stop.TheVariants as stops
-use Rattle.cord_run.proofs.NumberStatements.{kept_giving, none_found, number_counted}
-use Rattle.cord_run.proofs.Numbers.{handed}
+use Rattle.cord_run.proofs.Numbers.{kept_giving, none_found, number_counted, handed}
 use Rattle.cord_run.proofs.statements.numbers.give_computed.Goals as goal
 
 pub returns-in-Ok-clause-means : goal.returns-in-Ok-clause-means

@@ -3,8 +3,7 @@ use Rattle.cord_run.proofs.Common.{ℤ, Ok, refl, sym, subst, ap, ◌∙◌, to_
 use Rattle.cord_run.proofs.Common.{Len, Sub, plain_of, in_i64, MeansOver}
 use Rattle.cord_syntax.specs.declared.families.Family.TheVariants as families
 use Rattle.cord_run.proofs.Lengths.{operand_value}
-use Rattle.cord_run.proofs.NumberStatements.{len_finds, sum_finds}
-use Rattle.cord_run.proofs.Numbers.{handed}
+use Rattle.cord_run.proofs.Numbers.{len_finds, sum_finds, handed}
 use Rattle.cord_run.proofs.statements.numbers.serve_computation.Goals as goal
 
 pub returns-in-Len-clause-means : goal.returns-in-Len-clause-means

@@ -1,7 +1,6 @@
 use Rattle.cord_run.proofs.Common.{List, ℕ, None, sym, ap, subst, ◌∙◌, Whole, Content, Entry, IsWholeContent, content_length, cord_in}
 use Rattle.cord_run.proofs.Common.{IsEntryAt}
-use Rattle.cord_run.proofs.Entries.{value_there}
-use Rattle.cord_run.proofs.Splices.{whole_at}
+use Rattle.cord_run.proofs.Entries.{value_there, whole_at}
 use Rattle.cord_run.proofs.store.Store.cord_at.Goals as goal
 
 pub returns-in-Whole : goal.returns-in-Whole

@@ -1,6 +1,6 @@
 use Rattle.cord_run.proofs.Common.{None, ap, sym, ◌∙◌, IfSome_then, Whole, content_length, cord_in}
 use Rattle.cord_run.proofs.Entries.{absent_none}
-use Rattle.cord_run.proofs.Slices.{still_none}
+use Rattle.cord_run.proofs.ShortTexts.{still_none}
 use Rattle.cord_run.proofs.store.Store.cord_of.Goals as goal
 
 pub returns-in-None-clause-none : goal.returns-in-None-clause-none

@@ -1,6 +1,6 @@
 use Rattle.cord_run.proofs.Common.{ap, ◌∙◌, None, IfOk-weaker, Entry, cells_in}
 use Rattle.cord_run.proofs.Entries.{absent_none, distinct_set, extensible_same, name_at_place, value_there}
-use Rattle.cord_run.proofs.Cords.{extended_none, extended_text}
+use Rattle.cord_run.proofs.Literals.{extended_none, extended_text}
 use Rattle.cord_run.proofs.store.Store.extended.Goals as goal
 
 pub returns-in-None-clause-made : goal.returns-in-None-clause-made

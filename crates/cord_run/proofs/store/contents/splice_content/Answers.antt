@@ -1,8 +1,7 @@
 use Rattle.std.specs.Prelude.{◌<◌}
 use Rattle.cord_run.proofs.Common.{None, refl, ap, subst, ◌∙◌, slice_set, get_or, set-get_or, MAX_LEN, text_len, Content, Whole, Entry}
 use Rattle.cord_run.proofs.Common.{spliced_len, cord_in}
-use Rattle.cord_run.proofs.Entries.{distinct_set, value_at_place}
-use Rattle.cord_run.proofs.Splices.{splice_set, whole_there}
+use Rattle.cord_run.proofs.Entries.{distinct_set, value_at_place, splice_set, whole_there}
 use Rattle.cord_run.proofs.store.contents.splice_content.Goals as goal
 
 pub splice_within-requires : goal.splice_within-requires

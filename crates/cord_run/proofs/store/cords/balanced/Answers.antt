@@ -1,4 +1,4 @@
-use Rattle.cord_run.proofs.Cords.{same_as_name}
+use Rattle.cord_run.proofs.Literals.{same_as_name}
 use Rattle.cord_run.proofs.store.cords.balanced.Goals as goal
 
 pub returns-in-Ok : goal.returns-in-Ok

@@ -1,5 +1,5 @@
 use Rattle.cord_run.proofs.Common.{◌∙◌, MAX_LEN, format_text, and_then, within, IsFaultOver, stop_of_print, passed_on}
-use Rattle.cord_run.proofs.Prints.{printed_cord, unprinted_unless}
+use Rattle.cord_run.proofs.Literals.{printed_cord, unprinted_unless}
 use Rattle.cord_run.proofs.targets.prints.print.Goals as goal
 
 pub returns-in_err-sprintf-clause-refused : goal.returns-in_err-sprintf-clause-refused
