@@ -6,8 +6,7 @@ mod standard;
 ghost use Rattle.std.specs.Prelude.{◌≡◌, ◌<◌, ◌≤◌, ℕ, length, IsSome, IsSomeAnd};
 
 use super::cases::expect_case;
-use cord_io::{FileNo, Files, MemFiles, OpenFault, ReadFault, Sink, WriteFault};
-use std::alloc::Global;
+use cord_io::{FileNo, Files, OpenFault, ReadFault, Sink, WriteFault};
 use std::process::Abort;
 
 // What is asked of files of which one of ten bytes is opened, and what they answer.
@@ -40,9 +39,10 @@ fn opened<F: Files>(rt: &impl Abort, files: &mut F, path: &str) -> FileNo
 fn expect_no_file<F: Files>(rt: &impl Abort, files: &mut F, path: &str, fault: OpenFault)
     ensures { (n : ℕ) → F.opened files.new n ≡ F.opened files.old n }
 {
-    let found = files.open(path);
-    expect_case(rt, found == Err(fault), path, 0);
-    assert!(rt; found.is_err());
+    let Err(found) = files.open(path) else {
+        panic!(rt; "{path} is opened");
+    };
+    expect_case(rt, found == fault, path, 0);
 }
 
 fn expect_answer<F: Files>(rt: &impl Abort, files: &mut F, no: FileNo, ask: Ask)
@@ -74,12 +74,6 @@ fn expect_answers<F: Files>(rt: &impl Abort, files: &mut F, no: FileNo, asks: &[
     for ask in asks {
         expect_answer(rt, files, no, *ask);
     }
-}
-
-// Opens a file of ten bytes, and asks then.
-fn expect_all<F: Files>(rt: &impl Abort, files: &mut F, path: &str, asks: &[Ask]) {
-    let no = opened(rt, files, path);
-    expect_answers(rt, files, no, asks);
 }
 
 // What is asked of a sink, and what it answers.

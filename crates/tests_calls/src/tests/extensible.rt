@@ -53,14 +53,6 @@ const TEXTS: &[&[Step]] = &[
     &[Step::Cord(&[Part::Run(0, 1000)]), Is(Shape::Run(0, 1000))],
 ];
 
-// That an extensible cord of the longest text takes no byte more.
-fn expect_full(rt: &impl Abort, alloc: Global, ext: &mut ExtCord) {
-    let too_long = Err(CordError::TooLong);
-    expect_case(rt, ext.append(alloc, 1) == too_long, "append", 1);
-    let refused = ext.append_cord(alloc, &made(rt, alloc, LONGEST));
-    expect_case(rt, refused == too_long, "append_cord", MAX_LEN);
-}
-
 fn take_step(rt: &impl Abort, alloc: Global, ext: &mut ExtCord, step: &Step) {
     match step {
         Byte(byte, count) => {
@@ -82,7 +74,12 @@ fn take_step(rt: &impl Abort, alloc: Global, ext: &mut ExtCord, step: &Step) {
             let cord = ext.to_cord(alloc).expect(rt, "no memory");
             expect_case(rt, is_cord(&cord, shape), "the cord", cord.len());
         }
-        Full => expect_full(rt, alloc, ext),
+        Full => {
+            let too_long = Err(CordError::TooLong);
+            expect_case(rt, ext.append(alloc, 1) == too_long, "append", 1);
+            let refused = ext.append_cord(alloc, &made(rt, alloc, LONGEST));
+            expect_case(rt, refused == too_long, "append_cord", MAX_LEN);
+        }
     }
 }
 

@@ -25,7 +25,7 @@ enum Ask {
     Lazy(&'static str, Shape),
     FromFile(&'static str, Shape),
     // Bytes of the file at a path are put: where they stand, and how many.
-    Put((&'static str, u64, u64), Result<(), FileError>),
+    Put((&'static str, u64, u64)),
     // What was put is this.
     Taken(&'static [u8]),
     // How often a call of the files has failed.
@@ -89,10 +89,7 @@ fn expect_ask<F: Files>(
         Eager(path, shape) => expect_cord(rt, sources.eager(alloc, path), path, shape),
         Lazy(path, shape) => expect_cord(rt, sources.lazy(alloc, path), path, shape),
         FromFile(path, shape) => expect_cord(rt, sources.from_file(alloc, path), path, shape),
-        Put(range, answer) => {
-            let end = put_part(alloc, sources, *range, sink);
-            expect_case(rt, end == *answer, range.0, range.2);
-        }
+        Put(range) => put_part(rt, alloc, sources, *range, sink),
         Taken(bytes) => {
             assert!(rt; bytes.starts_with(sink.bytes()));
             assert!(rt; sink.bytes().len() == bytes.len());
@@ -131,7 +128,7 @@ const HELLO: &[&[Ask]] = &[
         FromFile("p", Shape::Leaf(b"hello", 0, 5)),
         Failures(0),
     ],
-    &[Put(("p", 0, 5), Ok(())), Taken(b"hello"), Failures(0)],
+    &[Put(("p", 0, 5)), Taken(b"hello"), Failures(0)],
 ];
 
 #[test]

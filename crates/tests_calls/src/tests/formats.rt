@@ -1,6 +1,5 @@
 // Cases of worked examples, and a table of what C's printf writes.
 use super::trees::{cord_of, expect_text, run_of};
-use cord_core::Cord;
 use cord_io::MAX_LEN;
 use cord_printf::{Arg, Format, FormatError, PrintError, sprintf, sprintf_len};
 use std::alloc::Global;
@@ -248,23 +247,8 @@ fn expect_format(rt: &impl Abort, holds: bool, format: &[u8]) {
     assert!(rt; holds, "{format:?}");
 }
 
-// That a print is this text, or refused for this.
-fn expect_answer(
-    rt: &impl Abort,
-    alloc: Global,
-    answer: Result<Cord, PrintError>,
-    (format, _, wanted): Print,
-) {
-    match (answer, wanted) {
-        (Ok(cord), Ok(text)) => expect_text(rt, alloc, &cord, text),
-        (Err(error), Err(wanted)) => expect_format(rt, error == wanted, format),
-        _ => expect_format(rt, false, format),
-    }
-}
-
 // Prints, and takes the length of the print alone.
-fn expect_print(rt: &impl Abort, alloc: Global, print: Print) {
-    let (format, arguments, wanted) = print;
+fn expect_print(rt: &impl Abort, alloc: Global, (format, arguments, wanted): Print) {
     let parsed = Format::parse(alloc, format).expect(rt, "no format");
     let args = args_of(rt, alloc, arguments);
     let length = match wanted {
@@ -272,7 +256,11 @@ fn expect_print(rt: &impl Abort, alloc: Global, print: Print) {
         Err(error) => Err(error),
     };
     expect_format(rt, sprintf_len(&parsed, &args) == length, format);
-    expect_answer(rt, alloc, sprintf(alloc, &parsed, &args), print);
+    match (sprintf(alloc, &parsed, &args), wanted) {
+        (Ok(cord), Ok(text)) => expect_text(rt, alloc, &cord, text),
+        (Err(error), Err(wanted)) => expect_format(rt, error == wanted, format),
+        _ => expect_format(rt, false, format),
+    }
 }
 
 #[test]

@@ -1,5 +1,5 @@
 // Cases of worked examples, over a table of one source.
-ghost use Rattle.std.specs.Prelude.{◌≡◌, ◌≤◌, IfOk};
+ghost use Rattle.std.specs.Prelude.{◌≡◌, ◌≤◌};
 ghost use Rattle.cord_io.specs.Table.{Lengths, length_at};
 ghost use Rattle.cord_core.specs.Cord.{CordFitsIn};
 
@@ -157,74 +157,49 @@ fn to_vec_and_put(rt: HostRuntime) {
     let text = text_of(&rt, alloc, &cord);
     assert!(rt; text.as_slice() == b"abccd".as_slice());
     for &(name, parts, passes, answer, taken) in PUT {
-        expect_put(&rt, alloc, name, parts, passes, answer, taken);
+        let (reads, calls, most) = passes;
+        let cord = made(&rt, alloc, parts);
+        let mut source = six_hundred((reads, u64::MAX));
+        assert!(rt; most >= 1);
+        let mut sink = FuseSink::new(MemSink::new(alloc), calls, most);
+        expect_case(
+            &rt,
+            put(&cord, &mut source, &mut sink) == answer,
+            name,
+            calls,
+        );
+        expect_case(&rt, sink.inner().bytes() == taken, name, calls);
+        let failures = u64::from(answer == Err(CordError::ReadFailed));
+        expect_case(&rt, source.failures() == failures, name, calls);
     }
 }
 
 // Nothing with 65 bytes appended 10,000 times, the k-th time of the byte k modulo 256; it never is deeper than 60.
-fn appended(rt: &impl Abort, alloc: Global) -> Result<Cord, CordError>
-    ensures { IfOk result (λ c. (lengths : Lengths) → 600 ≤ length_at lengths 2 → CordFitsIn lengths c) }
+fn appended(rt: &impl Abort, alloc: Global) -> Cord
+    ensures { (lengths : Lengths) → 600 ≤ length_at lengths 2 → CordFitsIn lengths result }
 {
     let mut cord = Cord::empty();
     for k in 0..10_000u32 {
         let byte = ((k + 1) % 256) as u8;
-        cord = Cord::cat_bytes(alloc, &cord, &[byte; 65])?;
-        assert!(rt; cord.depth() <= 60);
+        let Ok(longer) = Cord::cat_bytes(alloc, &cord, &[byte; 65]) else {
+            panic!(rt; "no memory");
+        };
+        assert!(rt; longer.depth() <= 60);
+        cord = longer;
     }
-    Ok(cord)
+    cord
 }
 
 #[test]
 fn depth_after_many_appends(rt: HostRuntime) {
-    let Ok(cord) = appended(&rt, rt.alloc()) else {
-        panic!(rt; "no memory");
-    };
-    let bytes = text_of(&rt, rt.alloc(), &cord);
+    let bytes = text_of(&rt, rt.alloc(), &appended(&rt, rt.alloc()));
     assert!(rt; bytes.len() == 650_000);
     for (place, byte) in bytes.iter().enumerate() {
         assert!(rt; *byte as usize == (place / 65 + 1) % 256);
     }
 }
 
-fn expect_put(
-    rt: &impl Abort,
-    alloc: Global,
-    name: &str,
-    parts: Parts,
-    (reads, calls, most): Passes,
-    answer: Result<(), CordError>,
-    taken: &[u8],
-) {
-    let cord = made(rt, alloc, parts);
-    let mut source = six_hundred((reads, u64::MAX));
-    assert!(rt; most >= 1);
-    let mut sink = FuseSink::new(MemSink::new(alloc), calls, most);
-    let end = put(&cord, &mut source, &mut sink);
-    expect_case(rt, end == answer, name, calls);
-    expect_case(rt, sink.inner().bytes() == taken, name, calls);
-    let failures = u64::from(answer == Err(CordError::ReadFailed));
-    expect_case(rt, source.failures() == failures, name, calls);
-}
-
-// What an iteration answers; a place has to lie inside the cord.
-fn iterated(rt: &impl Abort, cord: &Cord, way: Way, seen: &mut Latest) -> Result<bool, CordError>
-    requires { (lengths : Lengths) → 600 ≤ length_at lengths 2 → CordFitsIn lengths cord.now }
-{
-    let mut source = six_hundred((0, 0));
-    match way {
-        On(from) => {
-            assert!(rt; from < cord.len());
-            iter5(cord, from, &mut source, seen)
-        }
-        Back(from) => {
-            assert!(rt; from < cord.len());
-            riter4(cord, from, &mut source, seen)
-        }
-        All => iter(cord, &mut source, seen),
-        AllBack => riter(cord, &mut source, seen),
-    }
-}
-
+// A place has to lie inside the cord.
 #[test]
 fn cases_of_iterations(rt: HostRuntime) {
     for &(name, parts, way, stop, stopped, bytes) in ITERATIONS {
@@ -233,7 +208,19 @@ fn cases_of_iterations(rt: HostRuntime) {
             bytes: (0, 0, 0, 0),
             stop,
         };
-        let answer = iterated(&rt, &cord, way, &mut seen);
+        let mut source = six_hundred((0, 0));
+        let answer = match way {
+            On(from) => {
+                assert!(rt; from < cord.len());
+                iter5(&cord, from, &mut source, &mut seen)
+            }
+            Back(from) => {
+                assert!(rt; from < cord.len());
+                riter4(&cord, from, &mut source, &mut seen)
+            }
+            All => iter(&cord, &mut source, &mut seen),
+            AllBack => riter(&cord, &mut source, &mut seen),
+        };
         expect_case(&rt, answer == Ok(stopped), name, cord.len());
         expect_case(&rt, seen.bytes == bytes, name, cord.len());
     }

@@ -15,14 +15,12 @@ fn index_of(rt: &impl Abort, alloc: Global, text: &Text) -> LineIndex
     LineIndex::of(alloc, text).expect(rt, "memory")
 }
 
-// That a line has these bytes, or isn't there.
-fn expect_bytes(rt: &impl Abort, line: Option<Text>, bytes: Option<&[u8]>) {
+// Whether a line has these bytes, or isn't there.
+fn is_line(line: Option<&Text>, bytes: Option<&[u8]>) -> bool {
     match (line, bytes) {
-        (Some(line), Some(bytes)) => {
-            assert!(rt; line.starts_with(bytes) && line.len() == bytes.len() as u64)
-        }
-        (None, None) => {}
-        _ => assert!(rt; false, "a line is there or not"),
+        (Some(line), Some(bytes)) => line.len() == bytes.len() as u64 && line.starts_with(bytes),
+        (None, None) => true,
+        _ => false,
     }
 }
 
@@ -45,9 +43,10 @@ fn short_lines(rt: HostRuntime) {
     for case in &CASES {
         assert!(rt; index.line_start(&text, case.0) == case.1);
         let line = index.line_with_end(alloc, &text, case.0);
-        expect_bytes(&rt, line.expect(&rt, "memory"), case.2);
-        let bare = index.line(alloc, &text, case.0);
-        expect_bytes(&rt, bare.expect(&rt, "memory"), case.3);
+        let line = line.expect(&rt, "memory");
+        expect_case(&rt, is_line(line.as_ref(), case.2), "line", case.0);
+        let bare = index.line(alloc, &text, case.0).expect(&rt, "memory");
+        expect_case(&rt, is_line(bare.as_ref(), case.3), "bare", case.0);
     }
 }
 
@@ -156,23 +155,7 @@ fn expect_answers(rt: &impl Abort, alloc: Global, editor: &LineEditor, place: u6
     );
 }
 
-// An edit at a place like chance: most change some 100 bytes, one of 20 some 10,000.
-fn edit_somewhere(
-    rt: &impl Abort,
-    alloc: Global,
-    dice: &mut Dice,
-    line: &Text,
-    editor: &mut LineEditor,
-) {
-    let most = if dice.roll(20) == 0 { 400 } else { 8 };
-    let start = dice.roll(editor.text().len().max(1));
-    let removed = dice.roll(22 * most);
-    let added = line.repeated(alloc, dice.roll(most)).expect(rt, "memory");
-    editor
-        .replace_range(alloc, start, removed, &added)
-        .expect(rt, "memory");
-}
-
+// Edits at places like chance: most change some 100 bytes, one of 20 some 10,000.
 #[test]
 fn edits_like_chance(rt: HostRuntime) {
     let alloc = rt.alloc();
@@ -181,7 +164,13 @@ fn edits_like_chance(rt: HostRuntime) {
     let text = line.repeated(alloc, 2_000).expect(&rt, "memory");
     let mut editor = LineEditor::of(alloc, &text).expect(&rt, "memory");
     for edit in 0..2_000_u64 {
-        edit_somewhere(&rt, alloc, &mut dice, &line, &mut editor);
+        let most = if dice.roll(20) == 0 { 400 } else { 8 };
+        let start = dice.roll(editor.text().len().max(1));
+        let removed = dice.roll(22 * most);
+        let added = line.repeated(alloc, dice.roll(most)).expect(&rt, "memory");
+        editor
+            .replace_range(alloc, start, removed, &added)
+            .expect(&rt, "memory");
         if edit % 4 == 0 {
             let place = dice.roll(editor.text().len().wrapping_add(1).max(1));
             expect_answers(&rt, alloc, &editor, place);
@@ -209,32 +198,23 @@ fn many_lines(rt: &impl Abort, alloc: Global, line: &Text) -> Text {
     again!(rt, line.repeated(alloc, 5_000))
 }
 
-// That an editor still has its 5,000 lines.
-fn expect_unchanged(rt: &impl Abort, editor: &LineEditor) {
-    assert!(rt; editor.text().len() == 35_000 && editor.lines() == 5_000);
-    assert!(rt; editor.line_of(20_003) == 2_857 && editor.line_start(4_999) == 34_993);
-}
-
 // Puts a line in the place of 20,000 bytes. Where that was refused nothing has changed, and it is done again.
-fn replace_lines(rt: &impl Abort, alloc: Global, editor: &mut LineEditor, line: &Text) {
-    if editor.replace_range(alloc, 3, 20_000, line).is_err() {
-        expect_unchanged(rt, editor);
-        editor
-            .replace_range(alloc, 3, 20_000, line)
-            .expect(rt, "memory");
-    }
-}
-
 #[test]
 fn refused_edit_of_lines(rt: HostRuntime) {
     let alloc = rt.alloc();
     let line = a_line(&rt, alloc);
     let text = many_lines(&rt, alloc, &line);
     let mut editor = again!(&rt, LineEditor::of(alloc, &text));
-    replace_lines(&rt, alloc, &mut editor, &line);
+    if editor.replace_range(alloc, 3, 20_000, &line).is_err() {
+        assert!(rt; editor.text().len() == 35_000 && editor.lines() == 5_000);
+        assert!(rt; editor.line_of(20_003) == 2_857 && editor.line_start(4_999) == 34_993);
+        editor
+            .replace_range(alloc, 3, 20_000, &line)
+            .expect(&rt, "memory");
+    }
     assert!(rt; editor.text().len() == 15_007 && editor.lines() == 2_144);
     let second = again!(&rt, editor.line(alloc, 1));
-    expect_bytes(&rt, second, Some(b"ne"));
+    assert!(rt; is_line(second.as_ref(), Some(b"ne")));
 }
 
 // That an index has so many lines, and the last one begins there.
@@ -244,21 +224,17 @@ fn expect_lines(rt: &impl Abort, index: &LineIndex, text: &Text, (lines, start):
 }
 
 // Takes 21,000 bytes out of an index. Where that was refused nothing has changed, and it is done again.
-fn remove_lines(rt: &impl Abort, alloc: Global, index: &mut LineIndex, text: &Text, after: &Text) {
-    if index.edited(alloc, after, 0, 21_000, 0).is_err() {
-        expect_lines(rt, index, text, (5_000, 34_993));
-        index
-            .edited(alloc, after, 0, 21_000, 0)
-            .expect(rt, "memory");
-    }
-}
-
 #[test]
 fn refused_index_of_lines(rt: HostRuntime) {
     let alloc = rt.alloc();
     let text = many_lines(&rt, alloc, &a_line(&rt, alloc));
     let mut index = again!(&rt, LineIndex::of(alloc, &text));
     let after = again!(&rt, text.remove(alloc, 0, 21_000));
-    remove_lines(&rt, alloc, &mut index, &text, &after);
+    if index.edited(alloc, &after, 0, 21_000, 0).is_err() {
+        expect_lines(&rt, &index, &text, (5_000, 34_993));
+        index
+            .edited(alloc, &after, 0, 21_000, 0)
+            .expect(&rt, "memory");
+    }
     expect_lines(&rt, &index, &after, (2_000, 13_993));
 }

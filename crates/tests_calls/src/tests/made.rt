@@ -1,10 +1,10 @@
 // Cords that cases tell by their parts.
-ghost use Rattle.std.specs.Prelude.{◌≡◌, ◌+◌, ◌≤◌};
+ghost use Rattle.std.specs.Prelude.{◌≡◌, ◌+◌, ◌≤◌, IfOk};
 ghost use Rattle.cord_io.specs.Table.{Lengths, length_at};
 ghost use Rattle.cord_core.specs.Cord.{CordFitsIn};
 
 use cord_core::Cord;
-use cord_io::SourceId;
+use cord_io::{CordError, SourceId};
 use std::alloc::Global;
 use std::process::Abort;
 
@@ -25,32 +25,19 @@ pub(super) type Parts = &'static [Part];
 
 // Each of these cords fits a table whose source 2 has 600 bytes.
 
-fn leaf(rt: &impl Abort, alloc: Global, bytes: &[u8]) -> Cord
-    ensures { (lengths : Lengths) → 600 ≤ length_at lengths 2 → CordFitsIn lengths result }
+// The cord of a part that stands by itself; of nothing there is no more.
+fn part_of(rt: &impl Abort, alloc: Global, part: Part) -> Result<Cord, CordError>
+    ensures { IfOk result (λ c. (lengths : Lengths) → 600 ≤ length_at lengths 2 → CordFitsIn lengths c) }
 {
-    let Ok(cord) = Cord::from_bytes(alloc, bytes) else {
-        panic!(rt; "no memory");
-    };
-    cord
-}
-
-fn run(rt: &impl Abort, alloc: Global, byte: u8, len: u64) -> Cord
-    ensures { (lengths : Lengths) → 600 ≤ length_at lengths 2 → CordFitsIn lengths result }
-{
-    let Ok(cord) = Cord::chars(alloc, byte, len) else {
-        panic!(rt; "no memory");
-    };
-    cord
-}
-
-fn func(rt: &impl Abort, alloc: Global, start: u64, count: u64) -> Cord
-    ensures { (lengths : Lengths) → 600 ≤ length_at lengths 2 → CordFitsIn lengths result }
-{
-    assert!(rt; start <= 600 && count <= 600 - start);
-    let Ok(cord) = Cord::from_fn(alloc, SourceId(2), start, count) else {
-        panic!(rt; "no memory");
-    };
-    cord
+    match part {
+        Part::Leaf(bytes) => Cord::from_bytes(alloc, bytes),
+        Part::Run(byte, len) => Cord::chars(alloc, byte, len),
+        Part::Func(start, count) => {
+            assert!(rt; start <= 600 && count <= 600 - start);
+            Cord::from_fn(alloc, SourceId(2), start, count)
+        }
+        Part::Twice(_) => Ok(Cord::empty()),
+    }
 }
 
 fn both(rt: &impl Abort, alloc: Global, left: &Cord, right: &Cord) -> Cord
@@ -80,12 +67,13 @@ fn with_part(rt: &impl Abort, alloc: Global, cord: &Cord, part: Part) -> Cord
     requires { (lengths : Lengths) → 600 ≤ length_at lengths 2 → CordFitsIn lengths cord.now }
     ensures { (lengths : Lengths) → 600 ≤ length_at lengths 2 → CordFitsIn lengths result }
 {
-    match part {
-        Part::Leaf(bytes) => both(rt, alloc, cord, &leaf(rt, alloc, bytes)),
-        Part::Run(byte, len) => both(rt, alloc, cord, &run(rt, alloc, byte, len)),
-        Part::Func(start, count) => both(rt, alloc, cord, &func(rt, alloc, start, count)),
-        Part::Twice(turns) => doubled(rt, alloc, cord, turns),
+    if let Part::Twice(turns) = part {
+        return doubled(rt, alloc, cord, turns);
     }
+    let Ok(next) = part_of(rt, alloc, part) else {
+        panic!(rt; "no memory");
+    };
+    both(rt, alloc, cord, &next)
 }
 
 // A cord, and these parts after it; with no part the very cord, shared.

@@ -9,10 +9,8 @@ fn fresh() -> Mark {
 fn one_mark_is_the_same_and_two_are_not(rt: HostRuntime) {
     let one = fresh();
     let two = fresh();
-    assert!(rt; one.same(&one));
-    assert!(rt; one.same(&one));
-    assert!(rt; !one.same(&two));
-    assert!(rt; !two.same(&one));
-    assert!(rt; two.same(&two));
+    let same = [one.same(&one), one.same(&one), two.same(&two)];
+    assert!(rt; same == [true; 3]);
+    assert!(rt; !one.same(&two) && !two.same(&one));
     assert!(rt; size_of::<Mark>() == 1);
 }

@@ -1,17 +1,15 @@
 // Cases of worked examples, over a table of one source.
-ghost use Rattle.std.specs.Prelude.{◌≡◌, ◌≤◌};
+ghost use Rattle.std.specs.Prelude.{◌≤◌};
 ghost use Rattle.cord_io.specs.Table.{Lengths, length_at};
 ghost use Rattle.cord_core.specs.Cord.{CordFitsIn};
 
 use super::byte_source::six_hundred;
 use super::cases::expect_case;
 use super::made::{Part, Parts, made};
-use super::trees::{cord_of, joined};
 use Part::{Leaf, Run, Twice};
 use Step::{At, Fetched, Len, Nexts, Prev};
 use cord_core::Cord;
 use cord_pos::Position;
-use std::alloc::Global;
 use std::process::Abort;
 
 // What is done with a position, or has to hold of it.
@@ -102,15 +100,6 @@ fn walk_on(position: &mut Position, steps: u32)
     }
 }
 
-fn expect_fetched(rt: &impl Abort, name: &str, position: &mut Position, byte: u8)
-    requires { (lengths : Lengths) → 600 ≤ length_at lengths 2 → CordFitsIn lengths position.old.cord }
-    ensures { position.new.cord ≡ position.old.cord }
-{
-    assert!(rt; position.is_valid());
-    let fetched = position.fetch(&mut six_hundred((0, 0)));
-    expect_case(rt, fetched == Ok(byte), name, u64::from(byte));
-}
-
 fn take_step(rt: &impl Abort, name: &str, position: &mut Position, step: Step)
     requires { (lengths : Lengths) → 600 ≤ length_at lengths 2 → CordFitsIn lengths position.old.cord }
     ensures { (lengths : Lengths) → 600 ≤ length_at lengths 2 → CordFitsIn lengths position.new.cord }
@@ -123,7 +112,11 @@ fn take_step(rt: &impl Abort, name: &str, position: &mut Position, step: Step)
             expect_case(rt, position.index() == index, name, visits);
             expect_case(rt, position.visits() == visits, name, visits);
         }
-        Fetched(byte) => expect_fetched(rt, name, position, byte),
+        Fetched(byte) => {
+            assert!(rt; position.is_valid());
+            let fetched = position.fetch(&mut six_hundred((0, 0)));
+            expect_case(rt, fetched == Ok(byte), name, u64::from(byte));
+        }
         Len(len) => expect_case(rt, position.cord().len() == len, name, len),
     }
 }
@@ -136,21 +129,10 @@ fn walk(rt: &impl Abort, name: &str, position: &mut Position, steps: &[Step])
     }
 }
 
-fn expect_walk(
-    rt: &impl Abort,
-    alloc: Global,
-    name: &str,
-    parts: Parts,
-    start: u64,
-    steps: &[Step],
-) {
-    let cord = made(rt, alloc, parts);
-    walk(rt, name, &mut Position::set(&cord, start), steps);
-}
-
 #[test]
 fn cases_of_walks(rt: HostRuntime) {
     for &(name, parts, start, steps) in WALKS {
-        expect_walk(&rt, rt.alloc(), name, parts, start, steps);
+        let cord = made(&rt, rt.alloc(), parts);
+        walk(&rt, name, &mut Position::set(&cord, start), steps);
     }
 }

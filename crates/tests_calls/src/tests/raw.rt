@@ -1,16 +1,10 @@
 // Worked values, each call once with ample memory.
-use super::cases::expect_case;
+use super::cases::{expect_case, expect_equal};
 use super::trees::pattern;
 use cord_raw::RawBuf;
 use std::alloc::Global;
 use std::process::Abort;
 use std::rt::HostRuntime;
-
-// Pushes a byte, for which there is room.
-fn push(rt: &impl Abort, alloc: Global, buffer: &mut RawBuf, byte: u8) {
-    assert!(rt; buffer.len() < RawBuf::CAP);
-    buffer.push(alloc, byte).expect(rt, "no memory");
-}
 
 // Adds bytes, for which there is room.
 fn extend(rt: &impl Abort, alloc: Global, buffer: &mut RawBuf, bytes: &[u8]) {
@@ -23,7 +17,7 @@ fn expect_text(rt: &impl Abort, alloc: Global, buffer: &RawBuf, text: &[u8]) {
     assert!(rt; buffer.len() > 0);
     let shared = buffer.to_shared(alloc).expect(rt, "no memory");
     assert!(rt; buffer.len() == text.len() as u64);
-    assert!(rt; shared.as_slice() == text);
+    expect_equal(rt, shared.as_slice(), text);
 }
 
 // That the text stands there from `start` on.
@@ -39,7 +33,7 @@ fn raw_buf_calls(rt: HostRuntime) {
     let alloc = rt.alloc();
     let mut buffer = RawBuf::new(alloc).expect(&rt, "no memory");
     assert!(rt; buffer.len() == 0);
-    push(&rt, alloc, &mut buffer, 97);
+    buffer.push(alloc, 97).expect(&rt, "no memory");
     extend(&rt, alloc, &mut buffer, b"bc");
     assert!(rt; buffer.len() == 3);
     expect_at(&rt, alloc, &buffer, 1, b"bc");

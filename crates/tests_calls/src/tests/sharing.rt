@@ -1,6 +1,4 @@
 // No call copies a leaf of more than 64 bytes: what it makes of cords and nodes holds the very bytes of their leaves.
-ghost use Rattle.cord_node.specs.Tree.{IsSound};
-
 use super::calls::{Call, Growth, after};
 use super::cases::expect_case;
 use super::made::{Part, Parts};
@@ -143,39 +141,25 @@ fn cords_share_their_leaves(rt: HostRuntime) {
     }
 }
 
-// A leaf as a node.
-fn node_of(rt: &impl Abort, alloc: Global, of: &Leaf) -> Rc<Node>
-    ensures { IsSound result.value }
-{
-    let bytes = of.bytes.clone().expect(rt, "no memory");
-    assert!(rt; bytes.len() > 0 && bytes.len() <= 1_000_000);
-    leaf(alloc, bytes).expect(rt, "no memory")
-}
-
-// A node twice, balanced.
-fn balanced_parts(rt: &impl Abort, alloc: Global, node: &Rc<Node>) -> Rc<Node>
-    requires { IsSound node.now.value }
-{
-    let again = node.clone().expect(rt, "no memory");
-    let more = node.clone().expect(rt, "no memory");
-    assert!(rt; again.len() <= 2_000_000 && more.len() <= 2_000_000);
-    balance_parts(alloc, &[again, more]).expect(rt, "no memory")
-}
+// What is made of nodes, the first of which is a leaf; the last is a node twice, balanced.
 
 #[test]
 fn nodes_share_their_leaves(rt: HostRuntime) {
     for len in LENGTHS {
         let alloc = rt.alloc();
-        let leaf = leaf_of(&rt, alloc, *len);
-        assert!(rt; *len >= 65 && *len <= 1_000_000);
-        let node = node_of(&rt, alloc, &leaf);
+        let of = leaf_of(&rt, alloc, *len);
+        let bytes = of.bytes.clone().expect(&rt, "no memory");
+        assert!(rt; *len >= 65 && bytes.len() as u64 == *len && *len <= 1_000_000);
+        let node = leaf(alloc, bytes).expect(&rt, "no memory");
         let both = followed(&rt, alloc, &node, &Piece::Run(46, 3));
-        expect_in_node(&rt, "join", &both, &leaf, *len);
+        expect_in_node(&rt, "join", &both, &of, *len);
         let part = range_of(&rt, alloc, &both, 1, 64);
-        expect_in_node(&rt, "sub_node of 64", &part, &leaf, 64);
+        expect_in_node(&rt, "sub_node of 64", &part, &of, 64);
         let middle = range_of(&rt, alloc, &both, *len - 2, 4);
-        expect_in_node(&rt, "sub_node over a seam", &middle, &leaf, 2);
-        let twice = balanced_parts(&rt, alloc, &both);
-        expect_in_node(&rt, "balance_parts", &twice, &leaf, 2 * *len);
+        expect_in_node(&rt, "sub_node over a seam", &middle, &of, 2);
+        let more = both.clone().expect(&rt, "no memory");
+        assert!(rt; both.len() <= 2_000_000 && more.len() <= 2_000_000);
+        let twice = balance_parts(alloc, &[both, more]).expect(&rt, "no memory");
+        expect_in_node(&rt, "balance_parts", &twice, &of, 2 * *len);
     }
 }

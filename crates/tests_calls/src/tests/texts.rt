@@ -1,4 +1,5 @@
 // Worked examples of texts. What makes texts and looks at them promises nothing, so that tests have little to prove.
+use super::cases::expect_equal;
 use cord::{Format, Text, TextArg, TextBuilder, TextEditor};
 use std::alloc::{AllocError, Global};
 use std::fmt::Debug;
@@ -19,7 +20,7 @@ fn hello(rt: &impl Abort, alloc: Global) -> Text {
 
 fn expect_bytes(rt: &impl Abort, alloc: Global, text: &Text, wanted: &[u8]) {
     let bytes = text.to_vec(alloc).expect(rt, "no memory");
-    assert!(rt; bytes.as_slice() == wanted, "the text is not {wanted:?}");
+    expect_equal(rt, &bytes, wanted);
 }
 
 fn expect_made<E: Debug>(rt: &impl Abort, alloc: Global, made: Result<Text, E>, wanted: &[u8]) {
@@ -68,26 +69,18 @@ const EDITS: [Edit; 3] = [
     },
 ];
 
-fn expect_edit(rt: &impl Abort, alloc: Global, text: &Text, new: &Text, edit: &Edit) {
-    let (start, count) = (edit.start, edit.count);
-    expect_made(rt, alloc, text.substr(alloc, start, count), edit.part);
-    expect_made(rt, alloc, text.insert(alloc, start, new), edit.inserted);
-    expect_made(rt, alloc, text.remove(alloc, start, count), edit.removed);
-    expect_made(
-        rt,
-        alloc,
-        text.replace_range(alloc, start, count, new),
-        edit.replaced,
-    );
-}
-
 #[test]
 fn edits_leave_the_old_text(rt: HostRuntime) {
     let alloc = rt.alloc();
     let text = hello(&rt, alloc);
     let new = text_of(&rt, alloc, b", new");
     for edit in &EDITS {
-        expect_edit(&rt, alloc, &text, &new, edit);
+        let (start, count) = (edit.start, edit.count);
+        expect_made(&rt, alloc, text.substr(alloc, start, count), edit.part);
+        expect_made(&rt, alloc, text.insert(alloc, start, &new), edit.inserted);
+        expect_made(&rt, alloc, text.remove(alloc, start, count), edit.removed);
+        let replaced = text.replace_range(alloc, start, count, &new);
+        expect_made(&rt, alloc, replaced, edit.replaced);
     }
     expect_bytes(&rt, alloc, &text, b"hello world");
 }
@@ -206,11 +199,7 @@ fn greeting(rt: &impl Abort, alloc: Global) -> Text {
 
 fn expect_shown(rt: &impl Abort, shown: Result<String, AllocError>, wanted: &str) {
     let shown = shown.expect(rt, "no memory");
-    assert!(rt; shown.as_str() == wanted, "{shown} is not {wanted}");
-}
-
-fn expect_debug(rt: &impl Abort, alloc: Global, text: &Text, wanted: &str) {
-    expect_shown(rt, format!(in alloc; "{text:?}"), wanted);
+    assert!(rt; shown.as_str() == wanted, "not shown: {wanted}");
 }
 
 // A long text is shown by its beginning.
@@ -223,19 +212,13 @@ fn texts_are_shown(rt: HostRuntime) {
     let text = greeting(&rt, alloc);
     expect_shown(&rt, text.to_string(alloc), "hello world---hello world!");
     let shown = r#"Text(26, b"hello world---hello world!")"#;
-    expect_debug(&rt, alloc, &text, shown);
-    expect_debug(&rt, alloc, &run_of(&rt, alloc, b'\n', 33), LONG);
+    expect_shown(&rt, format!(in alloc; "{text:?}"), shown);
+    let long = run_of(&rt, alloc, b'\n', 33);
+    expect_shown(&rt, format!(in alloc; "{long:?}"), LONG);
 }
 
-// A euro sign, of which each byte stands in a part of its own, and then other bytes.
-fn cut_euro(rt: &impl Abort, alloc: Global, rest: &[u8]) -> Text {
-    let begun = text_of(rt, alloc, b"\xE2");
-    let middle = run_of(rt, alloc, 0x82, 1);
-    let cut = Text::cat(alloc, &begun, &middle).expect(rt, "no memory");
-    cut.append_bytes(alloc, rest).expect(rt, "no memory")
-}
-
-// What comes after two bytes of the sign, and what is shown: what is no character is replaced.
+// What comes after two bytes of a euro sign, and what is shown: what is no character is replaced. Each byte of the sign
+// stands in a part of its own.
 const AFTER: [(&[u8], &str); 2] = [
     (b"\xAC and so on", "\u{20AC} and so on"),
     (b"a\xFFb\xC3", "\u{FFFD}a\u{FFFD}b\u{FFFD}"),
@@ -243,9 +226,12 @@ const AFTER: [(&[u8], &str); 2] = [
 
 #[test]
 fn characters_may_lie_in_several_parts(rt: HostRuntime) {
+    let alloc = rt.alloc();
+    let (first, second) = (text_of(&rt, alloc, b"\xE2"), run_of(&rt, alloc, 0x82, 1));
+    let cut = Text::cat(alloc, &first, &second).expect(&rt, "no memory");
     for (rest, wanted) in AFTER {
-        let text = cut_euro(&rt, rt.alloc(), rest);
-        expect_shown(&rt, text.to_string(rt.alloc()), wanted);
+        let text = cut.append_bytes(alloc, rest).expect(&rt, "no memory");
+        expect_shown(&rt, text.to_string(alloc), wanted);
     }
 }
 

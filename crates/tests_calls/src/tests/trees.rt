@@ -2,6 +2,7 @@
 ghost use Rattle.std.specs.Prelude.{◌≤◌};
 ghost use Rattle.cord_node.specs.Tree.{len_of, IsSound};
 
+use super::cases::expect_equal;
 use cord_core::Cord;
 use cord_node::{Node, leaf};
 use std::alloc::{AllocError, Global};
@@ -62,18 +63,13 @@ pub(super) fn splice(
 
 // That a cord of leaves and runs has this text.
 pub(super) fn expect_text(rt: &impl Abort, alloc: Global, cord: &Cord, text: &[u8]) {
-    let bytes = bytes_of(alloc, cord).expect(rt, "no memory");
-    assert!(rt; bytes.as_deref() == Some(text), "the text is not {text:?}");
-}
-
-// The bytes of a cord of leaves and runs; `None` where it has a function part.
-pub(super) fn bytes_of(alloc: Global, cord: &Cord) -> Result<Option<Vec<u8>>, AllocError> {
     let mut bytes = Vec::new(alloc);
-    let known = match cord.root() {
+    let is_known = match cord.root() {
         None => true,
-        Some(node) => append(&mut bytes, node)?,
+        Some(node) => append(&mut bytes, node).expect(rt, "no memory"),
     };
-    Ok(if known { Some(bytes) } else { None })
+    assert!(rt; is_known);
+    expect_equal(rt, &bytes, text);
 }
 
 // Appends the bytes of a node, and tells whether all of them are known.

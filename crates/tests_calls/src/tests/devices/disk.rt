@@ -1,44 +1,39 @@
 // The machine's files, real ones and those of a machine that fails on purpose.
 ghost use Rattle.std.specs.Prelude.{IsErr};
 
-use super::super::cases::expect_case;
 use super::Ask::{self, Failures, Fault, Open, Read as Reads};
-use super::{expect_all, expect_answer, expect_answers, expect_no_file, opened};
-use cord_io::{DiskFiles, Files, OpenFault, ReadFault};
-use std::alloc::{Allocator, Global};
+use super::{expect_answer, expect_answers, expect_no_file, opened};
+use cord_io::{DiskFiles, Files, OpenFault};
+use std::alloc::Allocator;
 use std::cell::Cell;
 use std::fs::{self, Metadata, OpenFile};
 use std::io::{self, ErrorKind, Read, Seek, SeekFrom, Write};
 use std::os::unix::fs::FileExt;
-use std::process::Abort;
 use std::rt;
 
 const DIGITS: [u8; 10] = *b"0123456789";
 
 // How a machine fails.
 #[derive(Clone, Copy)]
-enum Trouble {
+pub(super) enum Trouble {
     Nothing,
     Missing,
     Forbidden,
     Directory,
     NoSeek,
-    EmptyRead,
+    // A call moves no byte.
+    Empty,
     Interrupted,
     InterruptedOnce,
+    Full,
 }
 
-// A machine that has ten digits at each path. Its files can be sought in or not, and fail after so many reads.
+// A machine that has ten digits at each path, and each of its files: it can be sought in or not, and fails after so many
+// calls that move bytes. A write takes at most two.
 #[derive(Drop)]
-struct Machine {
+pub(super) struct Machine {
     trouble: Trouble,
-    reads: u8,
-}
-
-#[derive(Drop)]
-struct MachineFile {
-    trouble: Trouble,
-    reads: Cell<u8>,
+    calls: Cell<u8>,
 }
 
 fn unsupported<T>() -> io::Result<T>
@@ -47,20 +42,38 @@ fn unsupported<T>() -> io::Result<T>
     Err(io::Error::from(ErrorKind::Unsupported))
 }
 
-impl FileExt for MachineFile {
-    fn read_at(&self, buf: &mut [u8], offset: u64) -> io::Result<usize> {
-        let reads = self.reads.get();
-        if reads == 0 {
-            return match self.trouble {
-                Trouble::EmptyRead => Ok(0),
-                Trouble::InterruptedOnce => {
-                    self.reads.set(1);
-                    Err(io::Error::from(ErrorKind::Interrupted))
-                }
-                _ => Err(io::Error::from(ErrorKind::Interrupted)),
-            };
+impl Machine {
+    pub(super) fn new(trouble: Trouble, calls: u8) -> Machine {
+        Machine {
+            trouble,
+            calls: Cell::new(calls),
         }
-        self.reads.set(reads - 1);
+    }
+
+    // Whether one more call passes; where none does, what it answers.
+    fn passes(&self) -> io::Result<bool> {
+        let calls = self.calls.get();
+        if calls > 0 {
+            self.calls.set(calls - 1);
+            return Ok(true);
+        }
+        let kind = match self.trouble {
+            Trouble::Empty => return Ok(false),
+            Trouble::Full => ErrorKind::StorageFull,
+            _ => ErrorKind::Interrupted,
+        };
+        if matches!(self.trouble, Trouble::InterruptedOnce) {
+            self.calls.set(1);
+        }
+        Err(io::Error::from(kind))
+    }
+}
+
+impl FileExt for Machine {
+    fn read_at(&self, buf: &mut [u8], offset: u64) -> io::Result<usize> {
+        if !self.passes()? {
+            return Ok(0);
+        }
         let place = offset.min(DIGITS.len() as u64) as usize;
         let rest = &DIGITS[place..];
         let count = rest.len().min(buf.len());
@@ -74,23 +87,27 @@ impl FileExt for MachineFile {
 }
 
 // Files are read by their places alone.
-impl Read for MachineFile {
+impl Read for Machine {
     fn read(&mut self, _buf: &mut [u8]) -> io::Result<usize> {
         unsupported()
     }
 }
 
-impl Write for MachineFile {
-    fn write(&mut self, _buf: &[u8]) -> io::Result<usize> {
-        unsupported()
+impl Write for Machine {
+    fn write(&mut self, buf: &[u8]) -> io::Result<usize> {
+        let most = if self.passes()? { 2 } else { 0 };
+        Ok(buf.len().min(most))
     }
 
     fn flush(&mut self) -> io::Result<()> {
-        unsupported()
+        if self.calls.get() > 0 {
+            return Ok(());
+        }
+        Err(io::Error::from(ErrorKind::StorageFull))
     }
 }
 
-impl Seek for MachineFile {
+impl Seek for Machine {
     fn seek(&mut self, to: SeekFrom) -> io::Result<u64> {
         match to {
             SeekFrom::End(0) if !matches!(self.trouble, Trouble::NoSeek) => Ok(10),
@@ -99,7 +116,7 @@ impl Seek for MachineFile {
     }
 }
 
-impl OpenFile for MachineFile {
+impl OpenFile for Machine {
     fn metadata(&self) -> io::Result<Metadata> {
         match self.trouble {
             Trouble::Directory => Ok(Metadata::of_dir()),
@@ -121,22 +138,19 @@ impl OpenFile for MachineFile {
 }
 
 impl rt::Files for Machine {
-    type File = MachineFile;
+    type File = Machine;
 
-    type Dir = MachineFile;
+    type Dir = Machine;
 
-    fn open_file(&self, _how: &fs::OpenOptions, _path: &str) -> io::Result<MachineFile> {
+    fn open_file(&self, _how: &fs::OpenOptions, _path: &str) -> io::Result<Machine> {
         match self.trouble {
             Trouble::Missing => Err(io::Error::from(ErrorKind::NotFound)),
             Trouble::Forbidden => Err(io::Error::from(ErrorKind::PermissionDenied)),
-            trouble => Ok(MachineFile {
-                trouble,
-                reads: Cell::new(self.reads),
-            }),
+            trouble => Ok(Machine::new(trouble, self.calls.get())),
         }
     }
 
-    fn open_dir(&self, _path: &str) -> io::Result<MachineFile> {
+    fn open_dir(&self, _path: &str) -> io::Result<Machine> {
         unsupported()
     }
 
@@ -239,7 +253,7 @@ const ASKED: &[(&str, Trouble, u8, &[Ask])] = &[
     // A read after a fault asks the machine again.
     (
         "faults_in_mid_stream_are_counted",
-        Trouble::EmptyRead,
+        Trouble::Empty,
         1,
         MID_STREAM,
     ),
@@ -259,37 +273,30 @@ const UNOPENED: &[(Trouble, OpenFault, u64)] = &[
     (Trouble::NoSeek, OpenFault::Failed, 1),
 ];
 
-// Two files that are read on in turn are each read ahead.
-fn read_in_turn<F: Files>(rt: &impl Abort, files: &mut F) {
-    let one = opened(rt, files, "one");
-    let other = opened(rt, files, "other");
-    expect_answer(rt, files, one, Reads(0, 4, b"0123"));
-    expect_answer(rt, files, other, Reads(0, 4, b"0123"));
-    expect_answer(rt, files, one, Reads(4, 4, b"4567"));
-    expect_answer(rt, files, other, Reads(4, 4, b"4567"));
-    expect_answer(rt, files, one, Reads(8, 4, b"89"));
-    expect_answer(rt, files, other, Reads(8, 4, b"89"));
-    assert!(rt; files.failures() == 0);
-}
-
-// Only a missing path is not found. Each of two files takes two reads.
+// Only a missing path is not found. Two files that are read on in turn are each read ahead, by two reads.
 #[test]
 fn cases_of_machines(rt: HostRuntime) {
     let alloc = rt.alloc();
-    for &(path, trouble, reads, asks) in ASKED {
-        let mut files = DiskFiles::new(Machine { trouble, reads }, alloc);
-        expect_all(&rt, &mut files, path, asks);
+    for &(path, trouble, calls, asks) in ASKED {
+        let mut files = DiskFiles::new(Machine::new(trouble, calls), alloc);
+        let no = opened(&rt, &mut files, path);
+        expect_answers(&rt, &mut files, no, asks);
     }
     for &(trouble, fault, failures) in UNOPENED {
-        let mut files = DiskFiles::new(Machine { trouble, reads: 0 }, alloc);
+        let mut files = DiskFiles::new(Machine::new(trouble, 0), alloc);
         expect_no_file(&rt, &mut files, "digits", fault);
         assert!(rt; files.failures() == failures);
     }
-    let machine = Machine {
-        trouble: Trouble::Nothing,
-        reads: 2,
-    };
-    read_in_turn(&rt, &mut DiskFiles::new(machine, alloc));
+    let mut files = DiskFiles::new(Machine::new(Trouble::Nothing, 2), alloc);
+    let one = opened(&rt, &mut files, "one");
+    let other = opened(&rt, &mut files, "other");
+    expect_answer(&rt, &mut files, one, Reads(0, 4, b"0123"));
+    expect_answer(&rt, &mut files, other, Reads(0, 4, b"0123"));
+    expect_answer(&rt, &mut files, one, Reads(4, 4, b"4567"));
+    expect_answer(&rt, &mut files, other, Reads(4, 4, b"4567"));
+    expect_answer(&rt, &mut files, one, Reads(8, 4, b"89"));
+    expect_answer(&rt, &mut files, other, Reads(8, 4, b"89"));
+    assert!(rt; files.failures() == 0);
 }
 
 const REAL_PATH: &str = "cord_calls_digits";
@@ -306,18 +313,11 @@ const REMOVED: &[Ask] = &[
 ];
 
 // Opens a real file, which is removed before it is read. Directories and bad paths are no files.
-fn read_removed<R: rt::Files + AllocGlobal + Abort + Clone>(rt: &R)
-where
-    R::File: FileExt,
-{
-    fs::write(rt, REAL_PATH, DIGITS.as_slice()).expect(rt, "not written");
-    let mut files = DiskFiles::new(rt.clone().expect(rt, "no runtime"), rt.alloc());
-    let no = opened(rt, &mut files, REAL_PATH);
-    fs::remove_file(rt, REAL_PATH).expect(rt, "not removed");
-    expect_answers(rt, &mut files, no, REMOVED);
-}
-
 #[test]
 fn real_files(rt: HostRuntime) {
-    read_removed(&rt);
+    fs::write(&rt, REAL_PATH, DIGITS.as_slice()).expect(&rt, "not written");
+    let mut files = DiskFiles::new(rt.clone().expect(&rt, "no runtime"), rt.alloc());
+    let no = opened(&rt, &mut files, REAL_PATH);
+    fs::remove_file(&rt, REAL_PATH).expect(&rt, "not removed");
+    expect_answers(&rt, &mut files, no, REMOVED);
 }

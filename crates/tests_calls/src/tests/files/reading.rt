@@ -7,7 +7,7 @@ use super::super::trees::{Shape, pattern};
 use super::Ask::{self, Eager, Failures, Put};
 use super::{answered, expect_open, one_file, table};
 use cord_core::Cord;
-use cord_file::{FileError, Sources};
+use cord_file::Sources;
 use cord_io::{Files, FuseFiles, MemFiles, MemSink, Source, SourceId};
 use cord_iter::put;
 use cord_pos::Position;
@@ -19,15 +19,19 @@ type Range = (&'static str, u64, u64);
 
 // Puts bytes of the file at a path, which is opened but not read before.
 pub(super) fn put_part<F: Files>(
+    rt: &impl Abort,
     alloc: Global,
     sources: &mut Sources<F>,
     (path, start, count): Range,
     sink: &mut MemSink,
-) -> Result<(), FileError> {
-    let cord = sources.lazy(alloc, path)?;
-    let part = cord.substr(alloc, start, count)?;
-    put(&part, sources, sink)?;
-    Ok(())
+) {
+    let Ok(cord) = sources.lazy(alloc, path) else {
+        panic!(rt; "no cord");
+    };
+    let Ok(part) = cord.substr(alloc, start, count) else {
+        panic!(rt; "no memory");
+    };
+    assert!(rt; put(&part, sources, sink) == Ok(()));
 }
 
 // All of a file of 10,000 bytes, in 20 blocks of which no two are alike.
@@ -35,9 +39,9 @@ const LONG: Range = ("f", 0, 10_000);
 
 // A file of 20,000 bytes is read into one leaf between two walks over the long file.
 const EAGER_BETWEEN: &[Ask] = &[
-    Put(LONG, Ok(())),
+    Put(LONG),
     Eager("g", Shape::Leaf(&[103; 20_000], 0, 20_000)),
-    Put(LONG, Ok(())),
+    Put(LONG),
     Failures(0),
 ];
 

@@ -4,6 +4,6 @@ use Rattle.tests_calls.proofs.tests.files.reading.put_part.Goals as goal
 
 pub put-requires : goal.put-requires
 put-requires g c = record {
-  fits = c.in_ok-part.ensures.over.fits
-      (lengths_in (opened_in c.lazy.new.self)) c.in_ok-cord.ensures.cord.func.fits;
+  fits = c.in-Ok-substr.ensures.over.fits
+      (lengths_in (opened_in c.lazy.new.self)) c.in-Ok.ensures.cord.func.fits;
 }
