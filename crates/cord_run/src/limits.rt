@@ -4,7 +4,7 @@ ghost use Rattle.cord_file.specs.declared.TheConstants.{MAX_FILES};
 ghost use Rattle.cord_script.specs.declared.TheConstants.{MAX_PATHS};
 ghost use Rattle.cord_script.specs.Forms.{Grammar};
 ghost use Rattle.cord_script.specs.Script.{ReadsBy, after_all, start};
-ghost use Rattle.cord_run.specs.inner.{Statement};
+ghost use Rattle.cord_syntax.specs.declared.statements.Statement.{Statement};
 
 /// A script that is read has no more paths than a run opens, so that a run never has too many files.
 pub fn runs_have_few_files()

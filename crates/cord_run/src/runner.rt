@@ -4,15 +4,18 @@ mod known_lengths;
 mod steps;
 
 ghost use Rattle.std.specs.Prelude.{◌≡◌, ◌≢◌, ◌<◌, ◌-◌, ◌^◌, IfOk, IfErr, OnErr, List, ℕ, map};
+ghost use Rattle.cord_file.specs.Sources.{device_in};
+ghost use Rattle.cord_io.specs.Device.{FileSystem};
 ghost use Rattle.cord_meaning.specs.Ends.{EndsFaithfully, FailsWhere, NamesCause, NamesDevice};
 ghost use Rattle.cord_plan.specs.Meaning.{IsPlanOf};
+ghost use Rattle.cord_plan.specs.Views.{operation_view};
 ghost use Rattle.cord_run.specs.Failing.{FailsNowhereElse, NamesFinish};
 ghost use Rattle.cord_run.specs.Runs.{IsPlanBy, NothingCalled, Runs, ReportsRun, Way, counts_over};
 ghost use Rattle.cord_script.specs.FirstErrors.{FirstError};
 ghost use Rattle.cord_script.specs.Forms.{Grammar};
 ghost use Rattle.cord_script.specs.Script.{Reads, ReadsBy};
-ghost use Rattle.cord_run.specs.inner.{device_in, FileSystem, operation_view, FailsAmong, FaithfulPlan, Statement};
-ghost use Rattle.cord_run.specs.inner.{NoMoreConsistent};
+ghost use Rattle.cord_syntax.specs.declared.statements.Statement.{Statement};
+ghost use Rattle.cord_run.specs.inner.{FailsAmong, FaithfulPlan, NoMoreConsistent};
 
 use crate::runner::ends::{close_output, end_of_run};
 use crate::runner::steps::run_plan;
