@@ -1,33 +1,24 @@
 -- Comparisons by pieces: the first difference decides, and else the lengths.
-use Rattle.std.proofs.Common.{◌==◌, Bool, true, false, to_z, of_z, w8, ◌≡◌, ℕ, ◌+◌, ◌-◌, ◌<◌, ◌≤◌, zero, suc, List, [], ◌∷◌}
-use Rattle.std.proofs.Common.{◌++◌, length, take, drop, None, Some, refl, sym, ◌∙◌, ap, arith, length-drop}
-use Rattle.std.specs.Prelude.{Option, min, ℤ, pos, negsuc, nat_lt, if◌then◌else◌, cond}
-use Rattle.std.specs.Ordering.{nat_cmp, ordering_then, MatchOrdering}
-use Rattle.std.specs.Cmp.{ranked, nat_cmp_is}
-use Rattle.std.specs.Cmp.Lexicographic.{slice_cmp}
-use Rattle.std.specs.declared.cmp.Ordering.{Ordering}
-use Rattle.std.specs.declared.cmp.Ordering.TheVariants.{Less, Equal, Greater}
-use Rattle.std.proofs.lemmas.Bool.{ltb-false, eqb-true, eqb-false}
+use Rattle.cord_search.proofs.Common.{AreSame, Bool, CordFits, Equal, Greater, IsCord, IsOrderOf, IsPieceOf, IsSpanOf, Less, List, Node}
+use Rattle.cord_search.proofs.Common.{None, Option, Ordering, Some, Span, Table, [], ap, arith, bytes_of, cond, drop, drop-drop, eqb-true}
+use Rattle.cord_search.proofs.Common.{false, if◌then◌else◌, length, length-drop, length-take-le, min, nat_cmp, range_of_range, refl}
+use Rattle.cord_search.proofs.Common.{slice_cmp, span_bytes, span_len, suc, sym, take, take-append-drop, take-take, take_all, text_len}
+use Rattle.cord_search.proofs.Common.{tied_itself, true, w8, zero, ℕ, ◌++◌, ◌+◌, ◌-◌, ◌<◌, ◌∙◌, ◌∷◌, ◌≡◌, ◌≤◌}
+use Rattle.std.proofs.Common.{◌==◌, to_z, of_z}
+use Rattle.std.specs.Prelude.{ℤ, pos, negsuc, nat_lt}
+use Rattle.std.specs.Ordering.{ordering_then, MatchOrdering}
+use Rattle.std.specs.Cmp.{ranked, nat_cmp_is, nat_cmp_total}
+use Rattle.std.proofs.lemmas.Bool.{ltb-false, eqb-false}
 use borrow.Author.Tests.{ltb-true}
-use Rattle.std.proofs.lemmas.List.{take_all, take-append-drop, take-take, drop-drop, length-take-le}
-use Rattle.cord_io.specs.Table.{Table}
-use Rattle.cord_node.specs.declared.Node.{Node}
 use Rattle.cord_io.specs.declared.TheConstants.{MAX_LEN}
 use Rattle.cord_node.proofs.TreeLemmas.{len_limit}
 use Rattle.cord_core.proofs.CordLemmas.{range_min}
-use Rattle.cord_core.specs.Cord.{text_len, bytes_of, IsCord, CordFits}
 use Rattle.cord_core.specs.Texts.{order}
-use Rattle.cord_node.proofs.Ranges.{range_of_range}
-use Rattle.cord_pos.specs.Spans.{span_len, span_bytes, IsSpanOf}
-use Rattle.cord_pos.specs.declared.span.Span.{Span}
-use Rattle.cord_search.specs.inner.Pieces.{IsPieceOf, AreSame, IsOrderOf, sign_of}
+use Rattle.cord_search.specs.inner.Pieces.{sign_of}
 use Rattle.cord_search.specs.inner.Spans.{IsOrderOfSpans}
 use Rattle.cord_search.proofs.Ranges.{take_on}
 
--- a byte against itself
-same_byte : (b : ℕ) → nat_cmp b b ≡ Equal
-same_byte b = sym (nat_cmp_is b b Equal refl)
-
+-- the next numbers have the same order
 nat_cmp_suc : (a b : ℕ) → nat_cmp a b ≡ nat_cmp (suc a) (suc b)
 nat_cmp_suc a b = nat_cmp_is (suc a) (suc b) (nat_cmp a b) (up (nat_cmp a b) (ranked a b (nat_cmp a b) refl))
   where
@@ -39,7 +30,7 @@ nat_cmp_suc a b = nat_cmp_is (suc a) (suc b) (nat_cmp a b) (up (nat_cmp a b) (ra
 -- the same bytes in front
 cmp_prefix : (f u v : List ℕ) → slice_cmp nat_cmp (f ++ u) (f ++ v) ≡ slice_cmp nat_cmp u v
 cmp_prefix [] u v = refl
-cmp_prefix (b ∷ f) u v = ap (λ (r : Ordering). ordering_then r (slice_cmp nat_cmp (f ++ u) (f ++ v))) (same_byte b) ∙ cmp_prefix f u v
+cmp_prefix (b ∷ f) u v = ap (λ (r : Ordering). ordering_then r (slice_cmp nat_cmp (f ++ u) (f ++ v))) (tied_itself nat_cmp_total b) ∙ cmp_prefix f u v
 
 -- the order of two texts is that of what comes after a prefix that both have
 pub cmp_after : (xs ys : List ℕ) (n : ℕ) → take n xs ≡ take n ys →
@@ -68,24 +59,6 @@ cmp_decided (b ∷ u) (c ∷ v) u' v' r e h not = pick (nat_cmp b c) h
     pick Equal h ih = ih h
     pick Greater h ih = h
 
--- a text against itself
-pub cmp_same : (u : List ℕ) → slice_cmp nat_cmp u u ≡ Equal
-cmp_same [] = refl
-cmp_same (b ∷ u) = ap (λ (r : Ordering). ordering_then r (slice_cmp nat_cmp u u)) (same_byte b) ∙ cmp_same u
-
--- no difference
-pub cmp_equal : (u v : List ℕ) → slice_cmp nat_cmp u v ≡ Equal → u ≡ v
-cmp_equal [] [] h = refl
-cmp_equal [] (c ∷ v) h = cc
-cmp_equal (b ∷ u) [] h = cc
-cmp_equal (b ∷ u) (c ∷ v) h = pick (nat_cmp b c) refl h (λ (k : slice_cmp nat_cmp u v ≡ Equal). cmp_equal u v k)
-  where
-    pick : (s : Ordering) → s ≡ nat_cmp b c → ordering_then s (slice_cmp nat_cmp u v) ≡ Equal → (slice_cmp nat_cmp u v ≡ Equal → u ≡ v) →
-        b ∷ u ≡ c ∷ v
-    pick Less is h ih = cc
-    pick Equal is h ih = let one : b ≡ c = ranked b c Equal is in let two : u ≡ v = ih h in cc (one, two)
-    pick Greater is h ih = cc
-
 -- one text is a prefix of the other: their lengths decide
 cmp_lengths : (xs ys : List ℕ) (m : ℕ) → min (length xs) (length ys) ≤ m → take m xs ≡ take m ys →
     nat_cmp (length xs) (length ys) ≡ slice_cmp nat_cmp xs ys
@@ -97,7 +70,7 @@ cmp_lengths (b ∷ xs) (c ∷ ys) (suc m) h e =
     let one : b ≡ c = cc e in
     let two : take m xs ≡ take m ys = cc e in
     sym (nat_cmp_suc (length xs) (length ys)) ∙ cmp_lengths xs ys m (omega arith) two
-    ∙ sym (ap (λ (r : Ordering). ordering_then r (slice_cmp nat_cmp xs ys)) (ap (λ (k : ℕ). nat_cmp k c) one ∙ same_byte c))
+    ∙ sym (ap (λ (r : Ordering). ordering_then r (slice_cmp nat_cmp xs ys)) (ap (λ (k : ℕ). nat_cmp k c) one ∙ tied_itself nat_cmp_total c))
 
 -- the prefix of a piece, as a range of what is compared
 pub piece_prefix : (x piece : List ℕ) (i done n : ℕ) → piece ≡ take (length piece) (drop (i + done) x) → n ≤ length piece →
@@ -197,15 +170,18 @@ signed Less = refl
 signed Equal = refl
 signed Greater = refl
 
+-- what an order of two texts tells as a number, where they are those
+sign_order : (u v xs ys : List ℕ) (r : Ordering) (s : ℤ) → u ≡ xs → v ≡ ys → s ≡ sign_of r → r ≡ slice_cmp nat_cmp u v →
+    to_z w8 (of_z w8 s) ≡ order xs ys
+sign_order u v xs ys r s left right f h = ap (λ (z : ℤ). to_z w8 (of_z w8 z)) f ∙ signed r ∙ ap sign_of h ∙ order_sign u v
+    ∙ ap (λ (zs : List ℕ). order zs v) left ∙ ap (λ (zs : List ℕ). order xs zs) right
+
 -- the order of two cords
 pub sign_whole : (t : Table) (x y : Option Node) (a b : ℕ) (r : Ordering) (s : ℤ) → length (bytes_of t x) ≡ text_len x →
     length (bytes_of t y) ≡ text_len y → a ≡ text_len x → b ≡ text_len y → s ≡ sign_of r → IsOrderOf t x 0 a y 0 b r →
     to_z w8 (of_z w8 s) ≡ order (bytes_of t x) (bytes_of t y)
-sign_whole t x y a b r s p q d e f h =
-    let left : take a (bytes_of t x) ≡ bytes_of t x = take_all a (bytes_of t x) (omega (arith, p, d)) in
-    let right : take b (bytes_of t y) ≡ bytes_of t y = take_all b (bytes_of t y) (omega (arith, q, e)) in
-    ap (λ (z : ℤ). to_z w8 (of_z w8 z)) f ∙ signed r ∙ ap sign_of h ∙ order_sign (take a (bytes_of t x)) (take b (bytes_of t y))
-    ∙ ap (λ (zs : List ℕ). order zs (take b (bytes_of t y))) left ∙ ap (λ (zs : List ℕ). order (bytes_of t x) zs) right
+sign_whole t x y a b r s p q d e f h = sign_order (take a (bytes_of t x)) (take b (bytes_of t y)) (bytes_of t x) (bytes_of t y) r s
+    (take_all a (bytes_of t x) (omega (arith, p, d))) (take_all b (bytes_of t y) (omega (arith, q, e))) f h
 
 -- the order of two ranges
 pub sign_ranges : (t : Table) (x : Option Node) (i : ℕ) (y : Option Node) (j k a b : ℕ) (r : Ordering) (s : ℤ) →
@@ -215,10 +191,9 @@ pub sign_ranges : (t : Table) (x : Option Node) (i : ℕ) (y : Option Node) (j k
 sign_ranges t x i y j k a b r s p q d e f h =
     let u = drop i (bytes_of t x) in
     let v = drop j (bytes_of t y) in
-    let left : take a u ≡ take k u = ap (λ (m : ℕ). take m u) d ∙ range_min (bytes_of t x) i k (text_len x) p in
-    let right : take b v ≡ take k v = ap (λ (m : ℕ). take m v) e ∙ range_min (bytes_of t y) j k (text_len y) q in
-    ap (λ (z : ℤ). to_z w8 (of_z w8 z)) f ∙ signed r ∙ ap sign_of h ∙ order_sign (take a u) (take b v)
-    ∙ ap (λ (zs : List ℕ). order zs (take b v)) left ∙ ap (λ (zs : List ℕ). order (take k u) zs) right
+    sign_order (take a u) (take b v) (take k u) (take k v) r s
+    (ap (λ (m : ℕ). take m u) d ∙ range_min (bytes_of t x) i k (text_len x) p)
+    (ap (λ (m : ℕ). take m v) e ∙ range_min (bytes_of t y) j k (text_len y) q) f h
 
 -- no cord is longer than the limit
 pub cord_limit : (c : Option Node) → IsCord c → text_len c ≤ MAX_LEN

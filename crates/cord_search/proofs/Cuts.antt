@@ -1,17 +1,13 @@
 -- Places of a text in the first bytes of another.
-use Rattle.std.proofs.Common.{◌≡◌, ℕ, ◌+◌, ◌-◌, ◌<◌, ◌≤◌, List, ◌++◌, length, take, drop, None, Some, sym, ◌∙◌, ap, subst, arith, ⊎_elim}
-use Rattle.std.proofs.Common.{append_assoc}
-use Rattle.std.specs.Prelude.{Option, Result, IfOk, IfSome, min}
-use Rattle.std.proofs.lemmas.Bool.{cases_lt}
-use Rattle.std.proofs.lemmas.List.{length-take, take-append-drop, drop-take, drop-append-le, take_all, take_min}
-use Rattle.cord_io.specs.Table.{Table}
-use Rattle.cord_node.specs.declared.Node.{Node}
+use Rattle.cord_search.proofs.Common.{CordFitsIn, Ghosts, IfOk, IfSome, IsAnswer, IsCord, IsPieceOf, IsReadable, List, Node, None, Ok}
+use Rattle.cord_search.proofs.Common.{Option, OverTables, Result, Some, StandsAt, StandsNot, Table, WasRead, ap, append_assoc, arith}
+use Rattle.cord_search.proofs.Common.{bytes_of, cases_lt, drop, first, length, length-take, min, subst, sym, take, take-append-drop}
+use Rattle.cord_search.proofs.Common.{take_all, take_min, text_len, ℕ, ⊎_elim, ◌++◌, ◌+◌, ◌-◌, ◌<◌, ◌∙◌, ◌≡◌, ◌≤◌}
+use Rattle.std.proofs.lemmas.List.{drop-take, drop-append-le}
 use Rattle.cord_node.proofs.Ranges.{take-append_right}
-use Rattle.cord_core.specs.Cord.{text_len, bytes_of}
-use Rattle.cord_core.specs.Texts.{StandsAt, first, IsFirst}
-use Rattle.cord_core.proofs.Searches.{first_is_least}
-use Rattle.cord_search.specs.inner.Pieces.{IsPieceOf, StandsNot}
-use Rattle.cord_search.proofs.Finding.{first_only}
+use Rattle.cord_search.specs.inner.Searches.{FindsBytesIn, FindsText}
+use Rattle.cord_search.proofs.Reading.{ReportsLengths, read_once, answered, len_over}
+use Rattle.cord_search.proofs.Finding.{first_is, first_only}
 use Rattle.cord_search.proofs.Standing.{stands_inside, prefix_stands}
 
 -- as many bytes as there are
@@ -48,15 +44,14 @@ module _ (xs s : List ℕ) (e : ℕ) where
     -- the first place in all is that in the first bytes, if the text ends there
     pub first_within : (q : ℕ) → q + length s ≤ e → Some q ≡ first xs i s → Some q ≡ first (take e xs) i s
     first_within q fits is =
-        let least : IsFirst xs i s (Some q) = subst (λ (r : Option ℕ). IsFirst xs i s r) (sym is) (first_is_least xs s i) in
+        let least = first_is xs s i (Some q) is in
         first_only (take e xs) s i (Some q)
         (least.0, stands_cut q fits least.1, λ k low to at. least.2 k low to (stands_whole k at))
 
     -- and the other way round
     pub first_whole : (q : ℕ) → Some q ≡ first (take e xs) i s → Some q ≡ first xs i s
     first_whole q is =
-        let least : IsFirst (take e xs) i s (Some q) =
-        subst (λ (r : Option ℕ). IsFirst (take e xs) i s r) (sym is) (first_is_least (take e xs) s i) in
+        let least = first_is (take e xs) s i (Some q) is in
         first_only xs s i (Some q) (
           least.0,
           stands_whole q least.1,
@@ -66,15 +61,13 @@ module _ (xs s : List ℕ) (e : ℕ) where
     -- it stands there
     pub first_stands : (q : ℕ) → Some q ≡ first (take e xs) i s → (i ≤ q) × (q + length s ≤ e) × StandsAt xs s q
     first_stands q is =
-        let least : IsFirst (take e xs) i s (Some q) =
-        subst (λ (r : Option ℕ). IsFirst (take e xs) i s r) (sym is) (first_is_least (take e xs) s i) in
+        let least = first_is (take e xs) s i (Some q) is in
         (least.0, stands_before q least.1, stands_whole q least.1)
 
     -- nothing is found where the text stands nowhere
     pub first_nowhere : None ≡ first (take e xs) i s → (q : ℕ) → i ≤ q → q + length s ≤ e → StandsAt xs s q → ⊥
     first_nowhere is q low fits at =
-        let least : IsFirst (take e xs) i s None =
-        subst (λ (r : Option ℕ). IsFirst (take e xs) i s r) (sym is) (first_is_least (take e xs) s i) in
+        let least = first_is (take e xs) s i None is in
         least q low (stands_cut q fits at)
 
 -- the first bytes, where they are all
@@ -95,11 +88,51 @@ pub prefix_none : (t : Table) (x s : Option Node) (start place e : ℕ) (head : 
     IsPieceOf t s 0 head → StandsNot t x (bytes_of t s) start place → None ≡ first (take e (bytes_of t x)) start (bytes_of t s)
 prefix_none t x s start place e head is f none =
     let xs = bytes_of t x in
-    let least : IsFirst (take e xs) place head None =
-    subst (λ (r : Option ℕ). IsFirst (take e xs) place head r) (sym is) (first_is_least (take e xs) head place) in
+    let least = first_is (take e xs) head place None is in
     first_only (take e xs) (bytes_of t s) start None (λ k low at.
     ⊎_elim (λ (lt : k < place). none k low lt (stands_whole xs (bytes_of t s) e k at))
     (λ (le : place ≤ k). least k le (prefix_stands (take e xs) (bytes_of t s) head k f at)) (cases_lt k place))
+
+module _ {S E : Type 0} {s : Ghosts S} {a b : S} (x : Option Node) (xs : List ℕ) (end start place : ℕ) where
+  -- where bytes stand first, if they end in the first bytes
+  pub found_in : WasRead s a b → start ≤ place → place + length xs ≤ end →
+      OverTables s a b (λ t. Some place ≡ first (bytes_of t x) start xs) → FindsBytesIn {E = E} s a b x start end xs (Ok (Some place))
+  found_in v low fits found = answered v (record { from = low; within = fits })
+      (λ file_system agrees. first_within (bytes_of (s.table a file_system) x) xs end start place fits (found file_system agrees))
+
+  -- or they stand nowhere up to a place past them
+  pub nowhere_in : WasRead s a b → end < place + length xs → OverTables s a b (λ t. StandsNot t x xs start place) →
+      FindsBytesIn {E = E} s a b x start end xs (Ok None)
+  nowhere_in v past none = answered v (record { from = tt; within = tt })
+      (λ file_system agrees. none_within (s.table a file_system) x xs start place end past (none file_system agrees))
+
+-- the same of the text of another cord
+module _ {S E : Type 0} {s : Ghosts S} {a b : S} (x text : Option Node) (end start place : ℕ) (v : WasRead s a b)
+    (reported : ReportsLengths s) (readable : IsReadable (s.lengths a) text) where
+  pub found_text : start ≤ place → place + text_len text ≤ end →
+      OverTables s a b (λ t. Some place ≡ first (bytes_of t x) start (bytes_of t text)) →
+      FindsText {E = E} s a b x start end text (Ok (Some place))
+  found_text low fits found = answered v (record { from = low; within = fits }) (λ file_system agrees.
+      let t = s.table a file_system in
+      let len = len_over text v reported readable.sound readable.fits file_system agrees in
+      first_within (bytes_of t x) (bytes_of t text) end start place (omega (arith, len, fits)) (found file_system agrees))
+
+  pub nowhere_text : end < place + text_len text → OverTables s a b (λ t. StandsNot t x (bytes_of t text) start place) →
+      FindsText {E = E} s a b x start end text (Ok None)
+  nowhere_text past none = answered v (record { from = tt; within = tt }) (λ file_system agrees.
+      let t = s.table a file_system in
+      let len = len_over text v reported readable.sound readable.fits file_system agrees in
+      none_within t x (bytes_of t text) start place end (omega (arith, len, past)) (none file_system agrees))
+
+-- what was found in as many of the first bytes as there are
+pub cut_found : {S E : Type 0} {s : Ghosts S} {a b : S} {Q : Option ℕ → Type 0} (x : Option Node) (text : Table → List ℕ)
+    (end n e start : ℕ) (r : Option ℕ) → ReportsLengths s → IsCord x → CordFitsIn (s.lengths a) x → n ≡ text_len x → e ≡ min end n →
+    IsAnswer {E = E} s a b (Ok r) Q (λ t found. found ≡ first (take e (bytes_of t x)) start (text t)) →
+    OverTables s a b (λ t. r ≡ first (take end (bytes_of t x)) start (text t))
+cut_found {s = s} {a = a} x text end n e start r reported sound fits is cut h = λ file_system agrees.
+    let t = s.table a file_system in
+    h.text file_system agrees ∙ ap (λ (ys : List ℕ). first ys start (text t))
+    (take_limit t x end n e (len_over x (read_once h.read) reported sound fits file_system agrees) is cut)
 
 -- what ends before a place ends before a later one
 pub ends_within : (r : Option ℕ) (n a b : ℕ) → a ≤ b → IfSome r (λ place. place + n ≤ a) → IfSome r (λ place. place + n ≤ b)

@@ -1,29 +1,34 @@
 -- Places of a byte: those in a piece are those in the text.
-use Rattle.std.proofs.Common.{◌≡◌, ◌≢◌, ℕ, ◌+◌, ◌-◌, ◌<◌, ◌≤◌, List, [], ◌∷◌, length, take, drop, get_or, None, Some, refl, sym, ◌∙◌, ap}
-use Rattle.std.proofs.Common.{arith, ⊎_elim, eq-eqb, length-drop}
-use Rattle.std.specs.Prelude.{Option, slice_get}
-use Rattle.std.proofs.lemmas.Bool.{cases_lt, eqb-true}
-use Rattle.std.proofs.lemmas.List.{get_or-take, get_or-drop, length-take, length-take-le}
-use Rattle.std.proofs.lemmas.Option.{slice_get_within, get_or_from_slice_get, slice_get-get_or}
-use Rattle.memchr.specs.Find.{Nowhere, NoneBefore, NoneAfter, Passes, IsFirstByte, IsLastByte, is_byte}
-use Rattle.cord_io.specs.Table.{Table, Lengths, HasLengths}
-use Rattle.cord_node.specs.declared.Node.{Node}
-use Rattle.cord_core.specs.Cord.{text_len, bytes_of, IsCord, CordFitsIn, CordFits}
-use Rattle.cord_core.proofs.OverLemmas.{length-bytes, CordFits-reported}
-use Rattle.cord_core.specs.Texts.{StandsAt, first, IsFirst, last, IsLast}
+use Rattle.cord_search.proofs.Common.{CordFits, CordFitsIn, Ghosts, HasNot, IsCord, IsFirst, IsPieceOf, IsSpanOf, IsSpanUpTo, List, Node}
+use Rattle.cord_search.proofs.Common.{None, NoneBefore, Nowhere, Ok, Option, OverTables, Some, Span, StandsAt, StandsNot, Table, WasRead}
+use Rattle.cord_search.proofs.Common.{[], ap, arith, bytes_of, cases_lt, drop, eq-eqb, eqb-true, first, first_is_least, get_or, get_or-drop}
+use Rattle.cord_search.proofs.Common.{get_or-take, length, length-bytes, length-drop, length-take, length-take-le, refl, slice_get}
+use Rattle.cord_search.proofs.Common.{span_bytes, span_len, subst, sym, take, text_len, ℕ, ⊎_elim, ◌+◌, ◌-◌, ◌<◌, ◌∙◌, ◌∷◌, ◌≡◌, ◌≢◌, ◌≤◌}
+use Rattle.std.proofs.lemmas.Option.{same_Some, slice_get_within, get_or_from_slice_get, slice_get-get_or}
+use Rattle.memchr.specs.Find.{NoneAfter, Passes, IsFirstByte, IsLastByte, is_byte}
+use Rattle.cord_core.specs.Texts.{last, IsLast}
 use Rattle.cord_core.proofs.Places.{at_here, some_here}
-use Rattle.cord_core.proofs.Searches.{first_is_least, last_is_greatest}
-use Rattle.cord_search.specs.inner.Pieces.{IsPieceOf, StandsNot, HasNot}
-use Rattle.cord_pos.specs.Spans.{span_len, span_bytes, IsSpanOf}
-use Rattle.cord_search.specs.inner.Spans.{IsWithout}
-use Rattle.cord_pos.specs.declared.span.Span.{Span}
+use Rattle.cord_core.proofs.Searches.{last_is_greatest}
+use Rattle.cord_search.specs.inner.Spans.{IsRunWithout}
+use Rattle.cord_search.specs.inner.Searches.{FindsByte, FindsLast}
+use Rattle.cord_search.proofs.Reading.{ReportsLengths, fits_over, answered}
+
+-- what holds nowhere before a place and nowhere after it holds nowhere
+pub nowhere_on : (P : ℕ → Type 0) (i j k : ℕ) → Nowhere P i j → Nowhere P j k → Nowhere P i k
+nowhere_on P i j k before after = λ q low to there. ⊎_elim (λ (lt : q < j). before q low lt there) (λ (le : j ≤ q). after q le to there)
+    (cases_lt q j)
+
+-- of two places neither is before the other
+one_place : (p q : ℕ) → (p < q → ⊥) → (q < p → ⊥) → Some p ≡ Some q
+one_place p q low high = let same : p ≡ q = omega arith in ap (λ (n : ℕ). Some n) same
+
+-- what is found is the least place
+pub first_is : (x s : List ℕ) (i : ℕ) (r : Option ℕ) → r ≡ first x i s → IsFirst x i s r
+first_is x s i r is = subst (λ (o : Option ℕ). IsFirst x i s o) (sym is) (first_is_least x s i)
 
 -- there is one first place
 same_first : (x s : List ℕ) (i : ℕ) (a b : Option ℕ) → IsFirst x i s a → IsFirst x i s b → a ≡ b
-same_first x s i (Some p) (Some q) (a, at, la) (b, bt, lb) =
-    ⊎_elim (λ (lt : p < q). absurd (lb p a lt at))
-    (λ (le : q ≤ p). ⊎_elim (λ (lt : q < p). absurd (la q b lt bt)) (λ (ge : p ≤ q). let e : p ≡ q = omega arith in
-    ap (λ (n : ℕ). Some n) e) (cases_lt q p)) (cases_lt p q)
+same_first x s i (Some p) (Some q) (a, at, la) (b, bt, lb) = one_place p q (λ lt. lb p a lt at) (λ lt. la q b lt bt)
 same_first x s i (Some p) None (a, at, la) h = absurd (h p a at)
 same_first x s i None (Some q) h (b, bt, lb) = absurd (h q b bt)
 same_first x s i None None h k = refl
@@ -33,10 +38,7 @@ first_only x s i a h = same_first x s i a (first x i s) h (first_is_least x s i)
 
 -- and one last place
 same_last : (x : List ℕ) (i c : ℕ) (a b : Option ℕ) → IsLast x i c a → IsLast x i c b → a ≡ b
-same_last x i c (Some p) (Some q) (a, at, la) (b, bt, lb) =
-    ⊎_elim (λ (lt : p < q). absurd (la q lt b bt))
-    (λ (le : q ≤ p). ⊎_elim (λ (lt : q < p). absurd (lb p lt a at)) (λ (ge : p ≤ q). let e : p ≡ q = omega arith in
-    ap (λ (n : ℕ). Some n) e) (cases_lt q p)) (cases_lt p q)
+same_last x i c (Some p) (Some q) (a, at, la) (b, bt, lb) = one_place p q (λ lt. la q lt b bt) (λ lt. lb p lt a at)
 same_last x i c (Some p) None (a, at, la) h = absurd (h p a at)
 same_last x i c None (Some q) h (b, bt, lb) = absurd (h q b bt)
 same_last x i c None None h k = refl
@@ -51,11 +53,8 @@ byte_there x c q at = at_here x q c at.rest at.here
 byte_here : (x : List ℕ) (c q : ℕ) → slice_get x q ≡ Some c → StandsAt x (c ∷ []) q
 byte_here x c q e =
     let w = some_here x q (slice_get_within x q c e) in
-    let same : w.0 ≡ c = some_is (sym (at_here x q w.0 w.1 w.2) ∙ e) in
+    let same : w.0 ≡ c = same_Some w.0 c (sym (at_here x q w.0 w.1 w.2) ∙ e) in
     record { within = omega (arith, slice_get_within x q c e); rest = w.1; here = w.2 ∙ ap (λ (b : ℕ). b ∷ w.1) same }
-  where
-    some_is : {a b : ℕ} → Some a ≡ Some b → a ≡ b
-    some_is h = cc
 
 -- the byte at a place of a range
 pub range_at : (x xs : List ℕ) (p k : ℕ) → xs ≡ take (length xs) (drop p x) → k < length xs → get_or xs k 0 ≡ get_or x (p + k) 0
@@ -89,59 +88,6 @@ found x xs c p k e lt h =
     let inside : p + length xs ≤ length x = range_inside x xs p e (omega arith) in
     slice_get-get_or x (p + k) 0 (omega arith) ∙ ap (λ (b : ℕ). Some b) (sym (range_at x xs p k e lt) ∙ eqb-true (get_or xs k 0) c h)
 
--- a search by pieces goes on
-pub first_on : (t : Table) (x : Option Node) (xs : List ℕ) (c from p : ℕ) (r : Option ℕ) → r ≡ None → IsFirstByte (is_byte c) xs r →
-    IsPieceOf t x p xs → StandsNot t x (c ∷ []) from p → StandsNot t x (c ∷ []) from (p + length xs)
-first_on t x xs c from p r is h e none =
-    let nowhere : Nowhere (Passes (is_byte c) xs) 0 (length xs) = rw is at h in
-    let text = bytes_of t x in
-    λ q low to at. ⊎_elim (λ (lt : q < p). none q low lt at) (λ (le : p ≤ q).
-    nowhere (q - p) (omega arith) (omega arith) (passes text xs c p q e le to (byte_there text c q at))) (cases_lt q p)
-
--- and ends where the byte is found
-pub first_found : (t : Table) (x : Option Node) (xs : List ℕ) (c from p k : ℕ) (r : Option ℕ) → r ≡ Some k → IsFirstByte (is_byte c) xs r →
-    from ≤ p → IsPieceOf t x p xs → StandsNot t x (c ∷ []) from p → Some (p + k) ≡ first (bytes_of t x) from (c ∷ [])
-first_found t x xs c from p k r is h low e none =
-    let text = bytes_of t x in
-    let here : NoneBefore (Passes (is_byte c) xs) 0 (length xs) k × Passes (is_byte c) xs k = rw is at h in
-    let before : (q : ℕ) → from ≤ q → q < p + k → StandsAt text (c ∷ []) q → ⊥ =
-    λ q low' to at. ⊎_elim (λ (lt : q < p). none q low' lt at) (λ (le : p ≤ q). let below : k < length xs = here.0.high in
-    here.0.before (q - p) (omega arith) (omega arith) (passes text xs c p q e le (omega arith) (byte_there text c q at)))
-    (cases_lt q p) in
-    first_only text (c ∷ []) from (Some (p + k)) (omega arith, byte_here text c (p + k) (found text xs c p k e here.0.high here.1), before)
-
--- or at the end of the text
-pub first_none : (t : Table) (x : Option Node) (c from p : ℕ) → text_len x ≤ p → length (bytes_of t x) ≡ text_len x →
-    StandsNot t x (c ∷ []) from p → None ≡ first (bytes_of t x) from (c ∷ [])
-first_none t x c from p end len none =
-    let text = bytes_of t x in
-    first_only text (c ∷ []) from None (λ q low at. let inside : q < length text = slice_get_within text q c (byte_there text c q at) in
-    none q low (omega (arith, len, inside)) at)
-
--- the same from after
-pub last_on : (t : Table) (x : Option Node) (xs : List ℕ) (c at p end : ℕ) (r : Option ℕ) → r ≡ None → IsLastByte (is_byte c) xs r →
-    p + length xs ≡ end → IsPieceOf t x p xs → HasNot t x c end (at + 1) → HasNot t x c p (at + 1)
-last_on t x xs c at p end r is h seam e none =
-    let nowhere : Nowhere (Passes (is_byte c) xs) 0 (length xs) = rw is at h in
-    let text = bytes_of t x in
-    λ q low to here. ⊎_elim (λ (lt : q < end). nowhere (q - p) (omega arith) (omega arith) (passes text xs c p q e low (omega arith) here))
-    (λ (le : end ≤ q). none q le to here) (cases_lt q end)
-
-pub last_found : (t : Table) (x : Option Node) (xs : List ℕ) (c at p k end : ℕ) (r : Option ℕ) → r ≡ Some k → IsLastByte (is_byte c) xs r →
-    p + length xs ≡ end → end ≤ at + 1 → IsPieceOf t x p xs → HasNot t x c end (at + 1) → Some (p + k) ≡ last (bytes_of t x) at c
-last_found t x xs c at p k end r is h seam high e none =
-    let text = bytes_of t x in
-    let here : NoneAfter (Passes (is_byte c) xs) 0 (length xs) k × Passes (is_byte c) xs k = rw is at h in
-    let below : k < length xs = here.0.high in
-    let later : (q : ℕ) → p + k < q → q ≤ at → slice_get text q ≢ Some c =
-    λ q low to there.
-    ⊎_elim (λ (lt : q < end). here.0.after (q - p) (omega arith) (omega arith)
-    (passes text xs c p q e (omega arith) (omega arith) there)) (λ (le : end ≤ q). none q le (omega arith) there) (cases_lt q end) in
-    last_only text at c (Some (p + k)) (omega arith, found text xs c p k e below here.1, later)
-
-pub last_none : (t : Table) (x : Option Node) (c at end : ℕ) → end ≤ 0 → HasNot t x c end (at + 1) → None ≡ last (bytes_of t x) at c
-last_none t x c at end low none = last_only (bytes_of t x) at c None (λ q to there. none q (omega arith) (omega arith) there)
-
 -- a byte of the text is one of the span that holds its place
 in_span : (t : Table) (x : Option Node) (p : ℕ) (s : Span) (c q : ℕ) → CordFits t x → IsCord x → IsSpanOf x p s → p ≤ q →
     q < p + span_len s → slice_get (bytes_of t x) q ≡ Some c → slice_get (span_bytes t s) (q - p) ≡ Some c
@@ -158,16 +104,91 @@ in_span t x p s c q fits sound h from to there =
     ∙ ap (λ (b : ℕ). Some b) (range_at text xs p (q - p) range (omega (arith, long, from, to)) ∙ ap (λ (k : ℕ). get_or text k 0) m
     ∙ get_or_from_slice_get text q c 0 there)
 
--- a search goes on after a span that hasn't the byte
-pub first_past : (ls : Lengths) (t : Table) (x : Option Node) (s : Span) (c from p : ℕ) → HasLengths ls t → CordFitsIn ls x → IsCord x →
-    IsSpanOf x p s → IsWithout s c → StandsNot t x (c ∷ []) from p → StandsNot t x (c ∷ []) from (p + span_len s)
-first_past ls t x s c from p reported f sound h not none =
-    λ q low to at. ⊎_elim (λ (lt : q < p). none q low lt at) (λ (le : p ≤ q).
-    not t (q - p) (in_span t x p s c q (CordFits-reported ls t x reported f) sound h le to (byte_there (bytes_of t x) c q at))) (cases_lt q p)
+module _ {S : Type 0} {s : Ghosts S} {a b : S} (x : Option Node) (c from p : ℕ) (v : WasRead s a b) where
+  -- a search by pieces goes on
+  pub first_on : (xs : List ℕ) (r : Option ℕ) → r ≡ None → IsFirstByte (is_byte c) xs r → OverTables s a b (λ t. IsPieceOf t x p xs) →
+      OverTables s a b (λ t. StandsNot t x (c ∷ []) from p) → OverTables s a b (λ t. StandsNot t x (c ∷ []) from (p + length xs))
+  first_on xs r is h piece none = λ file_system agrees.
+      let nowhere : Nowhere (Passes (is_byte c) xs) 0 (length xs) = rw is at h in
+      let text = bytes_of (s.table a file_system) x in
+      λ q low to at. ⊎_elim (λ (lt : q < p). none file_system agrees q low lt at) (λ (le : p ≤ q).
+      nowhere (q - p) (omega arith) (omega arith) (passes text xs c p q (piece file_system agrees) le to (byte_there text c q at))) (cases_lt q p)
 
-pub last_past : (ls : Lengths) (t : Table) (x : Option Node) (s : Span) (c at p end : ℕ) → HasLengths ls t → CordFitsIn ls x →
-    IsCord x → p + span_len s ≡ end → IsSpanOf x p s → IsWithout s c → HasNot t x c end (at + 1) → HasNot t x c p (at + 1)
-last_past ls t x s c at p end reported f sound seam h not none =
-    λ q low to here. ⊎_elim
-    (λ (lt : q < end). not t (q - p) (in_span t x p s c q (CordFits-reported ls t x reported f) sound h low (omega arith) here))
-    (λ (le : end ≤ q). none q le to here) (cases_lt q end)
+  -- also after a span that hasn't the byte
+  pub first_past : (span : Span) (n : ℕ) → ReportsLengths s → CordFitsIn (s.lengths a) x → IsCord x → IsSpanOf x p span →
+      IsRunWithout span c n → OverTables s a b (λ t. StandsNot t x (c ∷ []) from p) →
+      OverTables s a b (λ t. StandsNot t x (c ∷ []) from (p + n))
+  first_past span n reported fits sound h run none = λ file_system agrees.
+      let t = s.table a file_system in
+      let held = fits_over x v reported fits file_system agrees in
+      λ q low to at. ⊎_elim (λ (lt : q < p). none file_system agrees q low lt at) (λ (le : p ≤ q). run.without t (q - p)
+      (in_span t x p span c q held sound h le (omega (arith, to, run.len)) (byte_there (bytes_of t x) c q at))) (cases_lt q p)
+
+  -- and ends where the byte is found
+  pub first_found : {E : Type 0} (xs : List ℕ) (k : ℕ) (r : Option ℕ) → r ≡ Some k → IsFirstByte (is_byte c) xs r → from ≤ p →
+      p + length xs ≤ text_len x → OverTables s a b (λ t. IsPieceOf t x p xs) → OverTables s a b (λ t. StandsNot t x (c ∷ []) from p) →
+      FindsByte {E = E} s a b x from c (Ok (Some (p + k)))
+  first_found xs k r is h low inside piece none =
+      let here : NoneBefore (Passes (is_byte c) xs) 0 (length xs) k × Passes (is_byte c) xs k = rw is at h in
+      let below : k < length xs = here.0.high in
+      answered v (omega (arith, low), omega (arith, below, inside)) (λ file_system agrees.
+      let text = bytes_of (s.table a file_system) x in
+      let e = piece file_system agrees in
+      let before : (q : ℕ) → from ≤ q → q < p + k → StandsAt text (c ∷ []) q → ⊥ =
+      λ q low' to at. ⊎_elim (λ (lt : q < p). none file_system agrees q low' lt at) (λ (le : p ≤ q).
+      here.0.before (q - p) (omega arith) (omega arith) (passes text xs c p q e le (omega arith) (byte_there text c q at)))
+      (cases_lt q p) in
+      first_only text (c ∷ []) from (Some (p + k)) (omega arith, byte_here text c (p + k) (found text xs c p k e below here.1), before))
+
+  -- or at the end of the text
+  pub first_none : {E : Type 0} → text_len x ≤ p → OverTables s a b (λ t. length (bytes_of t x) ≡ text_len x) →
+      OverTables s a b (λ t. StandsNot t x (c ∷ []) from p) → FindsByte {E = E} s a b x from c (Ok None)
+  first_none end len none = answered v (tt, tt) (λ file_system agrees.
+      let text = bytes_of (s.table a file_system) x in
+      first_only text (c ∷ []) from None (λ q low at. let inside : q < length text = slice_get_within text q c (byte_there text c q at) in
+      none file_system agrees q low (omega (arith, len file_system agrees, inside)) at))
+
+module _ {S : Type 0} {s : Ghosts S} {a b : S} (x : Option Node) (c at p end : ℕ) (v : WasRead s a b) where
+  -- the same from after
+  pub last_on : (xs : List ℕ) (r : Option ℕ) → r ≡ None → IsLastByte (is_byte c) xs r → p + length xs ≡ end →
+      OverTables s a b (λ t. IsPieceOf t x p xs) → OverTables s a b (λ t. HasNot t x c end (at + 1)) →
+      OverTables s a b (λ t. HasNot t x c p (at + 1))
+  last_on xs r is h seam piece none = λ file_system agrees.
+      let nowhere : Nowhere (Passes (is_byte c) xs) 0 (length xs) = rw is at h in
+      let text = bytes_of (s.table a file_system) x in
+      λ q low to here. ⊎_elim (λ (lt : q < end). nowhere (q - p) (omega arith) (omega arith)
+      (passes text xs c p q (piece file_system agrees) low (omega arith) here))
+      (λ (le : end ≤ q). none file_system agrees q le to here) (cases_lt q end)
+
+  pub last_past : (span : Span) (n : ℕ) → ReportsLengths s → CordFitsIn (s.lengths a) x → IsCord x → p + n ≡ end →
+      IsSpanUpTo x end span → IsRunWithout span c n → OverTables s a b (λ t. HasNot t x c end (at + 1)) →
+      OverTables s a b (λ t. HasNot t x c p (at + 1))
+  last_past span n reported fits sound seam h run none = λ file_system agrees.
+      let t = s.table a file_system in
+      let held = fits_over x v reported fits file_system agrees in
+      let low : p ≡ end - span_len span = omega (arith, seam, run.len) in
+      λ q from to here. ⊎_elim (λ (lt : q < end). run.without t (q - (end - span_len span))
+      (in_span t x (end - span_len span) span c q held sound h.span (omega (arith, from, low)) (omega (arith, lt, h.inside)) here))
+      (λ (le : end ≤ q). none file_system agrees q le to here) (cases_lt q end)
+
+  pub last_found : {E : Type 0} (xs : List ℕ) (k : ℕ) (r : Option ℕ) → r ≡ Some k → IsLastByte (is_byte c) xs r → p + length xs ≡ end →
+      end ≤ at + 1 → OverTables s a b (λ t. IsPieceOf t x p xs) → OverTables s a b (λ t. HasNot t x c end (at + 1)) →
+      FindsLast {E = E} s a b x at c (Ok (Some (p + k)))
+  last_found xs k r is h seam high piece none =
+      let here : NoneAfter (Passes (is_byte c) xs) 0 (length xs) k × Passes (is_byte c) xs k = rw is at h in
+      let below : k < length xs = here.0.high in
+      answered v (omega (arith, below, seam, high)) (λ file_system agrees.
+      let text = bytes_of (s.table a file_system) x in
+      let e = piece file_system agrees in
+      let later : (q : ℕ) → p + k < q → q ≤ at → slice_get text q ≢ Some c =
+      λ q low to there.
+      ⊎_elim (λ (lt : q < end). here.0.after (q - p) (omega arith) (omega arith)
+      (passes text xs c p q e (omega arith) (omega arith) there))
+      (λ (le : end ≤ q). none file_system agrees q le (omega arith) there) (cases_lt q end) in
+      last_only text at c (Some (p + k)) (omega arith, found text xs c p k e below here.1, later))
+
+-- up to the beginning of the text
+pub last_none : {S E : Type 0} {s : Ghosts S} {a b : S} (x : Option Node) (c at end : ℕ) → WasRead s a b → end ≤ 0 →
+    OverTables s a b (λ t. HasNot t x c end (at + 1)) → FindsLast {E = E} s a b x at c (Ok None)
+last_none {s = s} {a = a} x c at end v low none = answered v tt (λ file_system agrees.
+    last_only (bytes_of (s.table a file_system) x) at c None (λ q to there. none file_system agrees q (omega arith) (omega arith) there))

@@ -1,10 +1,9 @@
 -- Bytes that are compared many at a time.
-use Rattle.std.proofs.Common.{◌≡◌, ℕ, ◌+◌, ◌%◌, ◌^◌, true, false, List, [], ◌∷◌, ◌++◌, length, take, drop, map}
-use Rattle.std.proofs.Common.{refl, sym, ap, ◌∙◌, arith, w8, cond, eqb}
+use Rattle.cord_search.proofs.Common.{List, [], ap, arith, cond, eqb-true, false, length, map, refl, sym, true, w8, ℕ, ◌∙◌, ◌∷◌, ◌≡◌}
+use Rattle.std.proofs.Common.{◌%◌, ◌^◌, eqb}
 use Rattle.std.specs.Prelude.{not, nat_eq}
-use Rattle.std.proofs.Math.Seq.{take-add}
 use Rattle.std.specs.Simd.Lanes.{zip2, mask_l, top}
-use Rattle.std.proofs.lemmas.Bool.{eqb-true, not-true, not-false}
+use Rattle.std.proofs.lemmas.Bool.{not-true, not-false}
 use Rattle.std.proofs.lemmas.Simd.{tops_compared, mask_l-mod, length-zip2}
 
 -- no bit is set where the bytes are the same ones
@@ -32,9 +31,3 @@ same_bytes xs ys l k h =
     let none : mask ≡ 0 = eqb-true mask 0 (not-false (nat_eq mask 0) (not-true (not (nat_eq mask 0)) h)) in
     same_lanes xs ys (omega (arith, l, k)) (sym (ap (λ ms. mask_l ms % 2 ^ 64) (tops_compared w8 f xs ys)
     ∙ mask_l-mod (zip2 f xs ys) 64 (omega (arith, long, l))) ∙ none)
-
--- and so are those before them
-pub same_further : (xs ys : List ℕ) (done n : ℕ) → take done xs ≡ take done ys → take n (drop done xs) ≡ take n (drop done ys) →
-    take (done + n) xs ≡ take (done + n) ys
-same_further xs ys done n prefix next = take-add done n xs ∙ ap (λ (zs : List ℕ). zs ++ take n (drop done xs)) prefix
-    ∙ ap (λ (zs : List ℕ). take done ys ++ zs) next ∙ sym (take-add done n ys)

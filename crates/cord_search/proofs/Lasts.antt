@@ -1,21 +1,13 @@
 -- The last place of a text in another, by searches from the back.
-use Rattle.std.proofs.Common.{◌≡◌, ℕ, zero, suc, ◌+◌, ◌-◌, ◌<◌, ◌≤◌, Bool, true, false, List, [], ◌∷◌, ◌++◌, length, take, drop}
-use Rattle.std.proofs.Common.{None, Some, refl, sym, ◌∙◌, ap, subst, arith, ⊎_elim, eq-eqb}
-use Rattle.std.specs.Prelude.{Option, IfSome, min, if◌then◌else◌}
+use Rattle.cord_search.proofs.Common.{Bool, IfSome, IsFirst, IsLastSoFar, List, Node, None, Option, Some, StandsAt, StandsNot, Table, []}
+use Rattle.cord_search.proofs.Common.{ap, arith, bytes_of, cases_lt, drop, eq-eqb, false, first, first_is_least, if◌then◌else◌, length, min}
+use Rattle.cord_search.proofs.Common.{refl, subst, suc, sym, take, true, zero, ℕ, ⊎_elim, ◌++◌, ◌+◌, ◌-◌, ◌<◌, ◌∙◌, ◌∷◌, ◌≡◌, ◌≤◌}
 use Rattle.std.proofs.Math.Dec.{leb-zero}
-use Rattle.std.proofs.lemmas.Bool.{cases_lt}
-use Rattle.cord_io.specs.Table.{Table}
-use Rattle.cord_node.specs.declared.Node.{Node}
-use Rattle.cord_core.specs.Cord.{bytes_of}
-use Rattle.cord_core.specs.Texts.{begins_with, first_from, StandsAt, first, IsFirst}
-use Rattle.cord_core.proofs.Searches.{first_is_least}
+use Rattle.std.proofs.lemmas.Bool.{false≢true}
+use Rattle.cord_core.specs.Texts.{begins_with, first_from}
 use Rattle.cord_search.specs.LastTexts.{last_below, last_text, IsLastBelow}
-use Rattle.cord_search.specs.inner.Pieces.{StandsNot}
-use Rattle.cord_search.specs.inner.Lasts.{IsLastSoFar}
+use Rattle.cord_search.proofs.Finding.{nowhere_on}
 use Rattle.cord_search.proofs.Cuts.{first_stands, first_nowhere}
-
-differ : false ≡ true → ⊥
-differ e = cc
 
 -- a text that begins with s has it at its front
 begun : (y s : List ℕ) → begins_with y s ≡ true → StandsAt y s 0
@@ -38,7 +30,7 @@ module _ (x s : List ℕ) where
   stands p le e = let at = begun (drop p x) s e in record { within = le; rest = at.rest; here = at.here }
 
   stands_not : (p : ℕ) → begins_with (drop p x) s ≡ false → StandsAt x s p → ⊥
-  stands_not p e at = differ (sym e ∙ ap (λ (z : List ℕ). begins_with z s) at.here ∙ begins s at.rest)
+  stands_not p e at = false≢true (sym e ∙ ap (λ (z : List ℕ). begins_with z s) at.here ∙ begins s at.rest)
 
   -- there is one last place
   pub last_only : (n : ℕ) (a : Option ℕ) → n ≤ length x + 1 → IsLastBelow x s n a → a ≡ last_below x s n
@@ -66,9 +58,8 @@ module _ (t : Table) (x : Option Node) (s : List ℕ) where
   -- or none, so there is none after
   pub none_after : (middle high limit e : ℕ) → high + length s ≤ e + 1 → None ≡ first (take e (bytes_of t x)) middle s →
       StandsNot t x s high limit → StandsNot t x s middle limit
-  none_after middle high limit e fits is none = λ q low to at. ⊎_elim
-      (λ (lt : q < high). first_nowhere (bytes_of t x) s e middle is q low (omega (arith, fits)) at)
-      (λ (le : high ≤ q). none q le to at) (cases_lt q high)
+  none_after middle high limit e fits is none = nowhere_on (StandsAt (bytes_of t x) s) middle high limit
+      (λ q low to at. first_nowhere (bytes_of t x) s e middle is q low (omega (arith, fits, to)) at) none
 
   -- no place is left
   pub last_found : (low high limit : ℕ) (found : Option ℕ) → high ≤ low → high ≤ limit → low ≤ high → limit ≤ length (bytes_of t x) + 1 →

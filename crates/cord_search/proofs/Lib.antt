@@ -1,3 +1,4 @@
+pub mod Common
 pub mod Lanes
 pub mod Ranges
 pub mod Sharing

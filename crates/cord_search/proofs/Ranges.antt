@@ -1,18 +1,14 @@
 -- Where spans and pieces stand in the text of a cord.
-use Rattle.std.proofs.Common.{◌≡◌, ℕ, ◌+◌, ◌-◌, ◌≤◌, List, length, take, drop, None, Some, sym, ◌∙◌, ap, arith}
-use Rattle.std.specs.Prelude.{◌++◌, ◌<◌, Option, unwrap_or, IsSomeAnd, replicate}
-use Rattle.std.proofs.Math.Seq.{take-add}
-use Rattle.std.proofs.lemmas.List.{take_min, drop-replicate, take-replicate, length-take, take_all, take-take}
-use Rattle.cord_io.specs.Table.{Table, Lengths, HasLengths, length_at}
-use Rattle.cord_node.specs.declared.Node.{Node}
-use Rattle.cord_node.proofs.Ranges.{range_of_range}
-use Rattle.cord_core.specs.Cord.{bytes_of, CordFitsIn}
-use Rattle.cord_core.proofs.OverLemmas.{CordFits-reported}
-use Rattle.cord_pos.specs.Spans.{span_len, span_bytes, IsSpanOf}
-use Rattle.cord_pos.specs.declared.span.Span.{Span}
+use Rattle.cord_search.proofs.Common.{CordFitsIn, Ghosts, IsPieceOf, IsSpanOf, IsSpanUpTo, List, Node, None, Option, OverTables, Some, Span}
+use Rattle.cord_search.proofs.Common.{Table, WasRead, ap, arith, bytes_of, drop, length, length-take, length_at, range_of_range, replicate}
+use Rattle.cord_search.proofs.Common.{span_bytes, span_len, sym, take, take-add, take-take, take_all, take_min, ℕ, ◌++◌, ◌+◌, ◌-◌, ◌<◌, ◌∙◌}
+use Rattle.cord_search.proofs.Common.{◌≡◌, ◌≤◌}
+use Rattle.std.specs.Prelude.{unwrap_or, IsSomeAnd}
+use Rattle.std.proofs.lemmas.List.{drop-replicate, take-replicate}
+use Rattle.cord_io.specs.Table.{Lengths}
 use Rattle.cord_pos.specs.declared.span.Span.TheVariants.{Bytes, Run, Func}
-use Rattle.cord_search.specs.inner.Pieces.{IsPieceOf}
 use Rattle.cord_search.specs.inner.Spans.{IsPartOf}
+use Rattle.cord_search.proofs.Reading.{ReportsLengths, fits_over}
 
 -- a range is its own first bytes
 own_range : (xs ys : List ℕ) (k : ℕ) → xs ≡ take k ys → xs ≡ take (length xs) ys
@@ -65,16 +61,27 @@ of_source lengths id end some inside = at (lengths id) inside
     at None h = let none : end ≤ 0 = h in absurd (omega (arith, none, some))
     at (Some len) h = h
 
--- a part of a span is a piece of the text
-pub piece_within : (ls : Lengths) (t : Table) (c : Option Node) (place : ℕ) (s : Span) (i j : ℕ) (xs : List ℕ) → HasLengths ls t →
-    CordFitsIn ls c → IsSpanOf c place s → i + length xs ≤ span_len s → j ≡ place + i → IsPartOf t s i xs → IsPieceOf t c j xs
-piece_within ls t c place s i j xs reported f h inside e p =
-    p ∙ ap (λ (ys : List ℕ). take (length xs) (drop i ys)) (h.text t (CordFits-reported ls t c reported f))
-    ∙ range_of_range (bytes_of t c) i (length xs) place (span_len s) inside
-    ∙ ap (λ (m : ℕ). take (length xs) (drop m (bytes_of t c))) (sym e)
+module _ {S : Type 0} {s : Ghosts S} {a b : S} (c : Option Node) where
+  -- what was read of a part of a span is a piece of the text
+  pub read_piece : (place : ℕ) (span : Span) (i j : ℕ) (xs : List ℕ) → WasRead s a b → ReportsLengths s → CordFitsIn (s.lengths a) c →
+      IsSpanOf c place span → i + length xs ≤ span_len span → j ≡ place + i → OverTables s a b (λ t. IsPartOf t span i xs) →
+      OverTables s a b (λ t. IsPieceOf t c j xs)
+  read_piece place span i j xs v reported fits h inside e part = λ file_system agrees.
+      let text = bytes_of (s.table a file_system) c in
+      part file_system agrees
+      ∙ ap (λ (ys : List ℕ). take (length xs) (drop i ys)) (h.text (s.table a file_system) (fits_over c v reported fits file_system agrees))
+      ∙ range_of_range text i (length xs) place (span_len span) inside ∙ ap (λ (m : ℕ). take (length xs) (drop m text)) (sym e)
 
--- and so is what stands at its beginning
-pub prefix_within : (ls : Lengths) (t : Table) (c : Option Node) (place : ℕ) (s : Span) (xs : List ℕ) → HasLengths ls t →
-    CordFitsIn ls c → IsSpanOf c place s → length xs ≤ span_len s → IsPartOf t s 0 xs → IsPieceOf t c place xs
-prefix_within ls t c place s xs reported f h inside p = piece_within ls t c place s 0 place xs reported f h (omega (arith, inside))
-    (omega arith) p
+  -- so is what stands at its beginning
+  pub read_prefix : (place : ℕ) (span : Span) (xs : List ℕ) → WasRead s a b → ReportsLengths s → CordFitsIn (s.lengths a) c →
+      IsSpanOf c place span → length xs ≤ span_len span → OverTables s a b (λ t. IsPartOf t span 0 xs) →
+      OverTables s a b (λ t. IsPieceOf t c place xs)
+  read_prefix place span xs v reported fits h inside part =
+      read_piece place span 0 place xs v reported fits h (omega (arith, inside)) (omega arith) part
+
+  -- and at the end of one that ends at a place
+  pub read_end : (end : ℕ) (span : Span) (xs : List ℕ) → WasRead s a b → ReportsLengths s → CordFitsIn (s.lengths a) c →
+      IsSpanUpTo c end span → length xs ≤ span_len span → OverTables s a b (λ t. IsPartOf t span (span_len span - length xs) xs) →
+      OverTables s a b (λ t. IsPieceOf t c (end - length xs) xs)
+  read_end end span xs v reported fits h inside part = read_piece (end - span_len span) span (span_len span - length xs)
+      (end - length xs) xs v reported fits h.span (omega (arith, inside)) (omega (arith, inside, h.inside)) part

@@ -1,14 +1,8 @@
 -- Texts that repeat themselves stand at few places of one another.
-use Rattle.std.proofs.Common.{◌≡◌, ◌≢◌, ℕ, ◌+◌, ◌-◌, ◌<◌, ◌≤◌, List, ◌∷◌, [], ◌++◌, length, take, drop, get_or, sym, ◌∙◌, ap, arith, ⊎_elim}
-use Rattle.std.specs.Prelude.{Option}
-use Rattle.std.proofs.lemmas.Bool.{cases_lt}
-use Rattle.std.proofs.lemmas.List.{get_or-drop, get_or-take, take_more}
-use Rattle.cord_io.specs.Table.{Table}
-use Rattle.cord_node.specs.declared.Node.{Node}
-use Rattle.cord_core.specs.Cord.{text_len, bytes_of}
-use Rattle.cord_core.specs.Texts.{StandsAt}
-use Rattle.cord_search.specs.inner.Pieces.{IsPieceOf, AreSame, StandsNot}
-use Rattle.cord_search.specs.inner.Periods.{IsCommon}
+use Rattle.cord_search.proofs.Common.{AreSame, IsCommon, IsPieceOf, List, Node, Option, StandsAt, StandsNot, Table, [], ap, arith, bytes_of}
+use Rattle.cord_search.proofs.Common.{cases_lt, drop, get_or, get_or-drop, get_or-take, length, sym, take, text_len, ℕ, ⊎_elim, ◌++◌, ◌+◌}
+use Rattle.cord_search.proofs.Common.{◌-◌, ◌<◌, ◌∙◌, ◌∷◌, ◌≡◌, ◌≢◌, ◌≤◌}
+use Rattle.std.proofs.lemmas.List.{take_more}
 use Rattle.cord_search.proofs.Finding.{range_at}
 use Rattle.cord_search.proofs.Comparing.{common_on}
 use Rattle.cord_search.proofs.Standing.{stands_get, stands_inside}
@@ -102,13 +96,3 @@ module _ (t : Table) (x s : Option Node) (place period count run : ℕ) (len : l
       let same = same_at t x place x (place + period) run k runs.same (omega (arith, low, to, lt)) in
       repeats.differ ends (ap (λ (p : ℕ). get_or (bytes_of t s) p 0) zero ∙ sym one ∙ ap (λ (p : ℕ). get_or (bytes_of t x) p 0) from ∙ same
       ∙ two)
-
--- no place is passed over
-pub passed_none : (t : Table) (x : Option Node) (s : List ℕ) (place : ℕ) → StandsNot t x s (place + 1) (place + 1)
-passed_none t x s place = λ q low to at. omega (arith, low, to)
-
--- a search goes on after what it passes over
-pub passed_on : (t : Table) (x : Option Node) (s : List ℕ) (start place next : ℕ) → StandsNot t x s start (place + 1) →
-    StandsNot t x s (place + 1) next → StandsNot t x s start next
-passed_on t x s start place next before later = λ q low to at. ⊎_elim (λ (lt : q < place + 1). before q low lt at)
-    (λ (le : place + 1 ≤ q). later q le to at) (cases_lt q (place + 1))

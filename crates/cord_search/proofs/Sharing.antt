@@ -1,21 +1,13 @@
 -- What two texts share is the same in both.
-use Rattle.std.proofs.Common.{◌≡◌, ℕ, ◌+◌, ◌<◌, ◌≤◌, List, length, map, take, drop, Some, sym, ◌∙◌, ap, arith}
-use Rattle.std.specs.Prelude.{Option}
-use Rattle.std.proofs.lemmas.List.{take-take, drop-drop}
-use Rattle.cord_io.specs.Table.{Table, Lengths, HasLengths}
-use Rattle.cord_node.specs.declared.Node.{Node}
-use Rattle.cord_node.specs.Tree.{Cell, cells, len_of}
+use Rattle.cord_search.proofs.Common.{AreAlike, AreSame, CordFits, Ghosts, IsReadable, IsSpanOf, IsSpanPrefix, IsWithin, List, Node, Option}
+use Rattle.cord_search.proofs.Common.{OverTables, Some, Span, Table, WasRead, ap, arith, bytes_of, drop, drop-drop, len_of, map, span_bytes}
+use Rattle.cord_search.proofs.Common.{span_len, sym, take, take-take, ℕ, ◌+◌, ◌<◌, ◌∙◌, ◌≡◌, ◌≤◌}
+use Rattle.cord_node.specs.Tree.{Cell, cells}
 use Rattle.cord_node.specs.Tables.{bytes_over, lengths_of, Fits, byte_at}
 use Rattle.cord_node.proofs.TableLemmas.{bytes-cells}
-use Rattle.cord_core.specs.Cord.{bytes_of, CordFitsIn, CordFits}
-use Rattle.cord_pos.specs.Spans.{span_len, span_bytes, IsSpanOf, IsSpanPrefix}
-use Rattle.cord_pos.specs.inner.Spans.{IsWithin}
-use Rattle.cord_search.specs.inner.SharedParts.{AreAlike}
-use Rattle.cord_search.specs.inner.Pieces.{AreSame, IsPieceOf}
-use Rattle.cord_search.specs.inner.Spans.{BeginAlike, IsPartOf}
-use Rattle.cord_pos.specs.declared.span.Span.{Span}
-use Rattle.cord_core.proofs.OverLemmas.{CordFits-reported}
-use Rattle.cord_search.proofs.Ranges.{prefix_within, take_on}
+use Rattle.cord_search.specs.inner.Spans.{BeginAlike, IsBlockOf}
+use Rattle.cord_search.proofs.Ranges.{take_on}
+use Rattle.cord_search.proofs.Reading.{ReportsLengths, fits_over}
 
 -- the bytes from a place of a node are those of what is within
 within_bytes : (n : Node) (place : ℕ) (m : Node) (at k : ℕ) (t : Table) → (w : IsWithin n place m at) → Fits t n → at + k ≤ len_of m →
@@ -53,12 +45,9 @@ prefix_span c place s first k some le h f = record {
   text = λ t held. f.text t ∙ sym (prefix t c place s k held h le) ∙ ap (λ (m : ℕ). take m (drop place (bytes_of t c))) (sym f.len);
 }
 
--- what stands at the prefix of a span's block stands in the text
-pub block_piece : (ls : Lengths) (t : Table) (c : Option Node) (place : ℕ) (s block : Span) (xs : List ℕ) → HasLengths ls t →
-    CordFitsIn ls c → IsSpanOf c place s → 0 < span_len block → span_len block ≤ span_len s →
-    IsSpanPrefix s (span_len block) block → length xs ≤ span_len block → IsPartOf t block 0 xs → IsPieceOf t c place xs
-block_piece ls t c place s block xs reported f h some few first inside e =
-    prefix_within ls t c place block xs reported f (prefix_span c place s block (span_len block) some few h first) inside e
+-- and so is a block of one
+pub block_span : (c : Option Node) (place : ℕ) (s block : Span) → IsBlockOf s block → IsSpanOf c place s → IsSpanOf c place block
+block_span c place s block b h = prefix_span c place s block (span_len block) b.some b.few h b.prefix
 
 -- where the next bytes are the same, more are
 pub same_on : (t : Table) (x : Option Node) (i : ℕ) (y : Option Node) (j done n : ℕ) → AreSame t x (i + done) y (j + done) n →
@@ -70,7 +59,10 @@ same_on t x i y j done n next same =
     ∙ ap (λ (ys : List ℕ). take n ys) (sym (drop-drop done j v))) same
 
 -- so they are where both texts share them
-pub alike_on : (ls : Lengths) (t : Table) (x : Option Node) (i : ℕ) (y : Option Node) (j done n : ℕ) → HasLengths ls t → CordFitsIn ls x →
-    CordFitsIn ls y → AreAlike x (i + done) y (j + done) n → AreSame t x i y j done → AreSame t x i y j (done + n)
-alike_on ls t x i y j done n reported f g alike same =
-    same_on t x i y j done n (alike t (CordFits-reported ls t x reported f) (CordFits-reported ls t y reported g)) same
+pub alike_on : {S : Type 0} {s : Ghosts S} {a b : S} (x : Option Node) (i : ℕ) (y : Option Node) (j done n : ℕ) → WasRead s a b →
+    ReportsLengths s → IsReadable (s.lengths a) x → IsReadable (s.lengths a) y → AreAlike x (i + done) y (j + done) n →
+    OverTables s a b (λ t. AreSame t x i y j done) → OverTables s a b (λ t. AreSame t x i y j (done + n))
+alike_on {s = s} {a = a} x i y j done n v reported left right alike same = λ file_system agrees.
+    let t = s.table a file_system in
+    same_on t x i y j done n (alike t (fits_over x v reported left.fits file_system agrees)
+    (fits_over y v reported right.fits file_system agrees)) (same file_system agrees)

@@ -1,31 +1,20 @@
 -- Places of a text in another, by windows.
-use Rattle.std.proofs.Common.{◌≡◌, ℕ, ◌+◌, ◌-◌, ◌<◌, ◌≤◌, true, false, List, [], ◌∷◌, ◌++◌, length, take, drop, get_or, None, Some, refl}
-use Rattle.std.proofs.Common.{sym, ◌∙◌, ap, subst, arith, ⊎_elim, append_assoc, length-drop, length-append}
-use Rattle.std.specs.Prelude.{Option}
-use Rattle.std.specs.Ordering.{nat_cmp, is_eq}
-use Rattle.std.specs.Cmp.Lexicographic.{slice_cmp}
-use Rattle.std.specs.declared.cmp.Ordering.{Ordering}
-use Rattle.std.specs.declared.cmp.Ordering.TheVariants.{Less, Equal, Greater}
-use Rattle.std.proofs.Math.Seq.{take-add}
+use Rattle.cord_search.proofs.Common.{CordFits, Equal, Greater, HoldsText, IsCord, IsOrderOf, IsPieceOf, IsSpanOf, IsStanding, Less, List}
+use Rattle.cord_search.proofs.Common.{Node, None, NoneBefore, Nowhere, Option, Ordering, Some, Span, StandsAt, StandsNot, Table, ap}
+use Rattle.cord_search.proofs.Common.{append_assoc, arith, bytes_of, drop, exact_bytes, false, first, get_or, get_or-drop, length}
+use Rattle.cord_search.proofs.Common.{length-bytes, length-drop, length-take-le, nat_cmp, nat_list_cmp_total, slice_cmp, span_bytes}
+use Rattle.cord_search.proofs.Common.{span_len, subst, sym, take, take-add, take-append-drop, take_all, text_len, tied_itself, true, ℕ}
+use Rattle.cord_search.proofs.Common.{◌++◌, ◌+◌, ◌-◌, ◌<◌, ◌∙◌, ◌≡◌, ◌≤◌}
+use Rattle.std.proofs.Common.{length-append}
+use Rattle.std.specs.Ordering.{is_eq}
 use borrow.Rule.Slice.PartMut.{put_mid, post_of}
-use Rattle.std.proofs.lemmas.Bool.{cases_lt}
 use Rattle.std.proofs.lemmas.Slice.{take-put_mid}
-use Rattle.std.proofs.lemmas.List.{get_or-drop, get_or_append_left, length-take-le, take_all, take_at, take-append-drop}
-use Rattle.memchr.specs.Find.{Nowhere, NoneBefore, OccursAt, FindsNeedle}
+use Rattle.std.proofs.lemmas.List.{get_or_append_left, nil_from_length, take_at}
+use Rattle.memchr.specs.Find.{OccursAt, FindsNeedle}
 use Rattle.memchr.proofs.lemmas.MatchLemmas.{OccursAt-split}
-use Rattle.cord_io.specs.Table.{Table, Lengths, HasLengths}
-use Rattle.cord_node.specs.declared.Node.{Node}
-use Rattle.cord_core.specs.Cord.{text_len, bytes_of, IsCord, CordFitsIn}
-use Rattle.cord_core.specs.Texts.{StandsAt, first, IsFirst}
-use Rattle.cord_core.proofs.Searches.{first_is_least}
-use Rattle.cord_search.specs.inner.Pieces.{IsPieceOf, HoldsText, IsOrderOf, IsStanding, StandsNot}
-use Rattle.cord_pos.specs.Spans.{span_len, span_bytes, IsSpanOf}
 use Rattle.cord_search.specs.inner.Spans.{IsMisfit, DoesNotFit}
-use Rattle.cord_pos.specs.declared.span.Span.{Span}
-use Rattle.cord_core.proofs.OverLemmas.{CordFits-reported}
-use Rattle.cord_iter.proofs.Backs.{cord_len}
-use Rattle.cord_search.proofs.Finding.{range_at, range_inside, first_only}
-use Rattle.cord_search.proofs.Comparing.{cmp_same, cmp_equal, piece_prefix}
+use Rattle.cord_search.proofs.Finding.{nowhere_on, range_at, range_inside, first_is, first_only}
+use Rattle.cord_search.proofs.Comparing.{piece_prefix}
 
 -- bytes were copied after what was filled
 pub filled_on : (t : Table) (c : Option Node) (place done k n : ℕ) (out part : List ℕ) → HoldsText t c place done out →
@@ -78,10 +67,8 @@ occurred x window head place k some e h =
 window_on : (t : Table) (x : Option Node) (start place next m : ℕ) (window head : List ℕ) → Nowhere (OccursAt window head) 0 m →
     next ≤ place + m → next + length head ≤ place + length window + 1 → IsPieceOf t x place window → StandsNot t x head start place →
     StandsNot t x head start next
-window_on t x start place next m window head h p q e none =
-    λ k low to at. ⊎_elim (λ (lt : k < place). none k low lt at)
-    (λ (le : place ≤ k). h (k - place) (omega arith) (omega arith) (occurs (bytes_of t x) window head place k e le (omega arith) at))
-    (cases_lt k place)
+window_on t x start place next m window head h p q e none = nowhere_on (StandsAt (bytes_of t x) head) start place next none
+    (λ k from to at. h (k - place) (omega arith) (omega arith) (occurs (bytes_of t x) window head place k e from (omega arith) at))
 
 -- bytes that don't occur in a window stand at none of its places at which they would lie inside
 pub window_none : (t : Table) (x : Option Node) (start place : ℕ) (window head : List ℕ) (r : Option ℕ) → r ≡ None →
@@ -107,20 +94,18 @@ window_some t x start place k window head r is some h low e none =
     )
 
 -- they stand at none of the places that do not fit
-pub misfit_on : (ls : Lengths) (t : Table) (x : Option Node) (start place n : ℕ) (span : Span) (head : List ℕ) → HasLengths ls t →
-    IsCord x → CordFitsIn ls x → IsSpanOf x place span → IsMisfit span head n → StandsNot t x head start place →
+pub misfit_on : (t : Table) (x : Option Node) (start place n : ℕ) (span : Span) (head : List ℕ) → IsCord x → CordFits t x → IsSpanOf x place span → IsMisfit span head n → StandsNot t x head start place →
     StandsNot t x head start (place + n)
-misfit_on ls t x start place n span head reported sound fits h misfit none =
-    λ q low to at. ⊎_elim (λ (lt : q < place). none q low lt at) (λ (le : place ≤ q). differ q at le (misfit t (q - place) (omega arith)))
-    (cases_lt q place)
+misfit_on t x start place n span head sound fits h misfit none = nowhere_on (StandsAt (bytes_of t x) head) start place (place + n) none
+    (λ q from to at. differ q at from (misfit t (q - place) (omega (arith, from, to))))
   where
     differ : (q : ℕ) → StandsAt (bytes_of t x) head q → place ≤ q → DoesNotFit t span head (q - place) → ⊥
     differ q at le d =
         let xs = bytes_of t x in
-        let text = h.text t (CordFits-reported ls t x reported fits) in
+        let text = h.text t fits in
         let long : length (span_bytes t span) ≡ span_len span =
         ap (λ (ys : List ℕ). length ys) text ∙ length-take-le (span_len span) (drop place xs)
-        (omega (arith, h.inside, cord_len ls t x reported sound fits, length-drop place xs)) in
+        (omega (arith, h.inside, length-bytes t x sound fits, length-drop place xs)) in
         let range : span_bytes t span ≡ take (length (span_bytes t span)) (drop place xs) =
         text ∙ ap (λ (k : ℕ). take k (drop place xs)) (sym long) in
         let here : place + (q - place + d.at) ≡ q + d.at = omega (arith, le) in
@@ -130,9 +115,8 @@ misfit_on ls t x start place n span head reported sound fits h misfit none =
 -- a place where they don't stand
 pub stands_on : (t : Table) (x s : Option Node) (start place : ℕ) → IsStanding t x place s false →
     StandsNot t x (bytes_of t s) start place → StandsNot t x (bytes_of t s) start (place + 1)
-stands_on t x s start place h none =
-    λ k low to at. ⊎_elim (λ (lt : k < place). none k low lt at) (λ (le : place ≤ k). let same : k ≡ place = omega arith in
-    h (subst (λ (n : ℕ). StandsAt (bytes_of t x) (bytes_of t s) n) same at)) (cases_lt k place)
+stands_on t x s start place h none = nowhere_on (StandsAt (bytes_of t x) (bytes_of t s)) start place (place + 1) none
+    (λ k from to at. let same : k ≡ place = omega (arith, from, to) in h (subst (λ (n : ℕ). StandsAt (bytes_of t x) (bytes_of t s) n) same at))
 
 -- the first place
 pub stands_first : (t : Table) (x s : Option Node) (start place : ℕ) → start ≤ place → IsStanding t x place s true →
@@ -153,19 +137,14 @@ prefix_stands x s head q f at = record {
 pub prefix_on : (t : Table) (x s : Option Node) (start place q : ℕ) (head : List ℕ) → Some q ≡ first (bytes_of t x) place head →
     IsPieceOf t s 0 head → StandsNot t x (bytes_of t s) start place → StandsNot t x (bytes_of t s) start q
 prefix_on t x s start place q head is f none =
-    let least : IsFirst (bytes_of t x) place head (Some q) =
-    subst (λ (r : Option ℕ). IsFirst (bytes_of t x) place head r) (sym is) (first_is_least (bytes_of t x) head place) in
-    λ k low to at. ⊎_elim (λ (lt : k < place). none k low lt at)
-    (λ (le : place ≤ k). least.2 k le to (prefix_stands (bytes_of t x) (bytes_of t s) head k f at)) (cases_lt k place)
+    let least = first_is (bytes_of t x) head place (Some q) is in
+    nowhere_on (StandsAt (bytes_of t x) (bytes_of t s)) start place q none
+    (λ k from to at. least.2 k from to (prefix_stands (bytes_of t x) (bytes_of t s) head k f at))
 
 -- a text that was copied whole
 pub whole_text : (t : Table) (s : Option Node) (xs : List ℕ) → IsPieceOf t s 0 xs → length xs ≡ text_len s →
     length (bytes_of t s) ≡ text_len s → xs ≡ bytes_of t s
 whole_text t s xs e long len = e ∙ take_all (length xs) (bytes_of t s) (omega (arith, long, len))
-
--- nothing was searched yet
-pub stands_start : (t : Table) (x : Option Node) (s : List ℕ) (start : ℕ) → StandsNot t x s start start
-stands_start t x s start = λ k low to at. omega arith
 
 -- nothing stands at each place up to the end
 pub nothing_stands : (t : Table) (x s : Option Node) (place : ℕ) → place ≤ text_len x → text_len s ≡ 0 →
@@ -173,12 +152,8 @@ pub nothing_stands : (t : Table) (x s : Option Node) (place : ℕ) → place ≤
 nothing_stands t x s place low e p q = record {
   within = omega (arith, p);
   rest = drop place (bytes_of t x);
-  here = sym (ap (λ (ys : List ℕ). ys ++ drop place (bytes_of t x)) (empty (bytes_of t s) (q ∙ e)));
+  here = sym (ap (λ (ys : List ℕ). ys ++ drop place (bytes_of t x)) (nil_from_length (bytes_of t s) (q ∙ e)));
 }
-  where
-    empty : (xs : List ℕ) → length xs ≡ 0 → xs ≡ []
-    empty [] h = refl
-    empty (b ∷ xs) h = absurd (omega arith)
 
 -- the order tells whether a text stands in another
 order_stands : (t : Table) (x s : Option Node) (place n m : ℕ) → place + text_len s ≤ text_len x → n ≡ text_len s → m ≡ text_len s →
@@ -187,7 +162,7 @@ order_stands : (t : Table) (x s : Option Node) (place n m : ℕ) → place + tex
 order_stands t x s place n m inside d e p q h =
     let y = drop place (bytes_of t x) in
     let same : take n y ≡ bytes_of t s =
-    cmp_equal (take n y) (take m (bytes_of t s)) (sym h) ∙ take_all m (bytes_of t s) (omega (arith, e, q)) in
+    exact_bytes (take n y) (take m (bytes_of t s)) (sym h) ∙ take_all m (bytes_of t s) (omega (arith, e, q)) in
     record {
       within = omega (arith, p, inside);
       rest = drop n y;
@@ -202,7 +177,7 @@ order_stands_not t x s place n m r not d e q h =
     let left : take n (drop place (bytes_of t x)) ≡ text = ap (λ (ys : List ℕ). take n ys) at.here ∙ take_at text at.rest n (q ∙ sym d) in
     let right : take m text ≡ text = take_all m text (omega (arith, e, q)) in
     not (h ∙ ap (λ (ys : List ℕ). slice_cmp nat_cmp ys (take m text)) left ∙ ap (λ (ys : List ℕ). slice_cmp nat_cmp text ys) right
-    ∙ cmp_same text)
+    ∙ tied_itself nat_list_cmp_total text)
 
 pub order_tells : (t : Table) (x s : Option Node) (place n m : ℕ) (r : Ordering) → place + text_len s ≤ text_len x → n ≡ text_len s →
     m ≡ text_len s → length (bytes_of t x) ≡ text_len x → length (bytes_of t s) ≡ text_len s → IsOrderOf t x place n s 0 m r →

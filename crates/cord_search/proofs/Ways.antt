@@ -1,16 +1,11 @@
 -- Ways from the root of a cord to a place of its text.
-use Rattle.std.proofs.Common.{◌≡◌, ℕ, zero, suc, ◌+◌, ◌-◌, ◌≤◌, List, [], ◌∷◌, ◌++◌, length, arith}
-use Rattle.std.specs.Prelude.{Option, IfSome, slice_get}
-use Rattle.cord_io.specs.declared.TheConstants.{MAX_DEPTH}
-use Rattle.cord_node.specs.declared.Node.{Node}
-use Rattle.cord_node.specs.Tree.{len_of, depth_of}
-use Rattle.cord_pos.specs.Spans.{span_len, IsSpanOf, IsSpanAt, EndsAt}
-use Rattle.cord_pos.specs.inner.Spans.{IsWithin}
-use Rattle.cord_pos.specs.declared.span.Span.{Span}
-use Rattle.cord_pos.proofs.Within.{within_on, within_end, span_on, span_back}
-use Rattle.cord_search.specs.inner.SharedParts.{IsSpot, AreOneSpot, IsSpotOf, IsStop, AreAlike}
+use Rattle.cord_search.proofs.Common.{AreAlike, IfSome, IsSpanOf, IsSpanUpTo, IsSpot, IsSpotOf, IsStop, IsWithin, List, MAX_DEPTH, Node}
+use Rattle.cord_search.proofs.Common.{Option, Span, Stop, [], arith, depth_of, len_of, length, slice_get, span_len, span_on, suc, within_on}
+use Rattle.cord_search.proofs.Common.{zero, ℕ, ◌++◌, ◌+◌, ◌-◌, ◌∷◌, ◌≡◌, ◌≤◌}
+use Rattle.cord_pos.specs.Spans.{IsSpanAt}
+use Rattle.cord_pos.proofs.Within.{within_end, span_back}
+use Rattle.cord_search.specs.inner.SharedParts.{AreOneSpot}
 use Rattle.cord_search.specs.declared.shared_parts.Spot.{Spot}
-use Rattle.cord_search.specs.declared.shared_parts.Stop.{Stop}
 use Rattle.cord_search.proofs.Sharing.{spots_alike}
 
 -- where the same text stands, from another place of it
@@ -50,7 +45,7 @@ module _ (c : Option Node) (at : ℕ) (s : Spot) where
   span_of x h e = rw h.is (span_on h.root at s.node.now s.place x h.within e)
 
   -- up to a place
-  pub span_to : (x : Span) → IsSpotOf c at s → span_len x ≡ s.place + 1 → IsSpanAt s.node.now 0 x → EndsAt c at x
+  pub span_to : (x : Span) → IsSpotOf c at s → span_len x ≡ s.place + 1 → IsSpanAt s.node.now 0 x → IsSpanUpTo c (at + 1) x
   span_to x h len e = record {
     inside = omega (arith, len, h.within.here);
     span = rw h.is (span_back h.root (at + 1) s.node.now (s.place + 1) 0 x (omega (arith, len))

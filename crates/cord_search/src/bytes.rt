@@ -5,7 +5,7 @@ ghost use Rattle.cord_io.specs.Frames.{LeavesSource};
 ghost use Rattle.cord_core.specs.Cord.{text_len, bytes_of, CordFitsIn};
 ghost use Rattle.cord_core.specs.Texts.{first, last};
 ghost use Rattle.cord_search.specs.inner.Pieces.{StandsNot, HasNot};
-ghost use Rattle.cord_search.specs.inner.Searches.{FindsBytes, FindsLast, HasRead};
+ghost use Rattle.cord_search.specs.inner.Searches.{OverTables, FindsByte, FindsLast};
 
 use crate::PIECE_LEN;
 use crate::pieces::{copy_prefix, first_piece, last_piece};
@@ -74,10 +74,7 @@ fn first_byte<S: Source>(
 ) -> Result<Option<u64>, ReadFault>
     requires inside { from < text_len x.now }
     requires fits { CordFitsIn (S.lengths src.old) x.now }
-    ensures first { FindsBytes ⟦<S as Source>⟧ src.old src.new x.now from (byte ∷ []) result }
-    ensures from { IfOk result (λ found. IfSome found (λ place. from ≤ place)) }
-    ensures within { IfOk result (λ found. IfSome found (λ place. place < text_len x.now)) }
-    ensures read { HasRead ⟦<S as Source>⟧ src.old src.new result }
+    ensures { FindsByte ⟦<S as Source>⟧ src.old src.new x.now from byte result }
 {
     let mut buffer = [0; PIECE_LEN];
     let len = x.len();
@@ -108,13 +105,9 @@ fn first_after<S: Source>(
     requires low { from ≤ after }
     requires start { from < text_len x.now }
     requires inside { after ≤ text_len x.now }
-    requires none { (file_system : FileSystem) → S.consistent src.old file_system →
-        StandsNot (S.table src.old file_system) x.now (byte ∷ []) from after }
+    requires none { OverTables ⟦<S as Source>⟧ src.old src.old (λ t. StandsNot t x.now (byte ∷ []) from after) }
     requires fits { CordFitsIn (S.lengths src.old) x.now }
-    ensures first { FindsBytes ⟦<S as Source>⟧ src.old src.new x.now from (byte ∷ []) result }
-    ensures from { IfOk result (λ found. IfSome found (λ place. from ≤ place)) }
-    ensures within { IfOk result (λ found. IfSome found (λ place. place < text_len x.now)) }
-    ensures read { HasRead ⟦<S as Source>⟧ src.old src.new result }
+    ensures { FindsByte ⟦<S as Source>⟧ src.old src.new x.now from byte result }
 {
     let mut buffer = [0; PIECE_LEN];
     let len = x.len();
@@ -140,9 +133,7 @@ fn first_after<S: Source>(
 fn last_byte<S: Source>(x: &Cord, at: u64, byte: u8, src: &mut S) -> Result<Option<u64>, ReadFault>
     requires inside { at < text_len x.now }
     requires fits { CordFitsIn (S.lengths src.old) x.now }
-    ensures last { FindsLast ⟦<S as Source>⟧ src.old src.new x.now at byte result }
-    ensures up_to { IfOk result (λ found. IfSome found (λ place. place ≤ at)) }
-    ensures read { HasRead ⟦<S as Source>⟧ src.old src.new result }
+    ensures { FindsLast ⟦<S as Source>⟧ src.old src.new x.now at byte result }
 {
     let mut buffer = [0; PIECE_LEN];
     let span = cord_span_to(x, at);
@@ -170,12 +161,9 @@ fn last_before<S: Source>(
 ) -> Result<Option<u64>, ReadFault>
     requires inside { at < text_len x.now }
     requires high { before ≤ at + 1 }
-    requires none { (file_system : FileSystem) → S.consistent src.old file_system →
-        HasNot (S.table src.old file_system) x.now byte before (at + 1) }
+    requires none { OverTables ⟦<S as Source>⟧ src.old src.old (λ t. HasNot t x.now byte before (at + 1)) }
     requires fits { CordFitsIn (S.lengths src.old) x.now }
-    ensures last { FindsLast ⟦<S as Source>⟧ src.old src.new x.now at byte result }
-    ensures up_to { IfOk result (λ found. IfSome found (λ place. place ≤ at)) }
-    ensures read { HasRead ⟦<S as Source>⟧ src.old src.new result }
+    ensures { FindsLast ⟦<S as Source>⟧ src.old src.new x.now at byte result }
 {
     let mut buffer = [0; PIECE_LEN];
     let mut end = before;

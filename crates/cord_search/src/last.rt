@@ -2,9 +2,10 @@
 ghost use Rattle.std.specs.Prelude.{◌≡◌, ◌+◌, ◌<◌, ◌≤◌, is_err, IfOk, IfErr, IfSome};
 ghost use Rattle.cord_io.specs.Device.{FileSystem, count_after};
 ghost use Rattle.cord_io.specs.Frames.{LeavesSource};
-ghost use Rattle.cord_core.specs.Cord.{text_len, bytes_of, IsCord, CordFitsIn};
+ghost use Rattle.cord_core.specs.Cord.{text_len, bytes_of, CordFitsIn};
 ghost use Rattle.cord_search.specs.LastTexts.{last_text};
-ghost use Rattle.cord_search.specs.inner.Searches.{FindsLastText, HasRead};
+ghost use Rattle.cord_search.specs.inner.Pieces.{IsReadable};
+ghost use Rattle.cord_search.specs.inner.Searches.{FindsLastText};
 
 use crate::substring::first_place;
 use cord_core::Cord;
@@ -50,15 +51,11 @@ fn last_place<S: Source>(
     s: &Cord,
     src: &mut S,
 ) -> Result<Option<u64>, ReadFault>
-    requires sound { IsCord x.now }
-    requires pattern_sound { IsCord s.now }
+    requires text { IsReadable (S.lengths src.old) x.now }
+    requires pattern { IsReadable (S.lengths src.old) s.now }
     requires some { 0 < text_len s.now }
     requires inside { limit + text_len s.now ≤ text_len x.now + 1 }
-    requires fits { CordFitsIn (S.lengths src.old) x.now }
-    requires pattern_fits { CordFitsIn (S.lengths src.old) s.now }
-    ensures last { FindsLastText ⟦<S as Source>⟧ src.old src.new x.now limit s.now result }
-    ensures below { IfOk result (λ found. IfSome found (λ place. place < limit)) }
-    ensures read { HasRead ⟦<S as Source>⟧ src.old src.new result }
+    ensures { FindsLastText ⟦<S as Source>⟧ src.old src.new x.now limit s.now result }
 {
     let count = s.len();
     let mut found = None;

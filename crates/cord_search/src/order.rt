@@ -2,10 +2,10 @@
 ghost use Rattle.std.specs.Prelude.{◌≡◌, ◌+◌, ◌<◌, ◌≤◌, take, drop, is_err, IfOk, IfErr};
 ghost use Rattle.cord_io.specs.Device.{FileSystem, count_after};
 ghost use Rattle.cord_io.specs.Frames.{LeavesSource};
-ghost use Rattle.cord_core.specs.Cord.{text_len, bytes_of, IsCord, CordFitsIn};
+ghost use Rattle.cord_core.specs.Cord.{text_len, bytes_of, CordFitsIn};
 ghost use Rattle.cord_core.specs.Texts.{order};
-ghost use Rattle.cord_search.specs.inner.Pieces.{IsOrderOf, sign_of};
-ghost use Rattle.cord_search.specs.inner.Searches.{HasRead};
+ghost use Rattle.cord_search.specs.inner.Pieces.{IsReadable, IsOrderOf, sign_of};
+ghost use Rattle.cord_search.specs.inner.Searches.{IsRead};
 
 use crate::shared_parts::{Ahead, Way, look_ahead};
 use crate::span_order::order_of_spans;
@@ -65,15 +65,11 @@ pub(crate) fn compare<'a, S: Source>(
     right: u64,
     src: &mut S,
 ) -> Result<Ordering, ReadFault>
-    requires left_sound { IsCord x.now }
-    requires right_sound { IsCord y.now }
+    requires left { IsReadable (S.lengths src.old) x.now }
+    requires right { IsReadable (S.lengths src.old) y.now }
     requires left_inside { 0 < left → i + left ≤ text_len x.now }
     requires right_inside { 0 < right → j + right ≤ text_len y.now }
-    requires left_fits { CordFitsIn (S.lengths src.old) x.now }
-    requires right_fits { CordFitsIn (S.lengths src.old) y.now }
-    ensures order { (file_system : FileSystem) → S.consistent src.new file_system →
-        IfOk result (IsOrderOf (S.table src.old file_system) x.now i left y.now j right) }
-    ensures read { HasRead ⟦<S as Source>⟧ src.old src.new result }
+    ensures { IsRead ⟦<S as Source>⟧ src.old src.new result (λ t. IsOrderOf t x.now i left y.now j right) }
 {
     let (mut way, mut other_way) = (Way::new(), Way::new());
     let both = left.min(right);

@@ -1,10 +1,9 @@
 // Texts that repeat themselves, and the places that a search passes over by that.
-ghost use Rattle.std.specs.Prelude.{◌≡◌, ◌≢◌, ◌+◌, ◌<◌, ◌≤◌, length, take, slice_index, IfOk, IfSome};
-ghost use Rattle.cord_io.specs.Device.{FileSystem};
-ghost use Rattle.cord_core.specs.Cord.{text_len, bytes_of, IsCord, CordFitsIn};
-ghost use Rattle.cord_search.specs.inner.Pieces.{StandsNot};
+ghost use Rattle.std.specs.Prelude.{◌≡◌, ◌≢◌, ◌+◌, ◌<◌, ◌≤◌, length, take, slice_index, IfSome};
+ghost use Rattle.cord_core.specs.Cord.{text_len, bytes_of};
+ghost use Rattle.cord_search.specs.inner.Pieces.{IsReadable, StandsNot};
 ghost use Rattle.cord_search.specs.inner.Periods.{IsCommon, HasPeriods};
-ghost use Rattle.cord_search.specs.inner.Searches.{HasRead};
+ghost use Rattle.cord_search.specs.inner.Searches.{OverTables, IsAnswer};
 
 use crate::PIECE_LEN;
 use crate::pieces::first_piece;
@@ -27,14 +26,11 @@ pub(crate) fn repeats_of<S: Source>(
     prefix: &[u8],
     src: &mut S,
 ) -> Result<Option<Repeats>, ReadFault>
-    requires sound { IsCord s.now }
+    requires text { IsReadable (S.lengths src.old) s.now }
     requires some { 0 < length prefix.now }
     requires inside { length prefix.now ≤ text_len s.now }
-    requires fits { CordFitsIn (S.lengths src.old) s.now }
-    ensures period { IfOk result (λ found. IfSome found (λ repeats. repeats.period ≤ text_len s.now)) }
-    ensures repeats { (file_system : FileSystem) → S.consistent src.new file_system →
-        IfOk result (λ found. IfSome found (HasPeriods (S.table src.old file_system) s.now)) }
-    ensures read { HasRead ⟦<S as Source>⟧ src.old src.new result }
+    ensures { IsAnswer ⟦<S as Source>⟧ src.old src.new result (λ found.
+        IfSome found (λ repeats. repeats.period ≤ text_len s.now)) (λ t found. IfSome found (HasPeriods t s.now)) }
 {
     let Some(found) = memmem::find(&prefix[1..], &prefix[..prefix.len() / 2]) else {
         return Ok(None);
@@ -54,20 +50,13 @@ pub(crate) fn passed<S: Source>(
     repeats: Option<Repeats>,
     src: &mut S,
 ) -> Result<u64, ReadFault>
-    requires sound { IsCord x.now }
-    requires pattern_sound { IsCord s.now }
+    requires text { IsReadable (S.lengths src.old) x.now }
+    requires pattern { IsReadable (S.lengths src.old) s.now }
     requires inside { place + text_len s.now ≤ text_len x.now }
-    requires fits { CordFitsIn (S.lengths src.old) x.now }
-    requires pattern_fits { CordFitsIn (S.lengths src.old) s.now }
     requires period { IfSome repeats (λ r. r.period ≤ text_len s.now) }
-    requires repeats { (file_system : FileSystem) → S.consistent src.old file_system →
-        IfSome repeats (HasPeriods (S.table src.old file_system) s.now) }
-    ensures some { IfOk result (λ n. 0 < n) }
-    ensures most { IfOk result (λ n. n ≤ text_len x.now + 1) }
-    ensures none { (file_system : FileSystem) → S.consistent src.new file_system → IfOk result (λ n.
-        StandsNot (S.table src.old file_system) x.now (bytes_of (S.table src.old file_system) s.now) (place + 1)
-        (place + n)) }
-    ensures read { HasRead ⟦<S as Source>⟧ src.old src.new result }
+    requires repeats { OverTables ⟦<S as Source>⟧ src.old src.old (λ t. IfSome repeats (HasPeriods t s.now)) }
+    ensures { IsAnswer ⟦<S as Source>⟧ src.old src.new result (λ n. (0 < n) × (n ≤ text_len x.now + 1)) (λ t n.
+        StandsNot t x.now (bytes_of t s.now) (place + 1) (place + n)) }
 {
     let (len, pattern_len) = (x.len(), s.len());
     let Some(repeated) = repeats else {
@@ -96,16 +85,12 @@ fn common_len<'a, S: Source>(
     most: u64,
     src: &mut S,
 ) -> Result<u64, ReadFault>
-    requires left_sound { IsCord x.now }
-    requires right_sound { IsCord y.now }
+    requires left { IsReadable (S.lengths src.old) x.now }
+    requires right { IsReadable (S.lengths src.old) y.now }
     requires left_inside { i + most ≤ text_len x.now }
     requires right_inside { j + most ≤ text_len y.now }
-    requires left_fits { CordFitsIn (S.lengths src.old) x.now }
-    requires right_fits { CordFitsIn (S.lengths src.old) y.now }
-    ensures most { IfOk result (λ n. n ≤ most) }
-    ensures common { (file_system : FileSystem) → S.consistent src.new file_system →
-        IfOk result (IsCommon (S.table src.old file_system) x.now i y.now j most) }
-    ensures read { HasRead ⟦<S as Source>⟧ src.old src.new result }
+    ensures { IsAnswer ⟦<S as Source>⟧ src.old src.new result (λ n. n ≤ most)
+        (λ t. IsCommon t x.now i y.now j most) }
 {
     let (mut buffer, mut other_buffer) = ([0; PIECE_LEN], [0; PIECE_LEN]);
     let (mut way, mut other_way) = (Way::new(), Way::new());

@@ -1,11 +1,10 @@
 // Texts in pieces: slices of leaves as they are, runs and function parts through a buffer.
-ghost use Rattle.std.specs.Prelude.{◌≡◌, ◌+◌, ◌-◌, ◌<◌, ◌≤◌, length, IfOk, IsSome, OnOk};
-ghost use Rattle.cord_io.specs.Device.{FileSystem};
-ghost use Rattle.cord_core.specs.Cord.{text_len, IsCord, CordFitsIn};
-ghost use Rattle.cord_search.specs.inner.Pieces.{IsPieceOf};
+ghost use Rattle.std.specs.Prelude.{◌+◌, ◌-◌, ◌<◌, ◌≤◌, length, IsSome};
+ghost use Rattle.cord_core.specs.Cord.{text_len, CordFitsIn};
+ghost use Rattle.cord_search.specs.inner.Pieces.{IsReadable, IsPieceOf};
 ghost use Rattle.cord_pos.specs.Spans.{span_len, SpanFitsIn, IsSpanOf};
-ghost use Rattle.cord_search.specs.inner.Spans.{IsPartOf};
-ghost use Rattle.cord_search.specs.inner.Searches.{HasRead};
+ghost use Rattle.cord_search.specs.inner.Spans.{IsPartOf, IsSomeOf, StandsIn};
+ghost use Rattle.cord_search.specs.inner.Searches.{IsAnswer, IsRead};
 
 use crate::PIECE_LEN;
 use crate::spans::{cord_span_at, span_from};
@@ -26,20 +25,16 @@ pub(crate) fn window_at<'a, S: Source>(
     room: &'a mut [u8],
     src: &mut S,
 ) -> Result<&'a [u8], ReadFault>
-    requires sound { IsCord position.old.cord }
+    requires text { IsReadable (S.lengths src.old) position.old.cord }
     requires span { IsSpanOf position.old.cord place span }
     requires valid { IsSome position.old.index }
     requires most { count ≤ length room.old }
     requires inside { place + count ≤ end }
     requires within { end ≤ text_len position.old.cord }
-    requires fits { CordFitsIn (S.lengths src.old) position.old.cord }
-    ensures enough { IfOk result (λ window. count ≤ length window.now) }
-    ensures inside { IfOk result (λ window. place + length window.now ≤ end) }
-    ensures text { (file_system : FileSystem) → S.consistent src.new file_system →
-        IfOk result (λ window. IsPieceOf (S.table src.old file_system) position.old.cord place window.now) }
-    ensures cord { position.new.cord ≡ position.old.cord }
-    ensures valid { IsSome position.new.index }
-    ensures read { HasRead ⟦<S as Source>⟧ src.old src.new result }
+    ensures window { IsAnswer ⟦<S as Source>⟧ src.old src.new result (λ window.
+        (count ≤ length window.now) × (place + length window.now ≤ end))
+        (λ t window. IsPieceOf t position.old.cord place window.now) }
+    ensures moved { StandsIn position.old.cord position.new }
 {
     let left = end - place;
     if let Span::Bytes(bytes) = span {
@@ -65,9 +60,7 @@ pub(crate) fn gather<S: Source>(
     requires some { 0 < length out.old }
     requires inside { place + length out.old ≤ text_len cord.now }
     requires fits { CordFitsIn (S.lengths src.old) cord.now }
-    ensures text { (file_system : FileSystem) → S.consistent src.new file_system →
-        OnOk result (IsPieceOf (S.table src.old file_system) cord.now place out.new) }
-    ensures read { HasRead ⟦<S as Source>⟧ src.old src.new result }
+    ensures { IsRead ⟦<S as Source>⟧ src.old src.new result (λ t _. IsPieceOf t cord.now place out.new) }
 {
     let span = cord_span_at(cord, place);
     if out.len() as u64 <= span.len() {
@@ -86,15 +79,12 @@ fn gather_by<S: Source>(
     out: &mut [u8],
     src: &mut S,
 ) -> Result<(), ReadFault>
-    requires sound { IsCord position.old.cord }
+    requires text { IsReadable (S.lengths src.old) position.old.cord }
     requires valid { IsSome position.old.index }
     requires inside { place + length out.old ≤ text_len position.old.cord }
-    requires fits { CordFitsIn (S.lengths src.old) position.old.cord }
-    ensures text { (file_system : FileSystem) → S.consistent src.new file_system →
-        OnOk result (IsPieceOf (S.table src.old file_system) position.old.cord place out.new) }
-    ensures cord { position.new.cord ≡ position.old.cord }
-    ensures valid { IsSome position.new.index }
-    ensures read { HasRead ⟦<S as Source>⟧ src.old src.new result }
+    ensures text { IsRead ⟦<S as Source>⟧ src.old src.new result (λ t _.
+        IsPieceOf t position.old.cord place out.new) }
+    ensures moved { StandsIn position.old.cord position.new }
 {
     let mut done = 0;
     while done < out.len() {
@@ -115,9 +105,7 @@ pub(crate) fn copy_prefix<S: Source>(
     requires some { 0 < length out.old }
     requires inside { length out.old ≤ span_len span }
     requires fits { SpanFitsIn (S.lengths src.old) span }
-    ensures text { (file_system : FileSystem) → S.consistent src.new file_system →
-        OnOk result (IsPartOf (S.table src.old file_system) span.entry 0 out.new) }
-    ensures read { HasRead ⟦<S as Source>⟧ src.old src.new result }
+    ensures { IsRead ⟦<S as Source>⟧ src.old src.new result (λ t _. IsPartOf t span.entry 0 out.new) }
 {
     match span {
         Span::Bytes(bytes) => {
@@ -141,11 +129,8 @@ pub(crate) fn first_piece<'a, S: Source>(
 ) -> Result<&'a [u8], ReadFault>
     requires some { 0 < span_len span }
     requires fits { SpanFitsIn (S.lengths src.old) span }
-    ensures some { IfOk result (λ piece. 0 < length piece.now) }
-    ensures inside { IfOk result (λ piece. length piece.now ≤ span_len span.entry) }
-    ensures text { (file_system : FileSystem) → S.consistent src.new file_system →
-        IfOk result (λ piece. IsPartOf (S.table src.old file_system) span.entry 0 piece.now) }
-    ensures read { HasRead ⟦<S as Source>⟧ src.old src.new result }
+    ensures { IsAnswer ⟦<S as Source>⟧ src.old src.new result (λ piece. IsSomeOf span.entry piece.now)
+        (λ t piece. IsPartOf t span.entry 0 piece.now) }
 {
     match span {
         Span::Bytes(bytes) => Ok(bytes),
@@ -170,12 +155,8 @@ pub(crate) fn last_piece<'a, S: Source>(
 ) -> Result<&'a [u8], ReadFault>
     requires some { 0 < span_len span }
     requires fits { SpanFitsIn (S.lengths src.old) span }
-    ensures some { IfOk result (λ piece. 0 < length piece.now) }
-    ensures inside { IfOk result (λ piece. length piece.now ≤ span_len span.entry) }
-    ensures text { (file_system : FileSystem) → S.consistent src.new file_system →
-        IfOk result (λ piece. IsPartOf (S.table src.old file_system) span.entry
-        (span_len span.entry - length piece.now) piece.now) }
-    ensures read { HasRead ⟦<S as Source>⟧ src.old src.new result }
+    ensures { IsAnswer ⟦<S as Source>⟧ src.old src.new result (λ piece. IsSomeOf span.entry piece.now)
+        (λ t piece. IsPartOf t span.entry (span_len span.entry - length piece.now) piece.now) }
 {
     match span {
         Span::Bytes(bytes) => Ok(bytes),

@@ -5,8 +5,8 @@ ghost use Rattle.cord_core.specs.Cord.{text_len};
 ghost use Rattle.cord_node.specs.declared.Node.{Node as Tree};
 ghost use Rattle.cord_node.specs.Tree.{len_of, depth_of, IsSound};
 ghost use Rattle.cord_pos.specs.Spans.{is_part, span_len, IsSpanOf, IsSpanAt};
-ghost use Rattle.cord_pos.specs.inner.Spans.{IsWithin};
-ghost use Rattle.cord_search.specs.inner.SharedParts.{IsSpot, AreOneSpot, IsSpotOf, IsWay, IsCommonAhead};
+ghost use Rattle.cord_search.specs.inner.SharedParts.{IsSpot, AreOneSpot, IsSideOf, IsSpotOf, IsWay, LeadsTo};
+ghost use Rattle.cord_search.specs.inner.SharedParts.{IsCommonAhead};
 
 use crate::spans::begin_alike;
 use arrayvec::ArrayVec;
@@ -102,11 +102,7 @@ impl<'a> Spot<'a> {
     // The same place in the side of a concatenation that holds it.
     fn side(self) -> Option<Spot<'a>>
         requires { IsSpot self }
-        ensures spot { IfSome result (λ side. IsSpot side) }
-        ensures within { IfSome result (λ side.
-            IsWithin self.entry.node.now self.entry.place side.node.now side.place) }
-        ensures shorter { IfSome result (λ side. len_of side.node.now < len_of self.entry.node.now) }
-        ensures lower { IfSome result (λ side. depth_of side.node.now < depth_of self.entry.node.now) }
+        ensures side { IfSome result (IsSideOf self.entry) }
         ensures part { result ≡ None → is_part self.entry.node.now ≡ true }
     {
         let side = side_of(self.node, self.place)?;
@@ -160,11 +156,8 @@ impl<'a> Way<'a> {
         requires low { last.place ≤ at }
         requires room { array_vec_len self.old.stops + depth_of last.node.now ≤ WAY_LEN }
         ensures way { (c : Option Tree) → IsSpotOf c at last.entry → IsWay c self.old → IsWay c self.new }
-        ensures spot { IfSome result (λ side. IsSpot side) }
+        ensures side { IfSome result (IsSideOf last.entry) }
         ensures low { IfSome result (λ side. side.place ≤ at) }
-        ensures within { IfSome result (λ side.
-            IsWithin last.entry.node.now last.entry.place side.node.now side.place) }
-        ensures shorter { IfSome result (λ side. len_of side.node.now < len_of last.entry.node.now) }
         ensures room { IfSome result (λ side. array_vec_len self.new.stops + depth_of side.node.now ≤ WAY_LEN) }
         ensures stays { IfNone result (array_vec_len self.new.stops ≡ array_vec_len self.old.stops) }
         ensures part { result ≡ None → is_part last.entry.node.now ≡ true }
@@ -208,12 +201,8 @@ fn meet<'a>(
     requires right_inside { j < text_len y.now }
     requires left_way { IsWay x.now way.old }
     requires right_way { IsWay y.now other_way.old }
-    ensures left { IsSpotOf x.now i result.0 }
-    ensures right { IsSpotOf y.now j result.1 }
-    ensures left_way { IsWay x.now way.new }
-    ensures right_way { IsWay y.now other_way.new }
-    ensures left_room { array_vec_len way.new.stops + depth_of (result.0).node.now ≤ WAY_LEN }
-    ensures right_room { array_vec_len other_way.new.stops + depth_of (result.1).node.now ≤ WAY_LEN }
+    ensures left { LeadsTo x.now i way.new result.0 }
+    ensures right { LeadsTo y.now j other_way.new result.1 }
 {
     let mut spot = way.climb(x, i);
     let mut other = other_way.climb(y, j);

@@ -1,9 +1,8 @@
 // The order of two spans.
-ghost use Rattle.std.specs.Prelude.{◌≡◌, ◌+◌, ◌<◌, ◌≤◌, length, IfOk};
-ghost use Rattle.cord_io.specs.Device.{FileSystem};
+ghost use Rattle.std.specs.Prelude.{◌≡◌, ◌+◌, ◌<◌, ◌≤◌, length};
 ghost use Rattle.cord_pos.specs.Spans.{span_len, SpanFitsIn};
 ghost use Rattle.cord_search.specs.inner.Spans.{IsPartOf, IsOrderOfSpans};
-ghost use Rattle.cord_search.specs.inner.Searches.{HasRead};
+ghost use Rattle.cord_search.specs.inner.Searches.{IsAnswer, IsRead};
 
 use crate::PIECE_LEN;
 use crate::slices::order_of;
@@ -27,9 +26,7 @@ pub(crate) fn order_of_spans<S: Source>(
     requires len { span_len other ≡ span_len span }
     requires left_fits { SpanFitsIn (S.lengths src.old) span }
     requires right_fits { SpanFitsIn (S.lengths src.old) other }
-    ensures order { (file_system : FileSystem) → S.consistent src.new file_system →
-        IfOk result (IsOrderOfSpans (S.table src.old file_system) span.entry other.entry) }
-    ensures read { HasRead ⟦<S as Source>⟧ src.old src.new result }
+    ensures { IsRead ⟦<S as Source>⟧ src.old src.new result (λ t. IsOrderOfSpans t span.entry other.entry) }
 {
     match (span, other) {
         (Span::Bytes(bytes), Span::Bytes(others)) => Ok(order_of(bytes, others)),
@@ -52,9 +49,7 @@ fn order_by<const N: usize, S: Source>(
     requires len { span_len other ≡ span_len span }
     requires left_fits { SpanFitsIn (S.lengths src.old) span }
     requires right_fits { SpanFitsIn (S.lengths src.old) other }
-    ensures order { (file_system : FileSystem) → S.consistent src.new file_system →
-        IfOk result (IsOrderOfSpans (S.table src.old file_system) span.entry other.entry) }
-    ensures read { HasRead ⟦<S as Source>⟧ src.old src.new result }
+    ensures { IsRead ⟦<S as Source>⟧ src.old src.new result (λ t. IsOrderOfSpans t span.entry other.entry) }
 {
     let (mut buffer, mut other_buffer) = ([0; N], [0; N]);
     let mut done = 0;
@@ -83,10 +78,8 @@ fn part_of<'a, S: Source>(
     requires room { count ≤ length buffer.old }
     requires inside { from + count ≤ span_len span }
     requires fits { SpanFitsIn (S.lengths src.old) span }
-    ensures len { IfOk result (λ piece. length piece.now ≡ count) }
-    ensures text { (file_system : FileSystem) → S.consistent src.new file_system →
-        IfOk result (λ piece. IsPartOf (S.table src.old file_system) span.entry from piece.now) }
-    ensures read { HasRead ⟦<S as Source>⟧ src.old src.new result }
+    ensures { IsAnswer ⟦<S as Source>⟧ src.old src.new result (λ piece. length piece.now ≡ count)
+        (λ t piece. IsPartOf t span.entry from piece.now) }
 {
     match span {
         Span::Bytes(bytes) => Ok(&bytes[from as usize..from as usize + count]),

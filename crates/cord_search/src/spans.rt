@@ -1,8 +1,9 @@
 // Spans of a node's text: what lies in one part, from a place on or up to a place.
-ghost use Rattle.std.specs.Prelude.{◌≡◌, ◌≢◌, ◌-◌, ◌<◌, ◌≤◌, length, slice_index, true, is_some, IsSome, IfSome};
+ghost use Rattle.std.specs.Prelude.{◌≡◌, ◌≢◌, ◌+◌, ◌<◌, ◌≤◌, length, slice_index, true, is_some, IsSome, IfSome};
 ghost use Rattle.cord_core.specs.Cord.{text_len};
-ghost use Rattle.cord_pos.specs.Spans.{span_len, IsSpanPrefix, IsSpanOf, EndsAt};
-ghost use Rattle.cord_search.specs.inner.Spans.{is_other_run, IsWithout, IsMisfit, BeginAlike};
+ghost use Rattle.cord_pos.specs.Spans.{span_len, IsSpanOf};
+ghost use Rattle.cord_search.specs.inner.Spans.{is_other_run, IsRunWithout, IsMisfit, BeginAlike};
+ghost use Rattle.cord_search.specs.inner.Spans.{IsBlockOf, IsSpanUpTo, StandsIn};
 
 use crate::PIECE_LEN;
 use crate::shared_parts::Spot;
@@ -12,8 +13,7 @@ use cord_pos::{Position, Span};
 /// The length of a run of another byte.
 pub(crate) fn run_without(span: Span, wanted: u8) -> Option<u64>
     ensures found { is_some result ≡ is_other_run span.entry wanted }
-    ensures len { IfSome result (λ count. count ≡ span_len span.entry) }
-    ensures without { IfSome result (λ count. IsWithout span.entry wanted) }
+    ensures run { IfSome result (IsRunWithout span.entry wanted) }
 {
     match span {
         Span::Run { byte, len } if byte != wanted => Some(len),
@@ -81,7 +81,7 @@ pub fn cord_span_at(cord: &Cord, place: u64) -> Span
 /// What a part of a cord's text has up to a place, with the byte there.
 pub(crate) fn cord_span_to(cord: &Cord, at: u64) -> Span
     requires { at < text_len cord.now }
-    ensures { EndsAt cord.now at result }
+    ensures { IsSpanUpTo cord.now (at + 1) result }
 {
     let part = Spot::of_part(cord, at);
     part.span(0, part.place + 1)
@@ -93,8 +93,7 @@ pub(crate) fn span_from<'a>(position: &mut Position<'a>, place: u64) -> Span<'a>
     requires valid { IsSome position.old.index }
     requires inside { place < text_len position.old.cord }
     ensures span { IsSpanOf position.old.cord place result }
-    ensures cord { position.new.cord ≡ position.old.cord }
-    ensures valid { IsSome position.new.index }
+    ensures moved { StandsIn position.old.cord position.new }
 {
     position.move_to(place);
     let Some(span) = position.ahead() else {
@@ -108,10 +107,8 @@ pub(crate) fn span_up_to<'a>(position: &mut Position<'a>, end: u64) -> Span<'a>
     requires valid { IsSome position.old.index }
     requires some { 0 < end }
     requires inside { end ≤ text_len position.old.cord }
-    ensures inside { span_len result ≤ end }
-    ensures span { IsSpanOf position.old.cord (end - span_len result) result }
-    ensures cord { position.new.cord ≡ position.old.cord }
-    ensures valid { IsSome position.new.index }
+    ensures span { IsSpanUpTo position.old.cord end result }
+    ensures moved { StandsIn position.old.cord position.new }
 {
     position.move_to(end - 1);
     let Some(span) = position.behind() else {
@@ -124,9 +121,7 @@ pub(crate) fn span_up_to<'a>(position: &mut Position<'a>, end: u64) -> Span<'a>
 /// of it.
 pub(crate) fn in_block(span: Span) -> Span
     requires some { 0 < span_len span }
-    ensures some { 0 < span_len result }
-    ensures few { span_len result ≤ span_len span.entry }
-    ensures prefix { IsSpanPrefix span.entry (span_len result) result }
+    ensures { IsBlockOf span.entry result }
 {
     span.up_to(block_len(span))
 }

@@ -2,11 +2,11 @@
 ghost use Rattle.std.specs.Prelude.{◌≡◌, ◌+◌, ◌<◌, ◌≤◌, length, take, true, false, is_err, IfOk, IfErr, IfSome};
 ghost use Rattle.cord_io.specs.Device.{FileSystem, count_after};
 ghost use Rattle.cord_io.specs.Frames.{LeavesSource};
-ghost use Rattle.cord_core.specs.Cord.{text_len, bytes_of, IsCord, CordFitsIn};
+ghost use Rattle.cord_core.specs.Cord.{text_len, bytes_of, CordFitsIn};
 ghost use Rattle.cord_core.specs.Texts.{first};
-ghost use Rattle.cord_search.specs.inner.Pieces.{IsPieceOf, IsStanding, StandsNot};
+ghost use Rattle.cord_search.specs.inner.Pieces.{IsReadable, IsPieceOf, IsStanding, StandsNot};
 ghost use Rattle.cord_search.specs.inner.Periods.{HasPeriods};
-ghost use Rattle.cord_search.specs.inner.Searches.{FindsBytesIn, FindsText, HasRead};
+ghost use Rattle.cord_search.specs.inner.Searches.{OverTables, IsRead, FindsBytesIn, FindsText};
 
 use crate::PIECE_LEN;
 use crate::order::compare;
@@ -165,17 +165,12 @@ pub(crate) fn first_place<S: Source>(
     s: &Cord,
     src: &mut S,
 ) -> Result<Option<u64>, ReadFault>
-    requires sound { IsCord x.now }
-    requires pattern_sound { IsCord s.now }
+    requires text { IsReadable (S.lengths src.old) x.now }
+    requires pattern { IsReadable (S.lengths src.old) s.now }
     requires some { 0 < text_len s.now }
     requires inside { start + text_len s.now ≤ end }
     requires end { end ≤ text_len x.now }
-    requires fits { CordFitsIn (S.lengths src.old) x.now }
-    requires pattern_fits { CordFitsIn (S.lengths src.old) s.now }
-    ensures first { FindsText ⟦<S as Source>⟧ src.old src.new x.now start end s.now result }
-    ensures from { IfOk result (λ found. IfSome found (λ place. start ≤ place)) }
-    ensures within { IfOk result (λ found. IfSome found (λ place. place + text_len s.now ≤ end)) }
-    ensures read { HasRead ⟦<S as Source>⟧ src.old src.new result }
+    ensures { FindsText ⟦<S as Source>⟧ src.old src.new x.now start end s.now result }
 {
     let len = s.len();
     if len <= PIECE_LEN as u64 {
@@ -195,15 +190,11 @@ fn first_place_of_bytes<S: Source>(
     bytes: &[u8],
     src: &mut S,
 ) -> Result<Option<u64>, ReadFault>
-    requires sound { IsCord x.now }
+    requires text { IsReadable (S.lengths src.old) x.now }
     requires some { 0 < length bytes.now }
     requires few { length bytes.now ≤ MOST_BYTES }
     requires end { end ≤ text_len x.now }
-    requires fits { CordFitsIn (S.lengths src.old) x.now }
-    ensures first { FindsBytesIn ⟦<S as Source>⟧ src.old src.new x.now start end bytes.now result }
-    ensures from { IfOk result (λ found. IfSome found (λ place. start ≤ place)) }
-    ensures within { IfOk result (λ found. IfSome found (λ place. place + length bytes.now ≤ end)) }
-    ensures read { HasRead ⟦<S as Source>⟧ src.old src.new result }
+    ensures { FindsBytesIn ⟦<S as Source>⟧ src.old src.new x.now start end bytes.now result }
 {
     if bytes.len() <= PIECE_LEN {
         place_of_bytes::<ROOM_LEN, S>(x, start, end, bytes, src)
@@ -222,19 +213,14 @@ fn place_of_short<const N: usize, const M: usize, S: Source>(
     s: &Cord,
     src: &mut S,
 ) -> Result<Option<u64>, ReadFault>
-    requires sound { IsCord x.now }
-    requires pattern_sound { IsCord s.now }
+    requires text { IsReadable (S.lengths src.old) x.now }
+    requires pattern { IsReadable (S.lengths src.old) s.now }
     requires some { 0 < text_len s.now }
     requires short { text_len s.now ≤ N }
     requires room { N ≤ M }
     requires few { M ≤ WINDOW_LEN }
     requires end { end ≤ text_len x.now }
-    requires fits { CordFitsIn (S.lengths src.old) x.now }
-    requires pattern_fits { CordFitsIn (S.lengths src.old) s.now }
-    ensures first { FindsText ⟦<S as Source>⟧ src.old src.new x.now start end s.now result }
-    ensures from { IfOk result (λ found. IfSome found (λ place. start ≤ place)) }
-    ensures within { IfOk result (λ found. IfSome found (λ place. place + text_len s.now ≤ end)) }
-    ensures read { HasRead ⟦<S as Source>⟧ src.old src.new result }
+    ensures { FindsText ⟦<S as Source>⟧ src.old src.new x.now start end s.now result }
 {
     let mut prefix = [0; N];
     let pattern = &mut prefix[..s.len() as usize];
@@ -254,16 +240,12 @@ fn place_of_bytes<const M: usize, S: Source>(
     bytes: &[u8],
     src: &mut S,
 ) -> Result<Option<u64>, ReadFault>
-    requires sound { IsCord x.now }
+    requires text { IsReadable (S.lengths src.old) x.now }
     requires some { 0 < length bytes.now }
     requires room { length bytes.now ≤ M }
     requires few { M ≤ WINDOW_LEN }
     requires end { end ≤ text_len x.now }
-    requires fits { CordFitsIn (S.lengths src.old) x.now }
-    ensures first { FindsBytesIn ⟦<S as Source>⟧ src.old src.new x.now start end bytes.now result }
-    ensures from { IfOk result (λ found. IfSome found (λ place. start ≤ place)) }
-    ensures within { IfOk result (λ found. IfSome found (λ place. place + length bytes.now ≤ end)) }
-    ensures read { HasRead ⟦<S as Source>⟧ src.old src.new result }
+    ensures { FindsBytesIn ⟦<S as Source>⟧ src.old src.new x.now start end bytes.now result }
 {
     let finder = Finder::new(bytes);
     let mut room = [0; M];
@@ -279,17 +261,12 @@ fn place_of_long<S: Source>(
     s: &Cord,
     src: &mut S,
 ) -> Result<Option<u64>, ReadFault>
-    requires sound { IsCord x.now }
-    requires pattern_sound { IsCord s.now }
+    requires text { IsReadable (S.lengths src.old) x.now }
+    requires pattern { IsReadable (S.lengths src.old) s.now }
     requires long { PREFIX_LEN ≤ text_len s.now }
     requires inside { start + text_len s.now ≤ end }
     requires end { end ≤ text_len x.now }
-    requires fits { CordFitsIn (S.lengths src.old) x.now }
-    requires pattern_fits { CordFitsIn (S.lengths src.old) s.now }
-    ensures first { FindsText ⟦<S as Source>⟧ src.old src.new x.now start end s.now result }
-    ensures from { IfOk result (λ found. IfSome found (λ place. start ≤ place)) }
-    ensures within { IfOk result (λ found. IfSome found (λ place. place + text_len s.now ≤ end)) }
-    ensures read { HasRead ⟦<S as Source>⟧ src.old src.new result }
+    ensures { FindsText ⟦<S as Source>⟧ src.old src.new x.now start end s.now result }
 {
     let mut prefix = [0; PREFIX_LEN];
     gather(s, 0, &mut prefix, src)?;
@@ -312,23 +289,16 @@ fn first_confirmed<S: Source>(
     room: &mut [u8],
     src: &mut S,
 ) -> Result<Option<u64>, ReadFault>
-    requires sound { IsCord x.now }
-    requires pattern_sound { IsCord s.now }
+    requires text { IsReadable (S.lengths src.old) x.now }
+    requires pattern { IsReadable (S.lengths src.old) s.now }
     requires inside { start + text_len s.now ≤ end }
     requires end { end ≤ text_len x.now }
     requires some { 0 < length prefix.now }
     requires room { length prefix.now ≤ length room.old }
-    requires prefix { (file_system : FileSystem) → S.consistent src.old file_system → IsPieceOf
-        (S.table src.old file_system) s.now 0 prefix.now }
+    requires prefix { OverTables ⟦<S as Source>⟧ src.old src.old (λ t. IsPieceOf t s.now 0 prefix.now) }
     requires period { IfSome repeats (λ r. r.period ≤ text_len s.now) }
-    requires repeats { (file_system : FileSystem) → S.consistent src.old file_system →
-        IfSome repeats (HasPeriods (S.table src.old file_system) s.now) }
-    requires fits { CordFitsIn (S.lengths src.old) x.now }
-    requires pattern_fits { CordFitsIn (S.lengths src.old) s.now }
-    ensures first { FindsText ⟦<S as Source>⟧ src.old src.new x.now start end s.now result }
-    ensures from { IfOk result (λ found. IfSome found (λ place. start ≤ place)) }
-    ensures within { IfOk result (λ found. IfSome found (λ place. place + text_len s.now ≤ end)) }
-    ensures read { HasRead ⟦<S as Source>⟧ src.old src.new result }
+    requires repeats { OverTables ⟦<S as Source>⟧ src.old src.old (λ t. IfSome repeats (HasPeriods t s.now)) }
+    ensures { FindsText ⟦<S as Source>⟧ src.old src.new x.now start end s.now result }
 {
     let last = end - s.len();
     let mut place = start;
@@ -358,15 +328,11 @@ fn first_of<S: Source>(
     room: &mut [u8],
     src: &mut S,
 ) -> Result<Option<u64>, ReadFault>
-    requires sound { IsCord x.now }
+    requires text { IsReadable (S.lengths src.old) x.now }
     requires some { 0 < length finder.now }
     requires room { length finder.now ≤ length room.old }
     requires end { end ≤ text_len x.now }
-    requires fits { CordFitsIn (S.lengths src.old) x.now }
-    ensures first { FindsBytesIn ⟦<S as Source>⟧ src.old src.new x.now start end finder.now result }
-    ensures from { IfOk result (λ found. IfSome found (λ place. start ≤ place)) }
-    ensures within { IfOk result (λ found. IfSome found (λ place. place + length finder.now ≤ end)) }
-    ensures read { HasRead ⟦<S as Source>⟧ src.old src.new result }
+    ensures { FindsBytesIn ⟦<S as Source>⟧ src.old src.new x.now start end finder.now result }
 {
     let head = finder.needle();
     if !lies_inside(start, head.len() as u64, end) {
@@ -408,13 +374,9 @@ fn first_at_or_after<S: Source>(
     requires low { start ≤ after }
     requires inside { start < text_len x.now }
     requires end { end ≤ text_len x.now }
-    requires none { (file_system : FileSystem) → S.consistent src.old file_system →
-        StandsNot (S.table src.old file_system) x.now finder.now start after }
+    requires none { OverTables ⟦<S as Source>⟧ src.old src.old (λ t. StandsNot t x.now finder.now start after) }
     requires fits { CordFitsIn (S.lengths src.old) x.now }
-    ensures first { FindsBytesIn ⟦<S as Source>⟧ src.old src.new x.now start end finder.now result }
-    ensures from { IfOk result (λ found. IfSome found (λ place. start ≤ place)) }
-    ensures within { IfOk result (λ found. IfSome found (λ place. place + length finder.now ≤ end)) }
-    ensures read { HasRead ⟦<S as Source>⟧ src.old src.new result }
+    ensures { FindsBytesIn ⟦<S as Source>⟧ src.old src.new x.now start end finder.now result }
 {
     let head = finder.needle();
     let mut place = after;
@@ -448,14 +410,10 @@ fn first_at_or_after<S: Source>(
 
 // Whether a text stands in another at a place.
 fn stands_at<S: Source>(x: &Cord, place: u64, s: &Cord, src: &mut S) -> Result<bool, ReadFault>
-    requires sound { IsCord x.now }
-    requires pattern_sound { IsCord s.now }
+    requires text { IsReadable (S.lengths src.old) x.now }
+    requires pattern { IsReadable (S.lengths src.old) s.now }
     requires inside { place + text_len s.now ≤ text_len x.now }
-    requires fits { CordFitsIn (S.lengths src.old) x.now }
-    requires pattern_fits { CordFitsIn (S.lengths src.old) s.now }
-    ensures stands { (file_system : FileSystem) → S.consistent src.new file_system →
-        IfOk result (IsStanding (S.table src.old file_system) x.now place s.now) }
-    ensures read { HasRead ⟦<S as Source>⟧ src.old src.new result }
+    ensures { IsRead ⟦<S as Source>⟧ src.old src.new result (λ t. IsStanding t x.now place s.now) }
 {
     Ok(compare(x, place, s.len(), s, 0, s.len(), src)?.is_eq())
 }

@@ -4,10 +4,15 @@ use Rattle.std.specs.Ordering.{nat_cmp}
 use Rattle.std.specs.Cmp.Lexicographic.{slice_cmp}
 use Rattle.std.specs.declared.cmp.Ordering.{Ordering}
 use Rattle.std.specs.declared.cmp.Ordering.TheVariants.{Less, Equal, Greater}
-use Rattle.cord_io.specs.Table.{Table}
+use Rattle.cord_io.specs.Table.{Table, Lengths}
 use Rattle.cord_node.specs.declared.Node.{Node}
-use Rattle.cord_core.specs.Cord.{bytes_of}
+use Rattle.cord_core.specs.Cord.{bytes_of, IsCord, CordFitsIn}
 use Rattle.cord_core.specs.Texts.{StandsAt}
+
+-- the cord is sound, and its function parts lie inside sources of these lengths
+pub record IsReadable (lengths : Lengths) (c : Option Node) : Type 0 where
+  pub sound : IsCord c
+  pub fits : CordFitsIn lengths c
 
 -- the bytes stand in the cord's text from the place on
 abbrev pub IsPieceOf : Table → Option Node → ℕ → List ℕ → Type 0

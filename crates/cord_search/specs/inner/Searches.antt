@@ -1,9 +1,10 @@
 -- What a search finds, and what reading for it leaves of a source.
-use Rattle.std.specs.Prelude.{◌≡◌, ℕ, List, take, Option, Result, is_err, IfOk}
+use Rattle.std.specs.Prelude.{◌≡◌, ℕ, ◌+◌, ◌<◌, ◌≤◌, [], ◌∷◌, List, length, take, Option, Result, is_err, IfOk, IfSome, ⊤}
 use Rattle.cord_io.specs.Device.{FileSystem, count_after}
+use Rattle.cord_io.specs.Table.{Table}
 use Rattle.cord_io.specs.declared.sources.Source.{Ghosts}
 use Rattle.cord_node.specs.declared.Node.{Node}
-use Rattle.cord_core.specs.Cord.{bytes_of}
+use Rattle.cord_core.specs.Cord.{text_len, bytes_of}
 use Rattle.cord_core.specs.Texts.{first, last}
 use Rattle.cord_search.specs.LastTexts.{last_below}
 
@@ -22,29 +23,47 @@ pub record WasRead {S : Type 0} (s : Ghosts S) (old new : S) : Type 0 where
   pub table : s.table new ≡ s.table old
   pub earlier : (file_system : FileSystem) → s.consistent new file_system → s.consistent old file_system
 
--- the answer is the first place at `from` or later where the bytes stand in the text of x, over the tables of the source
-abbrev pub FindsBytes : {S E : Type 0} → Ghosts S → S → S → Option Node → ℕ → List ℕ → Result (Option ℕ) E → Type 0
-FindsBytes s old new x from bytes result = (file_system : FileSystem) → s.consistent new file_system →
-    IfOk result (λ place. place ≡ first (bytes_of (s.table old file_system) x) from bytes)
+-- P holds over the tables that an old source has for the file systems with which a new one agrees
+abbrev pub OverTables : {S : Type 0} → Ghosts S → S → S → (Table → Type 0) → Type 0
+OverTables s old new P = (file_system : FileSystem) → s.consistent new file_system → P (s.table old file_system)
 
--- the same in the first `end` bytes of the text
+-- a source was read for an answer: Q holds of it whatever was read, and P over those tables
+pub record IsAnswer {S A E : Type 0} (s : Ghosts S) (old new : S) (result : Result A E) (Q : A → Type 0) (P : Table → A → Type 0) : Type 0 where
+  pub always : IfOk result Q
+  pub text : OverTables s old new (λ t. IfOk result (P t))
+  pub read : HasRead s old new result
+
+-- the same where nothing holds whatever was read
+abbrev pub IsRead : {S A E : Type 0} → Ghosts S → S → S → Result A E → (Table → A → Type 0) → Type 0
+IsRead s old new result P = IsAnswer s old new result (λ _. ⊤) P
+
+-- a place that was found is `start` or later, and at least n bytes before `end`
+pub record IsPlace (start n end : ℕ) (found : Option ℕ) : Type 0 where
+  pub from : IfSome found (λ place. start ≤ place)
+  pub within : IfSome found (λ place. place + n ≤ end)
+
+-- the answer is the first place at `from` or later of the byte c in the text of x
+abbrev pub FindsByte : {S E : Type 0} → Ghosts S → S → S → Option Node → ℕ → ℕ → Result (Option ℕ) E → Type 0
+FindsByte s old new x from c result = IsAnswer s old new result
+    (λ found. IfSome found (λ place. from ≤ place) × IfSome found (λ place. place < text_len x))
+    (λ t found. found ≡ first (bytes_of t x) from (c ∷ []))
+
+-- the first place where the bytes stand, in the first `end` bytes of the text
 abbrev pub FindsBytesIn : {S E : Type 0} → Ghosts S → S → S → Option Node → ℕ → ℕ → List ℕ → Result (Option ℕ) E → Type 0
-FindsBytesIn s old new x from end bytes result = (file_system : FileSystem) → s.consistent new file_system →
-    IfOk result (λ place. place ≡ first (take end (bytes_of (s.table old file_system) x)) from bytes)
+FindsBytesIn s old new x from end bytes result = IsAnswer s old new result (IsPlace from (length bytes) end)
+    (λ t found. found ≡ first (take end (bytes_of t x)) from bytes)
 
--- and of the text of another cord
+-- and where the text of another cord stands
 abbrev pub FindsText : {S E : Type 0} → Ghosts S → S → S → Option Node → ℕ → ℕ → Option Node → Result (Option ℕ) E → Type 0
-FindsText s old new x from end text result = (file_system : FileSystem) → s.consistent new file_system →
-    IfOk result (λ place.
-    place ≡ first (take end (bytes_of (s.table old file_system) x)) from (bytes_of (s.table old file_system) text))
+FindsText s old new x from end text result = IsAnswer s old new result (IsPlace from (text_len text) end)
+    (λ t found. found ≡ first (take end (bytes_of t x)) from (bytes_of t text))
 
 -- the answer is the last place at `at` or earlier that has the byte c
 abbrev pub FindsLast : {S E : Type 0} → Ghosts S → S → S → Option Node → ℕ → ℕ → Result (Option ℕ) E → Type 0
-FindsLast s old new x at c result = (file_system : FileSystem) → s.consistent new file_system →
-    IfOk result (λ place. place ≡ last (bytes_of (s.table old file_system) x) at c)
+FindsLast s old new x at c result = IsAnswer s old new result (λ found. IfSome found (λ place. place ≤ at))
+    (λ t found. found ≡ last (bytes_of t x) at c)
 
 -- the answer is the last place below n where the text of the other cord stands
 abbrev pub FindsLastText : {S E : Type 0} → Ghosts S → S → S → Option Node → ℕ → Option Node → Result (Option ℕ) E → Type 0
-FindsLastText s old new x n text result = (file_system : FileSystem) → s.consistent new file_system →
-    IfOk result (λ place.
-    place ≡ last_below (bytes_of (s.table old file_system) x) (bytes_of (s.table old file_system) text) n)
+FindsLastText s old new x n text result = IsAnswer s old new result (λ found. IfSome found (λ place. place < n))
+    (λ t found. found ≡ last_below (bytes_of t x) (bytes_of t text) n)

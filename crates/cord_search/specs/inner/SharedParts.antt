@@ -1,5 +1,6 @@
 -- Places of nodes, the ways to them, and what two texts have at two places.
 use Rattle.std.specs.Prelude.{◌≡◌, ℕ, ◌+◌, ◌<◌, ◌≤◌, take, drop, Option, Some, IfSome, slice_get}
+use Rattle.arrayvec.specs.ArrayVec.{array_vec_len}
 use Rattle.cord_io.specs.Table.{Table}
 use Rattle.cord_io.specs.declared.TheConstants.{MAX_DEPTH}
 use Rattle.cord_node.specs.declared.Node.{Node}
@@ -7,6 +8,7 @@ use Rattle.cord_node.specs.Tree.{cells, len_of, depth_of, IsSound}
 use Rattle.cord_core.specs.Cord.{bytes_of, CordFits}
 use Rattle.cord_pos.specs.Spans.{span_len, IsSpanOf}
 use Rattle.cord_pos.specs.inner.Spans.{IsWithin}
+use Rattle.cord_search.specs.declared.shared_parts.TheConstants.{WAY_LEN}
 use Rattle.cord_search.specs.declared.shared_parts.Spot.{Spot}
 use Rattle.cord_search.specs.declared.shared_parts.Stop.{Stop}
 use Rattle.cord_search.specs.declared.shared_parts.Way.{Way}
@@ -20,6 +22,13 @@ IsSpot s = IsSound s.node.now × (s.place < len_of s.node.now)
 -- one place of two nodes that have one text
 abbrev pub AreOneSpot : Spot → Spot → Type 0
 AreOneSpot s other = (s.place ≡ other.place) × (len_of s.node.now ≡ len_of other.node.now) × (cells s.node.now ≡ cells other.node.now)
+
+-- the same place in a side of the node
+pub record IsSideOf (s side : Spot) : Type 0 where
+  pub spot : IsSpot side
+  pub within : IsWithin s.node.now s.place side.node.now side.place
+  pub shorter : len_of side.node.now < len_of s.node.now
+  pub lower : depth_of side.node.now < depth_of s.node.now
 
 -- the place of the cord is this one of a node of it
 pub record IsSpotOf (c : Option Node) (at : ℕ) (s : Spot) : Type 0 where
@@ -38,6 +47,12 @@ pub record IsStop (c : Option Node) (k : ℕ) (s : Stop) : Type 0 where
 -- each node on the way is one of the cord's
 abbrev pub IsWay : Option Node → Way → Type 0
 IsWay c w = (k : ℕ) → IfSome (slice_get w.stops.items k) (λ o. IfSome o (IsStop c k))
+
+-- the way leads to this place of the cord, and has room down to a part
+pub record LeadsTo (c : Option Node) (at : ℕ) (w : Way) (s : Spot) : Type 0 where
+  pub spot : IsSpotOf c at s
+  pub way : IsWay c w
+  pub room : array_vec_len w.stops + depth_of s.node.now ≤ WAY_LEN
 
 -- the next n bytes of two cords from two places are the same
 abbrev pub AreAlike : Option Node → ℕ → Option Node → ℕ → ℕ → Type 0

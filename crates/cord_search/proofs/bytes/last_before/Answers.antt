@@ -1,100 +1,85 @@
-use Rattle.std.proofs.Common.{◌≡◌, ◌+◌, ◌-◌, ◌≤◌, ◌∙◌, length, arith}
-use Rattle.cord_pos.specs.Spans.{span_len, IsSpanOf}
-use Rattle.cord_search.specs.inner.Pieces.{IsPieceOf, HasNot}
-use Rattle.cord_search.proofs.Reading.{not_read, read_on}
-use Rattle.cord_search.proofs.Ranges.{piece_within}
+use Rattle.cord_search.proofs.Common.{IsPieceOf, IsSpanUpTo, OverTables, arith, length, ◌-◌}
+use Rattle.cord_search.proofs.Reading.{not_read, read_on, answer_on}
+use Rattle.cord_search.proofs.Ranges.{read_end}
 use Rattle.cord_search.proofs.Finding.{last_on, last_past, last_found, last_none}
 use Rattle.cord_search.proofs.Moving.{set_valid}
+use Rattle.cord_search.proofs.bytes.last_before.Given.{Over}
+use Rattle.cord_search.proofs.bytes.last_before.Goals.{After-span_up_to-span, In_ok-piece}
 use Rattle.cord_search.proofs.bytes.last_before.Goals as goal
+
+-- the span is what the text has up to the end
+span_is : (g : Over) (c : After-span_up_to-span g) → IsSpanUpTo c.args.x.now c.loop-end.end c.span_up_to-span.result
+span_is g c = rw c.loop-end.invariant.position.cord at c.span_up_to-span.ensures.span
+
+-- what was read is the piece of the text that ends there
+text_is : (g : Over) (c : In_ok-piece g) → IsSpanUpTo c.args.x.now c.loop-end.end c.span_up_to-span.result →
+    OverTables g.S.Source c.args.src.now c.last_piece.new.src
+    (λ t. IsPieceOf t c.args.x.now (c.loop-end.end - length c.in_ok-piece.piece.now) c.in_ok-piece.piece.now)
+text_is g c span = read_end c.args.x.now c.loop-end.end c.span_up_to-span.result c.in_ok-piece.piece.now
+    (read_on c.loop-end.invariant.read c.in_ok-piece.ensures.read) g.met.S.Source.lengths_of_table c.requires.fits span
+    c.in_ok-piece.ensures.always.1 (answer_on c.loop-end.invariant.read c.in_ok-piece.ensures).text
 
 pub loop-end-init : goal.loop-end-init
 loop-end-init g c = record {
   high = c.requires.high;
   none = c.requires.none;
-  cord = c.set-position.ensures.cord;
-  valid = rw c.set-position.ensures.index (set_valid c.args.x.now c.args.at c.requires.inside);
+  position = record {
+    cord = c.set-position.ensures.cord;
+    valid = rw c.set-position.ensures.index (set_valid c.args.x.now c.args.at c.requires.inside);
+  };
   read = not_read;
 }
 
 pub span_up_to-span-requires-clause-inside : goal.span_up_to-span-requires-clause-inside
-span_up_to-span-requires-clause-inside g c = rw c.loop-end.invariant.cord
+span_up_to-span-requires-clause-inside g c = rw c.loop-end.invariant.position.cord
     (omega (arith, c.loop-end.invariant.high, c.requires.inside))
 
 pub last_piece-requires-clause-fits : goal.last_piece-requires-clause-fits
 last_piece-requires-clause-fits g c =
-    let s = c.span_up_to-span.result in
-    let span : IsSpanOf c.args.x.now (c.loop-end.end - span_len s) s =
-    rw c.loop-end.invariant.cord at c.span_up_to-span.ensures.span in
-    rw c.loop-end.invariant.read.lengths (span.fits (g.S.Source.lengths c.args.src.now) c.requires.fits)
+    let span = span_is g (goal.at.last_piece-requires-clause-fits g c).After-span_up_to-span in
+    rw c.loop-end.invariant.read.lengths (span.span.fits (g.S.Source.lengths c.args.src.now) c.requires.fits)
 
 pub loop-end-preserved-in-Some : goal.loop-end-preserved-in-Some
 loop-end-preserved-in-Some g c =
-    let x = c.args.x.now in
-    let end = c.loop-end.end in
-    let s = c.span_up_to-span.result in
-    let span : IsSpanOf x (end - span_len s) s = rw c.loop-end.invariant.cord at c.span_up_to-span.ensures.span in
-    let whole : c.in-Some.count ≡ span_len s = c.in-Some.ensures.len in
-    let inside : span_len s ≤ end = c.span_up_to-span.ensures.inside in
+    let span = span_is g (goal.at.loop-end-preserved-in-Some g c).After-span_up_to-span in
+    let before = c.loop-end.invariant in
+    let run = c.in-Some.ensures.run in
     record {
-      high = omega (arith, c.loop-end.invariant.high);
-      none = λ file_system agrees.
-          let t = g.S.Source.table c.args.src.now file_system in
-          let reported = g.met.S.Source.lengths_of_table c.args.src.now file_system (c.loop-end.invariant.read.earlier file_system agrees) in
-          let none : HasNot t x c.args.byte (end - span_len s) (c.args.at + 1) =
-          last_past (g.S.Source.lengths c.args.src.now) t x s c.args.byte c.args.at (end - span_len s) end reported c.requires.fits
-          c.set-position.ensures.sound (omega (arith, inside)) span c.in-Some.ensures.without
-          (c.loop-end.invariant.none file_system agrees) in
-          rw whole none;
-      cord = c.span_up_to-span.ensures.cord ∙ c.loop-end.invariant.cord;
-      valid = c.span_up_to-span.ensures.valid;
-      read = c.loop-end.invariant.read;
+      high = omega (arith, before.high);
+      none = last_past c.args.x.now c.args.byte c.args.at (c.loop-end.end - c.in-Some.count) c.loop-end.end before.read
+          c.span_up_to-span.result c.in-Some.count g.met.S.Source.lengths_of_table c.requires.fits c.set-position.ensures.sound
+          (omega (arith, run.len, span.inside)) span run before.none;
+      position = rw before.position.cord at c.span_up_to-span.ensures.moved;
+      read = before.read;
     }
 
-pub returns-in-Some-memrchr-clause-last : goal.returns-in-Some-memrchr-clause-last
-returns-in-Some-memrchr-clause-last g c = λ file_system agrees.
-    let t = g.S.Source.table c.args.src.now file_system in
-    let x = c.args.x.now in
+pub returns-in-Some-memrchr : goal.returns-in-Some-memrchr
+returns-in-Some-memrchr g c =
+    let known = goal.at.returns-in-Some-memrchr g c in
+    let span = span_is g known.After-span_up_to-span in
+    let before = c.loop-end.invariant in
     let piece = c.in_ok-piece.piece.now in
-    let end = c.loop-end.end in
-    let s = c.span_up_to-span.result in
-    let span : IsSpanOf x (end - span_len s) s = rw c.loop-end.invariant.cord at c.span_up_to-span.ensures.span in
-    let inside : span_len s ≤ end = c.span_up_to-span.ensures.inside in
-    let short : length piece ≤ span_len s = c.in_ok-piece.ensures.inside in
-    let before = c.in_ok-piece.ensures.read.earlier file_system agrees in
-    let reported = g.met.S.Source.lengths_of_table c.args.src.now file_system (c.loop-end.invariant.read.earlier file_system before) in
-    let text : IsPieceOf t x (end - length piece) piece =
-    piece_within (g.S.Source.lengths c.args.src.now) t x (end - span_len s) s (span_len s - length piece) (end - length piece)
-    piece reported c.requires.fits span (omega (arith, short)) (omega (arith, short, inside))
-    (rw c.loop-end.invariant.read.table at c.in_ok-piece.ensures.text file_system agrees) in
-    last_found t x piece c.args.byte c.args.at (end - length piece) c.in-Some-memrchr.found end _ c.in-Some-memrchr.is c.memrchr.ensures
-    (omega (arith, short, inside)) c.loop-end.invariant.high text (c.loop-end.invariant.none file_system before)
+    last_found c.args.x.now c.args.byte c.args.at (c.loop-end.end - length piece) c.loop-end.end
+    (read_on before.read c.in_ok-piece.ensures.read) piece c.in-Some-memrchr.found _ c.in-Some-memrchr.is c.memrchr.ensures
+    (omega (arith, c.in_ok-piece.ensures.always.1, span.inside)) before.high (text_is g known.In_ok-piece span)
+    (λ file_system agrees. before.none file_system (c.in_ok-piece.ensures.read.earlier file_system agrees))
 
 pub loop-end-preserved : goal.loop-end-preserved
 loop-end-preserved g c =
-    let x = c.args.x.now in
+    let known = goal.at.loop-end-preserved g c in
+    let span = span_is g known.After-span_up_to-span in
+    let before = c.loop-end.invariant in
     let piece = c.in_ok-piece.piece.now in
-    let end = c.loop-end.end in
-    let s = c.span_up_to-span.result in
-    let span : IsSpanOf x (end - span_len s) s = rw c.loop-end.invariant.cord at c.span_up_to-span.ensures.span in
-    let inside : span_len s ≤ end = c.span_up_to-span.ensures.inside in
-    let short : length piece ≤ span_len s = c.in_ok-piece.ensures.inside in
+    let read = read_on before.read c.in_ok-piece.ensures.read in
     record {
-      high = omega (arith, c.loop-end.invariant.high);
-      none = λ file_system agrees.
-          let t = g.S.Source.table c.args.src.now file_system in
-          let before = c.in_ok-piece.ensures.read.earlier file_system agrees in
-          let reported = g.met.S.Source.lengths_of_table c.args.src.now file_system (c.loop-end.invariant.read.earlier file_system before) in
-          let text : IsPieceOf t x (end - length piece) piece =
-          piece_within (g.S.Source.lengths c.args.src.now) t x (end - span_len s) s (span_len s - length piece)
-          (end - length piece) piece reported c.requires.fits span (omega (arith, short)) (omega (arith, short, inside))
-          (rw c.loop-end.invariant.read.table at c.in_ok-piece.ensures.text file_system agrees) in
-          last_on t x piece c.args.byte c.args.at (end - length piece) end _ c.in-None.is c.memrchr.ensures
-          (omega (arith, short, inside)) text (c.loop-end.invariant.none file_system before);
-      cord = c.span_up_to-span.ensures.cord ∙ c.loop-end.invariant.cord;
-      valid = c.span_up_to-span.ensures.valid;
-      read = read_on c.loop-end.invariant.read c.in_ok-piece.ensures.read;
+      high = omega (arith, before.high);
+      none = last_on c.args.x.now c.args.byte c.args.at (c.loop-end.end - length piece) c.loop-end.end read piece _ c.in-None.is
+          c.memrchr.ensures (omega (arith, c.in_ok-piece.ensures.always.1, span.inside)) (text_is g known.In_ok-piece span)
+          (λ file_system agrees. before.none file_system (c.in_ok-piece.ensures.read.earlier file_system agrees));
+      position = rw before.position.cord at c.span_up_to-span.ensures.moved;
+      read = read;
     }
 
-pub returns-clause-last : goal.returns-clause-last
-returns-clause-last g c = λ file_system agrees. last_none (g.S.Source.table c.args.src.now file_system) c.args.x.now c.args.byte c.args.at
-    c.loop-end.end c.loop-end-test.false (c.loop-end.invariant.none file_system agrees)
+pub returns : goal.returns
+returns g c = last_none c.args.x.now c.args.byte c.args.at c.loop-end.end c.loop-end.invariant.read c.loop-end-test.false
+    c.loop-end.invariant.none

@@ -1,4 +1,4 @@
-use Rattle.std.proofs.Common.{rules}
+use Rattle.cord_search.proofs.Common.{rules}
 use Rattle.cord_search.proofs.Repeating.{agree_on}
 use Rattle.cord_search.proofs.periods.agreeing.Goals as goal
 

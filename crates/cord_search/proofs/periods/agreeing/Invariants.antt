@@ -1,4 +1,4 @@
-use Rattle.std.proofs.Common.{◌≡◌, take}
+use Rattle.cord_search.proofs.Common.{take, ◌≡◌}
 use Rattle.cord_search.proofs.periods.agreeing.Given as goal
 
 -- at all places before, the bytes are the same

@@ -1,18 +1,15 @@
-use Rattle.std.proofs.Common.{◌≡◌, length, take, refl, ap, arith}
-use Rattle.std.proofs.lemmas.List.{length-take}
-use Rattle.cord_pos.specs.Spans.{span_len, span_bytes}
-use Rattle.cord_pos.specs.declared.span.Span.{Span}
-use Rattle.cord_search.proofs.Ranges.{leaf_part, prefix_within}
+use Rattle.cord_search.proofs.Common.{Span, ap, arith, length, length-take, refl, rules, span_bytes, span_len, take, ◌≡◌}
+use Rattle.cord_search.proofs.Reading.{not_read, answered}
+use Rattle.cord_search.proofs.Ranges.{leaf_part, read_prefix}
 use Rattle.cord_search.proofs.pieces.window_at.Goals as goal
 
-pub returns-then-count-bytes-clause-text : goal.returns-then-count-bytes-clause-text
-returns-then-count-bytes-clause-text g c = λ file_system agrees.
-    let lengths = g.S.Source.lengths c.args.src.now in
-    let t = g.S.Source.table c.args.src.now file_system in
-    let reported = g.met.S.Source.lengths_of_table c.args.src.now file_system agrees in
+pub returns-then-count-bytes-clause-window : goal.returns-then-count-bytes-clause-window
+returns-then-count-bytes-clause-window g c =
     let bytes = c.in-Bytes.bytes.now in
     let most = c.min-most.result in
     let long : span_len c.args.span ≡ length bytes = ap span_len c.in-Bytes.is in
-    prefix_within lengths t c.args.position.now.cord c.args.place c.args.span (take most bytes) reported c.requires.fits
-    c.requires.span (omega (arith, long, length-take most bytes)) (leaf_part t c.args.span (take most bytes) bytes most
-    (λ t. ap (λ (s : Span). span_bytes t s) c.in-Bytes.is) refl)
+    let cut = length-take most bytes in
+    answered not_read (search rules) (read_prefix c.args.position.now.cord c.args.place c.args.span (take most bytes)
+    (not_read {s = g.S.Source} {a = c.args.src.now}) g.met.S.Source.lengths_of_table c.requires.text.fits c.requires.span
+    (omega (arith, long, cut)) (λ file_system agrees. leaf_part (g.S.Source.table c.args.src.now file_system) c.args.span
+    (take most bytes) bytes most (λ t. ap (λ (s : Span). span_bytes t s) c.in-Bytes.is) refl))

@@ -1,4 +1,4 @@
-use Rattle.std.proofs.Common.{◌<◌, arith}
+use Rattle.cord_search.proofs.Common.{arith, ◌<◌}
 use Rattle.cord_search.proofs.Sharing.{spans_alike, prefix_span}
 use Rattle.cord_search.proofs.shared_parts.both_ahead.Goals as goal
 

@@ -1,4 +1,4 @@
-use Rattle.std.proofs.Common.{◌≡◌, ◌-◌, ◌≤◌, take}
+use Rattle.cord_search.proofs.Common.{take, ◌-◌, ◌≡◌, ◌≤◌}
 use Rattle.cord_search.proofs.slices.common_prefix.Given as goal
 
 -- the first `done` bytes are the same

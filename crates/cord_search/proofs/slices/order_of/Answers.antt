@@ -1,4 +1,4 @@
-use Rattle.std.proofs.Common.{◌∙◌}
+use Rattle.cord_search.proofs.Common.{◌∙◌}
 use Rattle.cord_search.proofs.Comparing.{cmp_after}
 use Rattle.cord_search.proofs.slices.order_of.Goals as goal
 

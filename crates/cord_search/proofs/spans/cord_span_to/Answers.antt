@@ -1,4 +1,4 @@
-use Rattle.std.proofs.Common.{arith}
+use Rattle.cord_search.proofs.Common.{arith}
 use Rattle.cord_search.proofs.Ways.{span_to}
 use Rattle.cord_search.proofs.spans.cord_span_to.Goals as goal
 

@@ -1,6 +1,4 @@
-use Rattle.std.proofs.Common.{arith}
-use Rattle.cord_core.specs.Cord.{bytes_of}
-use Rattle.cord_iter.proofs.Backs.{cord_len}
+use Rattle.cord_search.proofs.Common.{arith, bytes_of, cord_len}
 use Rattle.cord_search.proofs.Cuts.{whole_found}
 use Rattle.cord_search.proofs.substring.str.Goals as goal
 

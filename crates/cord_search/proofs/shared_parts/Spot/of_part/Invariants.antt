@@ -1,5 +1,4 @@
-use Rattle.cord_node.specs.Tree.{len_of}
-use Rattle.cord_search.specs.inner.SharedParts.{IsSpotOf}
+use Rattle.cord_search.proofs.Common.{IsSpotOf, len_of}
 use Rattle.cord_search.proofs.shared_parts.Spot.of_part.Given as goal
 
 -- the place is one of the node's

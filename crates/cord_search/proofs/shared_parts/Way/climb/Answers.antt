@@ -1,10 +1,5 @@
-use Rattle.std.proofs.Common.{◌≡◌, ◌+◌, ◌≤◌, Some, refl, length, arith, rules}
-use Rattle.std.specs.Prelude.{IfSome}
-use Rattle.cord_io.specs.declared.TheConstants.{MAX_DEPTH}
-use Rattle.cord_node.specs.Tree.{depth_of}
+use Rattle.cord_search.proofs.Common.{IfSome, IsStop, MAX_DEPTH, Some, Stop, arith, depth_of, length, refl, rules, ◌+◌, ◌≡◌, ◌≤◌}
 use Rattle.cord_pos.proofs.Counts.{depth_limit}
-use Rattle.cord_search.specs.inner.SharedParts.{IsStop}
-use Rattle.cord_search.specs.declared.shared_parts.Stop.{Stop}
 use Rattle.cord_search.proofs.Ways.{stop_kept, all_push}
 use Rattle.cord_search.proofs.shared_parts.Way.climb.Goals as goal
 

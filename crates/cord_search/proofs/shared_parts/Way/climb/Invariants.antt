@@ -1,5 +1,4 @@
-use Rattle.arrayvec.specs.ArrayVec.{array_vec_len}
-use Rattle.cord_search.specs.inner.SharedParts.{IsWay}
+use Rattle.cord_search.proofs.Common.{IsWay, array_vec_len}
 use Rattle.cord_search.proofs.shared_parts.Way.climb.Given as goal
 
 -- it is left a way of the cord

@@ -1,4 +1,4 @@
-use Rattle.cord_pos.proofs.Within.{within_on, span_on}
+use Rattle.cord_search.proofs.Common.{span_on, within_on}
 use Rattle.cord_search.proofs.Ways.{side_at}
 use Rattle.cord_search.proofs.shared_parts.Way.span.Goals as goal
 
@@ -8,11 +8,11 @@ loop-side-preserved c =
     let spot = c.loop-side.spot in
     let side = c.in-Some.side in
     record {
-      spot = c.in-Some.ensures.spot;
+      spot = c.in-Some.ensures.side.spot;
       low = c.in-Some.ensures.low;
       room = c.in-Some.ensures.room;
       within = within_on first.node.now first.place spot.node.now spot.place side.node.now side.place c.loop-side.invariant.within
-          c.in-Some.ensures.within;
+          c.in-Some.ensures.side.within;
       way = λ d held way. c.step.ensures.way d (side_at d c.args.at first spot held c.loop-side.invariant.within c.loop-side.invariant.spot)
           (c.loop-side.invariant.way d held way);
     }

@@ -1,10 +1,4 @@
-use Rattle.std.proofs.Common.{◌+◌, ◌≤◌}
-use Rattle.std.specs.Prelude.{Option}
-use Rattle.arrayvec.specs.ArrayVec.{array_vec_len}
-use Rattle.cord_node.specs.declared.Node.{Node}
-use Rattle.cord_node.specs.Tree.{len_of, depth_of}
-use Rattle.cord_pos.specs.inner.Spans.{IsWithin}
-use Rattle.cord_search.specs.inner.SharedParts.{IsSpot, IsSpotOf, IsWay}
+use Rattle.cord_search.proofs.Common.{IsSpot, IsSpotOf, IsWay, IsWithin, Node, Option, array_vec_len, depth_of, len_of, ◌+◌, ◌≤◌}
 use Rattle.cord_search.specs.declared.shared_parts.TheConstants.{WAY_LEN}
 use Rattle.cord_search.proofs.shared_parts.Way.span.Given as goal
 

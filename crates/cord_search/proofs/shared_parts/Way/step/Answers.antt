@@ -1,8 +1,4 @@
-use Rattle.std.proofs.Common.{◌+◌, ◌-◌, ◌≤◌, Some, refl, length, arith}
-use Rattle.std.specs.Prelude.{IfSome}
-use Rattle.cord_io.specs.declared.TheConstants.{MAX_DEPTH}
-use Rattle.cord_node.specs.Tree.{depth_of}
-use Rattle.cord_search.specs.inner.SharedParts.{IsSpotOf, IsStop}
+use Rattle.cord_search.proofs.Common.{IfSome, IsSpotOf, IsStop, MAX_DEPTH, Some, arith, depth_of, length, refl, ◌+◌, ◌-◌, ◌≤◌}
 use Rattle.cord_search.proofs.Ways.{side_at, stop_kept, all_push}
 use Rattle.cord_search.proofs.shared_parts.Way.step.Goals as goal
 
@@ -10,7 +6,8 @@ pub returns-clause-way : goal.returns-clause-way
 returns-clause-way c = λ d spot way.
     let items = c.args.self.now.stops.items in
     let side = c.in_ok-side.side in
-    let here : IsSpotOf d c.args.at side = side_at d c.args.at c.args.last side spot c.in_ok-side.ensures.within c.in_ok-side.ensures.spot in
-    let depth : length items + depth_of side.node.now ≤ MAX_DEPTH = omega (arith, c.requires.room, c.in_ok-side.ensures.lower) in
+    let held = c.in_ok-side.ensures.side in
+    let here : IsSpotOf d c.args.at side = side_at d c.args.at c.args.last side spot held.within held.spot in
+    let depth : length items + depth_of side.node.now ≤ MAX_DEPTH = omega (arith, c.requires.room, held.lower) in
     rw c.push.ensures.items (all_push (λ k o. IfSome o (IsStop d k)) items (Some (record { node = side.node; start = c.args.at - side.place })) way
     (stop_kept d c.args.at (length items) (record { node = side.node; start = c.args.at - side.place }) side here refl refl depth))
