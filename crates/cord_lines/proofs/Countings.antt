@@ -10,24 +10,35 @@ use Rattle.cord_lines.specs.Lines.{after_ends}
 use Rattle.cord_lines.specs.inner.Blocks.{without}
 use Rattle.cord_lines.proofs.Ends.{ends-append}
 
+-- two are as many in each of the three
+pub record AreAlike (a b : Counts) : Type 0 where
+  pub bytes : a.bytes ≡ b.bytes
+  pub ends : a.ends ≡ b.ends
+  pub chars : a.chars ≡ b.chars
+
 abbrev counts : ℕ → ℕ → ℕ → Counts
 counts b e c = record { bytes = b; ends = e; chars = c }
 
-pub same_counts : (a b : Counts) → a.bytes ≡ b.bytes → a.ends ≡ b.ends → a.chars ≡ b.chars → a ≡ b
-same_counts a b p q r = ap (λ (n : ℕ). counts n a.ends a.chars) p ∙ ap (λ (n : ℕ). counts b.bytes n a.chars) q ∙ ap (counts b.bytes b.ends) r
+pub same_counts : (a b : Counts) → AreAlike a b → a ≡ b
+same_counts a b s =
+    ap (λ (n : ℕ). counts n a.ends a.chars) s.bytes ∙ ap (λ (n : ℕ). counts b.bytes n a.chars) s.ends ∙ ap (counts b.bytes b.ends) s.chars
+
+pub alike : {a b : Counts} → a ≡ b → AreAlike a b
+alike e = record { bytes = ap (λ (c : Counts). c.bytes) e; ends = ap (λ (c : Counts). c.ends) e; chars = ap (λ (c : Counts). c.chars) e }
 
 pub chars-append : (x y : List ℕ) → chars_in (x ++ y) ≡ chars_in x + chars_in y
 chars-append x y = sum_by-append (λ (c : ℕ). cond (begins_char c) 1 0) x y
 
 pub counts-append : (x y : List ℕ) → counts_of (x ++ y) ≡ plus (counts_of x) (counts_of y)
-counts-append x y = same_counts (counts_of (x ++ y)) (plus (counts_of x) (counts_of y)) (length-append x y) (ends-append x y) (chars-append x y)
+counts-append x y = same_counts (counts_of (x ++ y)) (plus (counts_of x) (counts_of y))
+    (record { bytes = length-append x y; ends = ends-append x y; chars = chars-append x y })
 
 pub plus_assoc : (a b c : Counts) → plus (plus a b) c ≡ plus a (plus b c)
-plus_assoc a b c = same_counts (plus (plus a b) c) (plus a (plus b c)) (omega arith) (omega arith) (omega arith)
+plus_assoc a b c = same_counts (plus (plus a b) c) (plus a (plus b c)) (omega arith)
 
 -- what others are without the last two of three
 pub two_left : (a b c : Counts) → without (without (plus (plus a b) c) b) c ≡ a
-two_left a b c = same_counts (without (without (plus (plus a b) c) b) c) a (omega arith) (omega arith) (omega arith)
+two_left a b c = same_counts (without (without (plus (plus a b) c) b) c) a (omega arith)
 
 -- a chunk more is counted
 pub counted_on : (x chunk : List ℕ) (from : ℕ) (have : Counts) → have ≡ counts_of (take have.bytes (drop from x)) →
@@ -57,4 +68,4 @@ after-le n (b ∷ x) = step (n == 0) (after-le (if is_end b then n - 1 else n) x
     step false le = omega (arith, le)
 
 pub few_bytes : (x : List ℕ) → length x < 2 ^ 64 → AreFew (counts_of x)
-few_bytes x lt = record { bytes = lt; ends = omega (arith, lt, ends-le x); chars = omega (arith, lt, chars-le x) }
+few_bytes x lt = omega (arith, ends-le x, chars-le x)

@@ -2,7 +2,6 @@
 use Rattle.std.proofs.Common.{◌≡◌, ℕ, suc, zero, ◌+◌, ◌-◌, ◌<◌, ◌≤◌, List, [], ◌∷◌, ◌++◌, length, take, drop, refl, sym, ap, ◌∙◌, arith, append_assoc, subst, min, length-append, length-take, Bool}
 use Rattle.std.specs.Prelude.{map}
 use Rattle.std.proofs.lemmas.List.{append-nil, take_all, drop-drop, take-append-drop, take-append-le, take-take}
-use Rattle.std.proofs.lemmas.List.Sums.{sum_by-take-le}
 use Rattle.std.proofs.Math.Seq.{take-add, take-append_seam, drop-append_seam}
 use Rattle.cord_io.specs.declared.TheConstants.{MAX_LEN}
 use Rattle.cord_lines.specs.Lines.{after_ends, lacks_end, IsEditOf}
@@ -10,11 +9,11 @@ use Rattle.cord_lines.specs.Index.{Indexed, AreCountsOf, IsIndexOf}
 use Rattle.cord_lines.proofs.Ends.{past_all}
 use Rattle.cord_lines.specs.declared.counting.Counts.{Counts}
 use Rattle.cord_lines.specs.declared.blocks.Block.{Block}
-use Rattle.cord_lines.specs.Counts.{counts_of, ends_in, plus, AreFew, AreNarrow}
+use Rattle.cord_lines.specs.Counts.{counts_of, plus, AreFew, AreNarrow}
 use Rattle.cord_lines.specs.inner.Blocks.{block_counts, total, without}
-use Rattle.cord_lines.specs.inner.Cuts.{AreBlocksOf, AreModest, AreOfSomeText, IsModest, shown}
-use Rattle.cord_lines.proofs.Countings.{counts-append, ends-le, chars-le, two_left}
-use Rattle.cord_lines.proofs.Sums.{min_prefix, total-cons}
+use Rattle.cord_lines.specs.inner.Cuts.{AreBlocksOf, AreModest, AreOfSomeText, IsMark, IsModest, shown}
+use Rattle.cord_lines.proofs.Countings.{alike, counts-append, ends-le, chars-le, two_left}
+use Rattle.cord_lines.proofs.Sums.{first_within, min_prefix, modest_within, total-cons}
 
 pub total_is : (bs : List Block) (x : List ℕ) → AreBlocksOf bs x → total bs ≡ counts_of x
 total_is [] x c = ap counts_of (sym c)
@@ -35,35 +34,34 @@ counted_of (b ∷ bs) x (piece, rest, text, here, more) =
     let left : drop b.bytes x ≡ rest = ap (λ (n : ℕ). drop n x) len ∙ ap (drop (length piece)) text ∙ drop-append_seam piece rest in
     (here ∙ ap counts_of (sym first), subst (λ (y : List ℕ). AreCountsOf (map block_counts bs) y) (sym left) (counted_of bs rest more))
 
-module _ (bs : List Block) (lacks : Bool) (mark : Counts) where
-  pub cut_from : (i : Indexed) (x : List ℕ) → shown bs lacks mark ≡ i → IsIndexOf i x → AreBlocksOf bs x
-  cut_from i x seen is = cut_of bs x (subst (λ (j : Indexed). AreCountsOf j.pieces x) (sym seen) is.counted)
+pub cut_from : (bs : List Block) {lacks : Bool} {mark : Counts} {i : Indexed} {x : List ℕ} → shown bs lacks mark ≡ i → IsIndexOf i x → AreBlocksOf bs x
+cut_from bs {x} seen is = cut_of bs x (subst (λ (j : Indexed). AreCountsOf j.pieces x) (sym seen) is.counted)
 
-  pub marked_from : (i : Indexed) (x : List ℕ) → shown bs lacks mark ≡ i → IsIndexOf i x → mark ≡ counts_of (take mark.bytes x)
-  marked_from i x seen is = subst (λ (j : Indexed). j.mark ≡ counts_of (take j.mark.bytes x)) (sym seen) is.marked
+pub marked_from : (bs : List Block) {lacks : Bool} {mark : Counts} {i : Indexed} {x : List ℕ} → shown bs lacks mark ≡ i → IsIndexOf i x → IsMark x mark
+marked_from bs {x} seen is = subst (λ (j : Indexed). IsMark x j.mark) (sym seen) is.marked
 
-  pub index_from : (x : List ℕ) → AreBlocksOf bs x → lacks ≡ lacks_end x → mark ≡ counts_of (take mark.bytes x) →
-      IsIndexOf (shown bs lacks mark) x
-  index_from x c e m = record { counted = counted_of bs x c; end = e; marked = m }
+pub index_from : (bs : List Block) (lacks : Bool) (mark : Counts) (x : List ℕ) → AreBlocksOf bs x → lacks ≡ lacks_end x → IsMark x mark →
+    IsIndexOf (shown bs lacks mark) x
+index_from bs lacks mark x c e m = record { counted = counted_of bs x c; end = e; marked = m }
 
 -- the counts of some first bytes are those of as many as they say
-pub own_mark : (x : List ℕ) (place : ℕ) (c : Counts) → c ≡ counts_of (take place x) → c ≡ counts_of (take c.bytes x)
+pub own_mark : (x : List ℕ) (place : ℕ) (c : Counts) → c ≡ counts_of (take place x) → IsMark x c
 own_mark x place c is =
-    let len : c.bytes ≡ length (take place x) = ap (λ (a : Counts). a.bytes) is in
-    is ∙ ap counts_of (sym (min_prefix x place c.bytes (omega (arith, len, length-take place x))))
+    let same = alike is in
+    is ∙ ap counts_of (sym (min_prefix x place c.bytes (omega (arith, length-take place x))))
 
 -- a mark, and some bytes more
-pub mark_more : (x : List ℕ) (mark : Counts) (end place : ℕ) → mark ≡ counts_of (take mark.bytes x) → mark.bytes ≤ end →
-    end ≡ min (length x) place → plus mark (counts_of (take (end - mark.bytes) (drop mark.bytes x))) ≡ counts_of (take place x)
-mark_more x mark end place is le min-is =
-    let whole : end ≡ mark.bytes + (end - mark.bytes) = omega (arith, le) in
-    let piece = take (end - mark.bytes) (drop mark.bytes x) in
+pub mark_more : (x : List ℕ) (mark : Counts) (place : ℕ) → IsMark x mark → mark.bytes ≤ place →
+    plus mark (counts_of (take (place - mark.bytes) (drop mark.bytes x))) ≡ counts_of (take place x)
+mark_more x mark place is le =
+    let whole : place ≡ mark.bytes + (place - mark.bytes) = omega (arith, le) in
+    let piece = take (place - mark.bytes) (drop mark.bytes x) in
     ap (λ (a : Counts). plus a (counts_of piece)) is ∙ sym (counts-append (take mark.bytes x) piece)
-    ∙ ap counts_of (sym (ap (λ (n : ℕ). take n x) whole ∙ take-add mark.bytes (end - mark.bytes) x) ∙ min_prefix x place end min-is)
+    ∙ ap counts_of (sym (ap (λ (n : ℕ). take n x) whole ∙ take-add mark.bytes (place - mark.bytes) x))
 
 -- an edit leaves a mark before it
 pub kept_mark : (before after : List ℕ) (start removed inserted : ℕ) (mark : Counts) → IsEditOf before after start removed inserted →
-    mark ≡ counts_of (take mark.bytes before) → mark.bytes ≤ start → mark ≡ counts_of (take mark.bytes after)
+    IsMark before mark → mark.bytes ≤ start → IsMark after mark
 kept_mark before after start removed inserted mark e is le =
     let prefix = take start before in
     let inside : mark.bytes ≤ length prefix = omega (arith, le, e.inside, length-take start before) in
@@ -97,27 +95,17 @@ joined [] bs x y c d = subst (λ (z : List ℕ). AreBlocksOf bs z) (ap (λ (z : 
 joined (a ∷ cs) bs x y (piece, rest, text, here, more) d =
     (piece, rest ++ y, ap (λ (z : List ℕ). z ++ y) text ∙ append_assoc piece rest y, here, joined cs bs rest y more d)
 
--- what is before a block
-pub prefix_counts : (i : ℕ) (bs : List Block) (x : List ℕ) (c : AreBlocksOf bs x) → total (take i bs) ≡ counts_of (split i bs x c).prefix
-prefix_counts i bs x c = total_is (take i bs) (split i bs x c).prefix (split i bs x c).first
-
-pub few : (bs : List Block) → AreModest bs → AreFew (total bs)
-few bs m = record { bytes = omega (arith, m.bytes); ends = omega (arith, m.ends); chars = omega (arith, m.chars) }
+pub few_of : {c : Counts} → IsModest c → AreFew c
+few_of modest = omega arith
 
 pub modest : (bs : List Block) (x : List ℕ) → AreBlocksOf bs x → length x ≤ MAX_LEN → AreModest bs
-modest bs x c le =
-    let all : total bs ≡ counts_of x = total_is bs x c in
-    record {
-      bytes = (let e = ap (λ (a : Counts). a.bytes) all in omega (arith, e, le));
-      ends = (let e = ap (λ (a : Counts). a.ends) all in omega (arith, e, le, ends-le x));
-      chars = (let e = ap (λ (a : Counts). a.chars) all in omega (arith, e, le, chars-le x));
-    }
+modest bs x c le = let all = alike (total_is bs x c) in omega (arith, ends-le x, chars-le x)
 
 pub modest_by : (bs : List Block) → AreOfSomeText bs → AreModest bs
 modest_by bs some = modest bs some.text some.cut some.limit
 
 pub few_by : (bs : List Block) → AreOfSomeText bs → AreFew (total bs)
-few_by bs some = few bs (modest_by bs some)
+few_by bs some = few_of (modest_by bs some)
 
 pub one_piece_more : (bs : List Block) (b : Block) (x y z : List ℕ) → AreBlocksOf bs x → block_counts b ≡ counts_of y → z ≡ x ++ y → AreBlocksOf (bs ++ b ∷ []) z
 one_piece_more bs b x y z c here text = subst (λ (w : List ℕ). AreBlocksOf (bs ++ b ∷ []) w) (sym text)
@@ -137,46 +125,31 @@ short n x = omega (arith, length-take n x)
 
 -- a mark, and some bytes more, fit
 pub few_marked : (mark : Counts) (n : ℕ) (x : List ℕ) → IsModest mark → n ≤ MAX_LEN → AreFew (plus mark (counts_of (take n x)))
-few_marked mark n x m le =
-    let here = short n x in
-    record {
-      bytes = omega (arith, m.bytes, le, here);
-      ends = omega (arith, m.ends, le, here, ends-le (take n x));
-      chars = omega (arith, m.chars, le, here, chars-le (take n x));
-    }
+few_marked mark n x m le = omega (arith, short n x, ends-le (take n x), chars-le (take n x))
 
 pub narrow : (x : List ℕ) → length x < 65536 → AreNarrow (counts_of x)
-narrow x lt = record { bytes = lt; ends = omega (arith, lt, ends-le x); chars = omega (arith, lt, chars-le x) }
+narrow x lt = omega (arith, ends-le x, chars-le x)
 
-pub all_of : (x : List ℕ) (n : ℕ) → n ≡ length x → take (n - 0) (drop 0 x) ≡ x
-all_of x n e = take_all (n - 0) x (omega (arith, e))
-
-pub modest_before : (bs : List Block) (i : ℕ) → AreModest bs → IsModest (total (take i bs))
-modest_before bs i m = record {
-  bytes = omega (arith, m.bytes, sum_by-take-le (λ (b : Block). b.bytes) bs i);
-  ends = omega (arith, m.ends, sum_by-take-le (λ (b : Block). b.ends) bs i);
-  chars = omega (arith, m.chars, sum_by-take-le (λ (b : Block). b.chars) bs i);
+-- all of a text is cut
+abbrev pub all_cut : (bs : List Block) (x : List ℕ) (n : ℕ) → n ≡ length x → length x ≤ MAX_LEN → AreBlocksOf bs (take (n - 0) (drop 0 x)) → AreOfSomeText bs
+all_cut bs x n e le c = record {
+  text = x;
+  cut = subst (λ (y : List ℕ). AreBlocksOf bs y) (take_all (n - 0) (drop 0 x) (omega (arith, e))) c;
+  limit = le;
 }
 
-pub few_of : (c : Counts) → IsModest c → AreFew c
-few_of c m = record { bytes = omega (arith, m.bytes); ends = omega (arith, m.ends); chars = omega (arith, m.chars) }
+pub modest_before : (bs : List Block) (i : ℕ) → AreModest bs → IsModest (total (take i bs))
+modest_before bs i m = modest_within (first_within block_counts bs i) m
 
-module _ (bs : List Block) (x : List ℕ) (c : AreBlocksOf bs x) (i : ℕ) where
-  abbrev s : Split i bs x
-  s = split i bs x c
-
-  before : total (take i bs) ≡ counts_of s.prefix
-  before = prefix_counts i bs x c
-
-  starts : (total (take i bs)).bytes ≡ length s.prefix
-  starts = ap (λ (a : Counts). a.bytes) before
-
-  pub counts_at : (p : ℕ) → p ≡ (total (take i bs)).bytes → total (take i bs) ≡ counts_of (take p x)
-  counts_at p e = before ∙ ap counts_of (sym (ap (λ (n : ℕ). take n x) (e ∙ starts) ∙ ap (take (length s.prefix)) s.text
-      ∙ take-append_seam s.prefix s.back))
+-- what is before a block is a mark
+pub mark_at : (bs : List Block) (x : List ℕ) → AreBlocksOf bs x → (i : ℕ) (mark : Counts) → mark ≡ total (take i bs) → IsMark x mark
+mark_at bs x c i mark e =
+    let s = split i bs x c in
+    own_mark x (length s.prefix) mark (e ∙ total_is (take i bs) s.prefix s.first
+    ∙ ap counts_of (sym (ap (take (length s.prefix)) s.text ∙ take-append_seam s.prefix s.back)))
 
 -- what is before a place, counted back from a place after it
-pub counts_back : (x : List ℕ) (end : Counts) (place count : ℕ) → end ≡ counts_of (take end.bytes x) → place + count ≤ end.bytes →
+pub counts_back : (x : List ℕ) (end : Counts) (place count : ℕ) → IsMark x end → place + count ≤ end.bytes →
     without (without end (counts_of (take count (drop place x)))) (counts_of (take (end.bytes - (place + count)) (drop (place + count) x)))
     ≡ counts_of (take place x)
 counts_back x end place count is le =
@@ -191,14 +164,13 @@ counts_back x end place count is le =
     ap (λ (a : Counts). without (without a next) (counts_of piece)) all ∙ two_left (counts_of (take place x)) next (counts_of piece)
 
 -- a search that goes on where some ends are passed
-pub past_counts : (x : List ℕ) (c : Counts) (from n : ℕ) → c ≡ counts_of (take c.bytes x) → from ≡ min c.bytes (length x) → c.ends < n →
+pub past_counts : (x : List ℕ) (c : Counts) (from n : ℕ) → IsMark x c → from ≡ min c.bytes (length x) → c.ends < n →
     from + after_ends (n - c.ends) (drop from x) ≡ after_ends n x
 past_counts x c from n is e lt =
-    let len : c.bytes ≡ length (take c.bytes x) = ap (λ (a : Counts). a.bytes) is in
-    let ends : c.ends ≡ ends_in (take c.bytes x) = ap (λ (a : Counts). a.ends) is in
-    let here : from ≡ c.bytes = omega (arith, e, len, length-take c.bytes x) in
+    let same = alike is in
+    let here : from ≡ c.bytes = omega (arith, length-take c.bytes x) in
     ap (λ (k : ℕ). k + after_ends (n - c.ends) (drop k x)) here
-    ∙ ap (λ (k : ℕ). k + after_ends (n - c.ends) (drop c.bytes x)) len
-    ∙ ap (λ (k : ℕ). length (take c.bytes x) + after_ends (n - k) (drop c.bytes x)) ends
-    ∙ sym (past_all n (take c.bytes x) (drop c.bytes x) (omega (arith, lt, ends)))
+    ∙ ap (λ (k : ℕ). k + after_ends (n - c.ends) (drop c.bytes x)) same.bytes
+    ∙ ap (λ (k : ℕ). length (take c.bytes x) + after_ends (n - k) (drop c.bytes x)) same.ends
+    ∙ sym (past_all n (take c.bytes x) (drop c.bytes x) (omega arith))
     ∙ ap (after_ends n) (take-append-drop c.bytes x)

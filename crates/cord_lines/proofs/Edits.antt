@@ -1,7 +1,7 @@
 -- Blocks of a text that is edited.
-use Rattle.std.proofs.Common.{◌≡◌, ℕ, ◌+◌, ◌-◌, ◌<◌, ◌≤◌, List, [], ◌∷◌, ◌++◌, length, take, drop, refl, sym, ap, ◌∙◌, arith, append_assoc, subst, length-append, length-take, length-drop, min, suc, zero, Some, cond, ◌*◌}
+use Rattle.std.proofs.Common.{◌≡◌, ℕ, ◌+◌, ◌-◌, ◌<◌, ◌≤◌, List, [], ◌∷◌, ◌++◌, length, take, drop, refl, sym, ap, ◌∙◌, arith, append_assoc, subst, length-append, length-take, length-drop, min, Some, Option, cond, ◌*◌}
 use Rattle.std.proofs.Math.ListN.{replicate, set}
-use Rattle.std.proofs.lemmas.List.{append-nil, length-replicate, take-append-drop, drop_all, drop-drop, take-append-le, drop-append-le}
+use Rattle.std.proofs.lemmas.List.{append-nil, length-replicate, take-append-drop, drop-drop, take-append-le, drop-append-le}
 use Rattle.std.proofs.lemmas.List.Sums.{sum_by-take-le}
 use Rattle.std.proofs.lemmas.List.Folds.{sum_by-replicate}
 use Rattle.std.proofs.Math.Seq.{take-add, take-append_seam, drop-append_seam}
@@ -11,15 +11,15 @@ use Rattle.cord_lines.specs.declared.counting.Counts.{Counts}
 use Rattle.cord_lines.specs.declared.blocks.Block.{Block}
 use Rattle.cord_lines.specs.declared.renewing.Edit.{Edit}
 use Rattle.cord_lines.specs.declared.renewing.Span.{Span}
-use Rattle.cord_lines.specs.Counts.{begins_char, chars_in, counts_of, ends_in, plus, AreFew}
+use Rattle.cord_lines.specs.Counts.{begins_char, counts_of, is_end, plus, AreFew}
 use Rattle.cord_lines.specs.Lines.{IsEditOf}
 use Rattle.cord_lines.specs.inner.Blocks.{block_counts, exchanged, total}
 use Rattle.cord_lines.specs.inner.Cuts.{AreBlocksOf, AreModest, AreOfSomeText}
-use Rattle.cord_lines.specs.inner.Edits.{AreOfBytes, Covers, EditFits, FollowEdit}
-use Rattle.cord_lines.proofs.Countings.{chars-append, chars-le, counts-append, ends-le, plus_assoc, same_counts}
-use Rattle.cord_lines.proofs.Ends.{ends-append, times_ends}
+use Rattle.cord_lines.specs.inner.Edits.{replaced, Covers, EditFits, FollowEdit, IsExchanged}
+use Rattle.cord_lines.proofs.Countings.{alike, chars-le, counts-append, ends-le, plus_assoc, same_counts}
+use Rattle.cord_lines.proofs.Ends.{times_ends}
 use Rattle.cord_lines.proofs.Cuts.{Split, split, joined, total_is}
-use Rattle.cord_lines.proofs.Sums.{min_prefix, set_one}
+use Rattle.cord_lines.proofs.Sums.{first_within, min_back, min_prefix, set_one}
 
 regroup : (a b c d e : List ℕ) → ((a ++ b) ++ c) ++ (d ++ e) ≡ a ++ (((b ++ c) ++ d) ++ e)
 regroup a b c d e = simp append_assoc
@@ -54,23 +54,15 @@ module _ (a m z after fresh : List ℕ) (st rem : ℕ) (from : length a ≤ st) 
       ∙ ap (λ (i : ℕ). take i (middle ++ z)) (e ∙ sym middle-len) ∙ take-append_seam middle z
 
 -- an edit whose numbers go past the end
-drop_min : (n : ℕ) (x : List ℕ) → drop (min n (length x)) x ≡ drop n x
-drop_min zero x = let none : min 0 (length x) ≡ 0 = omega arith in ap (λ (m : ℕ). drop m x) none
-drop_min (suc n) [] =
-    let none : length {A = ℕ} [] ≤ min (suc n) (length {A = ℕ} []) = omega arith in drop_all (min (suc n) (length {A = ℕ} [])) [] none
-drop_min (suc n) (b ∷ x) =
-    let less : min (suc n) (length (b ∷ x)) ≡ suc (min n (length x)) = omega arith in ap (λ (m : ℕ). drop m (b ∷ x)) less ∙ drop_min n x
-
 pub capped : (x after fresh : List ℕ) (start count from removed inserted : ℕ) → after ≡ take start x ++ fresh ++ drop (start + count) x →
     from ≡ min start (length x) → removed ≡ min count (length x - from) → length fresh ≡ inserted → IsEditOf x after from removed inserted
 capped x after fresh start count from removed inserted text from-is removed-is len =
-    let end : from + removed ≡ min (start + count) (length x) = omega (arith, from-is, removed-is) in
     record {
       fresh = fresh;
       count = len;
-      inside = omega (arith, end);
+      inside = omega (arith, from-is, removed-is);
       text = text ∙ ap (λ (y : List ℕ). y ++ fresh ++ drop (start + count) x) (sym (min_prefix x start from (omega (arith, from-is))))
-          ∙ ap (λ (y : List ℕ). take from x ++ fresh ++ y) (sym (ap (λ (n : ℕ). drop n x) end ∙ drop_min (start + count) x));
+          ∙ ap (λ (y : List ℕ). take from x ++ fresh ++ y) (sym (min_back x (start + count) (from + removed) (omega (arith, from-is, removed-is))));
     }
 
 -- what an edit takes out of the middle one
@@ -95,13 +87,10 @@ in_three m k rem =
 exchanged_part : (m fresh : List ℕ) (k rem : ℕ) →
     exchanged (counts_of m) (counts_of (take rem (drop k m))) (counts_of fresh) ≡ counts_of ((take k m ++ fresh) ++ drop (k + rem) m)
 exchanged_part m fresh k rem =
-    let all = in_three m k rem in
-    let bytes = ap (λ (a : Counts). a.bytes) all in
-    let ends = ap (λ (a : Counts). a.ends) all in
-    let chars = ap (λ (a : Counts). a.chars) all in
+    let all = alike (in_three m k rem) in
     let out = counts_of (take rem (drop k m)) in
     let then = plus (plus (counts_of (take k m)) (counts_of fresh)) (counts_of (drop (k + rem) m)) in
-    same_counts (exchanged (counts_of m) out (counts_of fresh)) then (omega (arith, bytes)) (omega (arith, ends)) (omega (arith, chars))
+    same_counts (exchanged (counts_of m) out (counts_of fresh)) then (omega arith)
     ∙ sym (counts-append (take k m ++ fresh) (drop (k + rem) m) ∙ ap (λ (c : Counts). plus c (counts_of (drop (k + rem) m))) (counts-append (take k m) fresh))
 
 -- blocks of a text, some of which are replaced
@@ -127,59 +116,30 @@ module _ (bs news : List Block) (x : List ℕ) (c : AreBlocksOf bs x) (first cou
   middle-is = (let all = end ∙ ap (λ (a : Counts). a.bytes) (total_is (take (first + count) bs) (s.prefix ++ r.prefix) both) in
       omega (arith, all, prefix-len, length-append s.prefix r.prefix))
 
-  replaced : (piece : List ℕ) → AreBlocksOf news piece → AreBlocksOf (take first bs ++ news ++ drop (first + count) bs) (s.prefix ++ (piece ++ r.back))
-  replaced piece n = subst (λ (ys : List Block). AreBlocksOf ys (s.prefix ++ (piece ++ r.back)))
+  after_of : (piece : List ℕ) → AreBlocksOf news piece → AreBlocksOf (replaced bs first count news) (s.prefix ++ (piece ++ r.back))
+  after_of piece n = subst (λ (ys : List Block). AreBlocksOf ys (s.prefix ++ (piece ++ r.back)))
       (sym (append_assoc (take first bs) news (drop (first + count) bs)))
       (joined (take first bs) (news ++ drop (first + count) bs) s.prefix (piece ++ r.back) s.first
       (joined news (drop (first + count) bs) piece r.back n (subst (λ (ys : List Block). AreBlocksOf ys r.back) (drop-drop count first bs) r.second)))
 
   -- the result is of some text
-  pub of_some : (piece : List ℕ) → AreBlocksOf news piece → length x - bytes + length piece ≤ MAX_LEN →
-      AreOfSomeText (take first bs ++ news ++ drop (first + count) bs)
+  pub of_some : (piece : List ℕ) → AreBlocksOf news piece → length x - bytes + length piece ≤ MAX_LEN → AreOfSomeText (replaced bs first count news)
   of_some piece n le = record {
     text = s.prefix ++ (piece ++ r.back);
-    cut = replaced piece n;
-    limit = (let all = ap (λ (y : List ℕ). length y) text in
-        omega (
-          arith,
-          le,
-          all,
-          middle-is,
-          length-append s.prefix (r.prefix ++ r.back),
-          length-append r.prefix r.back,
-          length-append s.prefix (piece ++ r.back),
-          length-append piece r.back,
-        ));
+    cut = after_of piece n;
+    limit = omega (arith, le, ap (λ (y : List ℕ). length y) text, middle-is, length-append {A = ℕ});
   }
-
-  -- and of the text after an edit, where the pieces are
-  pub renewed : (after : List ℕ) (st rem ins len : ℕ) (e : IsEditOf x after st rem ins) → start ≤ st → st + rem ≤ start + bytes →
-      len ≡ bytes - rem + ins → AreBlocksOf news (take len (drop start after)) → AreBlocksOf (take first bs ++ news ++ drop (first + count) bs) after
-  renewed after st rem ins len e from to new-len n =
-      let edited : after ≡ take st (s.prefix ++ (r.prefix ++ r.back)) ++ e.fresh ++ drop (st + rem) (s.prefix ++ (r.prefix ++ r.back)) =
-      subst (λ (y : List ℕ). after ≡ take st y ++ e.fresh ++ drop (st + rem) y) text e.text in
-      let a-from : length s.prefix ≤ st = omega (arith, prefix-len, from) in
-      let a-to : st + rem ≤ length s.prefix + length r.prefix = omega (arith, prefix-len, middle-is, to) in
-      let there : take len (drop start after) ≡ middle s.prefix r.prefix r.back after e.fresh st rem a-from a-to edited =
-      ap (λ (n : ℕ). take len (drop n after)) prefix-len
-      ∙ middle_at s.prefix r.prefix r.back after e.fresh st rem a-from a-to edited len (omega (arith, new-len, middle-is, e.count)) in
-      subst (λ (y : List ℕ). AreBlocksOf (take first bs ++ news ++ drop (first + count) bs) y)
-      (sym (after_is s.prefix r.prefix r.back after e.fresh st rem a-from a-to edited))
-      (replaced (middle s.prefix r.prefix r.back after e.fresh st rem a-from a-to edited) (subst (λ (y : List ℕ). AreBlocksOf news y) there n))
 
   -- what they hold
   own_is : (own : Counts) → total (take (first + count) bs) ≡ plus (total (take first bs)) own → own ≡ counts_of r.prefix
   own_is own e = (let sum : plus (counts_of s.prefix) own ≡ plus (counts_of s.prefix) (counts_of r.prefix) =
       ap (λ (a : Counts). plus a own) (sym (total_is (take first bs) s.prefix s.first)) ∙ sym e
       ∙ total_is (take (first + count) bs) (s.prefix ++ r.prefix) both ∙ counts-append s.prefix r.prefix in
-      let same-bytes = ap (λ (a : Counts). a.bytes) sum in
-      let same-ends = ap (λ (a : Counts). a.ends) sum in
-      let same-chars = ap (λ (a : Counts). a.chars) sum in
-      same_counts own (counts_of r.prefix) (omega (arith, same-bytes)) (omega (arith, same-ends)) (omega (arith, same-chars)))
+      let same = alike sum in
+      same_counts own (counts_of r.prefix) (omega arith))
 
-  -- one block, of which a part is replaced
-  module _ (own removed : Counts) (after : List ℕ) (st rem ins : ℕ) (e : IsEditOf x after st rem ins) (from : start ≤ st) (to : st + rem ≤ start + bytes)
-      (own-is : total (take (first + count) bs) ≡ plus (total (take first bs)) own) (removed-is : removed ≡ counts_of (take rem (drop st x))) where
+  -- an edit that they hold
+  module _ (after : List ℕ) (st rem ins : ℕ) (e : IsEditOf x after st rem ins) (from : start ≤ st) (to : st + rem ≤ start + bytes) where
     a-from : length s.prefix ≤ st
     a-from = omega (arith, prefix-len, from)
 
@@ -192,84 +152,79 @@ module _ (bs news : List Block) (x : List ℕ) (c : AreBlocksOf bs x) (first cou
     abbrev m : List ℕ
     m = middle s.prefix r.prefix r.back after e.fresh st rem a-from a-to edited
 
-    part-is : removed ≡ counts_of (take rem (drop (st - length s.prefix) r.prefix))
-    part-is = removed-is ∙ ap (λ (y : List ℕ). counts_of (take rem (drop st y))) text
-        ∙ ap counts_of (removed_at s.prefix r.prefix r.back st rem a-from a-to)
+    follows : AreBlocksOf news m → AreBlocksOf (replaced bs first count news) after
+    follows n = subst (λ (y : List ℕ). AreBlocksOf (replaced bs first count news) y)
+        (sym (after_is s.prefix r.prefix r.back after e.fresh st rem a-from a-to edited)) (after_of m n)
 
-    counts_then : exchanged own removed (counts_of e.fresh) ≡ counts_of m
-    counts_then = ap (λ (a : Counts). exchanged a removed (counts_of e.fresh)) (own_is own own-is)
-        ∙ ap (λ (a : Counts). exchanged (counts_of r.prefix) a (counts_of e.fresh)) part-is
-        ∙ exchanged_part r.prefix e.fresh (st - length s.prefix) rem
+    -- the new ones are those of what is there
+    pub renewed : (len : ℕ) → len ≡ bytes - rem + ins → AreBlocksOf news (take len (drop start after)) → AreBlocksOf (replaced bs first count news) after
+    renewed len new-len n =
+        let there : take len (drop start after) ≡ m = ap (λ (n : ℕ). take len (drop n after)) prefix-len
+        ∙ middle_at s.prefix r.prefix r.back after e.fresh st rem a-from a-to edited len (omega (arith, new-len, middle-is, e.count)) in
+        follows (subst (λ (y : List ℕ). AreBlocksOf news y) there n)
 
-    pub exchanged_in : (b : Block) → block_counts b ≡ exchanged own removed (counts_of e.fresh) → news ≡ b ∷ [] →
-        AreBlocksOf (take first bs ++ news ++ drop (first + count) bs) after
-    exchanged_in b counted one = subst (λ (y : List ℕ). AreBlocksOf (take first bs ++ news ++ drop (first + count) bs) y)
-        (sym (after_is s.prefix r.prefix r.back after e.fresh st rem a-from a-to edited))
-        (replaced m (subst (λ (ys : List Block). AreBlocksOf ys m) (sym one) (m, [], sym (append-nil m), counted ∙ counts_then, refl)))
+    -- a part of one block is replaced
+    module _ (own removed : Counts) (own-is : total (take (first + count) bs) ≡ plus (total (take first bs)) own)
+        (removed-is : removed ≡ counts_of (take rem (drop st x))) where
+      part-is : removed ≡ counts_of (take rem (drop (st - length s.prefix) r.prefix))
+      part-is = removed-is ∙ ap (λ (y : List ℕ). counts_of (take rem (drop st y))) text
+          ∙ ap counts_of (removed_at s.prefix r.prefix r.back st rem a-from a-to)
+
+      counts_then : exchanged own removed (counts_of e.fresh) ≡ counts_of m
+      counts_then = ap (λ (a : Counts). exchanged a removed (counts_of e.fresh)) (own_is own own-is)
+          ∙ ap (λ (a : Counts). exchanged (counts_of r.prefix) a (counts_of e.fresh)) part-is
+          ∙ exchanged_part r.prefix e.fresh (st - length s.prefix) rem
+
+      pub exchanged_in : (b : Block) → block_counts b ≡ exchanged own removed (counts_of e.fresh) → news ≡ b ∷ [] →
+          AreBlocksOf (replaced bs first count news) after
+      exchanged_in b counted one = follows (subst (λ (ys : List Block). AreBlocksOf ys m) (sym one) (m, [], sym (append-nil m), counted ∙ counts_then, refl))
 
 -- the blocks that an edit meets are replaced by those of as many bytes as there are then
-pub replaced_by : (bs news : List Block) (some : AreOfSomeText bs) (span : Span) (edit : Edit) (len : ℕ) → Covers bs span edit →
-    EditFits edit (total bs).bytes len → len ≤ MAX_LEN →
-    (piece : List ℕ) → length piece ≤ span.bytes - edit.removed + edit.inserted → AreBlocksOf news piece →
-    AreOfSomeText (take span.first bs ++ news ++ drop (span.first + span.count) bs)
-replaced_by bs news some span edit len covers fits le piece fewer cut =
-    let whole : (total bs).bytes ≡ length some.text = ap (λ (a : Counts). a.bytes) (total_is bs some.text some.cut) in
-    of_some bs news some.text some.cut span.first span.count span.start span.bytes covers.span.start covers.span.end piece cut (omega (
-      arith,
-      whole,
-      le,
-      fewer,
-      covers.span.end,
-      covers.from,
-      covers.to,
-      fits.len,
-      sum_by-take-le (λ (b : Block). b.bytes) bs (span.first + span.count),
-    ))
+module _ (bs news : List Block) (span : Span) (edit : Edit) (after : List ℕ) (covers : Covers bs span edit) where
+  pub replaced_by : (some : AreOfSomeText bs) → EditFits edit (total bs).bytes (length after) → length after ≤ MAX_LEN →
+      (piece : List ℕ) → length piece ≤ span.bytes - edit.removed + edit.inserted → AreBlocksOf news piece →
+      AreOfSomeText (replaced bs span.first span.count news)
+  replaced_by some fits le piece fewer cut =
+      let whole = alike (total_is bs some.text some.cut) in
+      of_some bs news some.text some.cut span.first span.count span.start span.bytes covers.span.start covers.span.end piece cut
+      (omega (arith, fits.len, sum_by-take-le (λ (b : Block). b.bytes) bs (span.first + span.count)))
 
-pub replaced_some : (bs news : List Block) (some : AreOfSomeText bs) (span : Span) (edit : Edit) (after : List ℕ) → Covers bs span edit →
-    EditFits edit (total bs).bytes (length after) → length after ≤ MAX_LEN →
-    AreBlocksOf news (take (span.bytes - edit.removed + edit.inserted) (drop span.start after)) →
-    AreOfSomeText (take span.first bs ++ news ++ drop (span.first + span.count) bs)
-replaced_some bs news some span edit after covers fits le cut =
-    let len : ℕ = span.bytes - edit.removed + edit.inserted in
-    replaced_by bs news some span edit (length after) covers fits le (take len (drop span.start after))
-    (omega (arith, length-take len (drop span.start after))) cut
+  abbrev len : ℕ
+  len = span.bytes - edit.removed + edit.inserted
+
+  -- by those of what is there
+  module _ (cut : AreBlocksOf news (take ((span.start + len) - span.start) (drop span.start after))) where
+    pub replaced_some : AreOfSomeText bs → EditFits edit (total bs).bytes (length after) → length after ≤ MAX_LEN →
+        AreOfSomeText (replaced bs span.first span.count news)
+    replaced_some some fits le =
+        let n : ℕ = (span.start + len) - span.start in
+        replaced_by some fits le (take n (drop span.start after)) (omega (arith, length-take n (drop span.start after))) cut
+
+    pub replaced_follow : (removed : Option Counts) → FollowEdit bs (replaced bs span.first span.count news) after edit removed
+    replaced_follow removed = λ before here known edited.
+        renewed bs news before here span.first span.count span.start span.bytes covers.span.start covers.span.end after edit.start edit.removed
+        edit.inserted edited covers.from covers.to ((span.start + len) - span.start) (omega arith) cut
 
 -- some bytes with given counts
 abbrev bytes_with : ℕ → ℕ → ℕ → List ℕ
 bytes_with n e c = replicate e 10 ++ (replicate (c - e) 97 ++ replicate (n - c) 128)
 
-times_chars : (n b one : ℕ) → cond (begins_char b) 1 0 ≡ one → chars_in (replicate n b) ≡ n * one
-times_chars n b one is = sum_by-replicate (λ (i : ℕ). cond (begins_char i) 1 0) n b ∙ ap (λ (i : ℕ). n * i) is
+-- the counts of a run
+run : (n b e c : ℕ) → cond (is_end b) 1 0 ≡ e → cond (begins_char b) 1 0 ≡ c → counts_of (replicate n b) ≡ record { bytes = n; ends = n * e; chars = n * c }
+run n b e c ends chars = same_counts (counts_of (replicate n b)) (record { bytes = n; ends = n * e; chars = n * c }) (record {
+  bytes = length-replicate n b;
+  ends = times_ends n b e ends;
+  chars = sum_by-replicate (λ (i : ℕ). cond (begins_char i) 1 0) n b ∙ ap (λ (i : ℕ). n * i) chars;
+})
 
 some_counts : (n e c : ℕ) → e ≤ c → c ≤ n → record { bytes = n; ends = e; chars = c } ≡ counts_of (bytes_with n e c)
 some_counts n e c le le2 =
-    let x : List ℕ = replicate e 10 in
-    let y : List ℕ = replicate (c - e) 97 in
-    let z : List ℕ = replicate (n - c) 128 in
-    let bytes : n ≡ length (x ++ (y ++ z)) = omega (
-      arith,
-      le,
-      le2,
-      length-append x (y ++ z),
-      length-append y z,
-      length-replicate {A = ℕ} e 10,
-      length-replicate {A = ℕ} (c - e) 97,
-      length-replicate {A = ℕ} (n - c) 128,
-    ) in
-    let ends1 : ends_in x ≡ e * 1 = times_ends e 10 1 refl in
-    let ends2 : ends_in y ≡ (c - e) * 0 = times_ends (c - e) 97 0 refl in
-    let ends3 : ends_in z ≡ (n - c) * 0 = times_ends (n - c) 128 0 refl in
-    let ends4 : ends_in (x ++ (y ++ z)) ≡ ends_in x + ends_in (y ++ z) = ends-append x (y ++ z) in
-    let ends5 : ends_in (y ++ z) ≡ ends_in y + ends_in z = ends-append y z in
-    let ends : e ≡ ends_in (x ++ (y ++ z)) = omega (arith, ends1, ends2, ends3, ends4, ends5) in
-    let chars1 : chars_in x ≡ e * 1 = times_chars e 10 1 refl in
-    let chars2 : chars_in y ≡ (c - e) * 1 = times_chars (c - e) 97 1 refl in
-    let chars3 : chars_in z ≡ (n - c) * 0 = times_chars (n - c) 128 0 refl in
-    let chars4 : chars_in (x ++ (y ++ z)) ≡ chars_in x + chars_in (y ++ z) = chars-append x (y ++ z) in
-    let chars5 : chars_in (y ++ z) ≡ chars_in y + chars_in z = chars-append y z in
-    let chars : c ≡ chars_in (x ++ (y ++ z)) = omega (arith, le, chars1, chars2, chars3, chars4, chars5) in
-    same_counts (record { bytes = n; ends = e; chars = c }) (counts_of (bytes_with n e c)) bytes ends chars
+    let first = alike (run e 10 1 1 refl refl) in
+    let second = alike (run (c - e) 97 0 1 refl refl) in
+    let third = alike (run (n - c) 128 0 0 refl refl) in
+    let all = alike (counts-append (replicate e 10) (replicate (c - e) 97 ++ replicate (n - c) 128)) in
+    let back = alike (counts-append (replicate (c - e) 97) (replicate (n - c) 128)) in
+    same_counts (record { bytes = n; ends = e; chars = c }) (counts_of (bytes_with n e c)) (omega arith)
 
 -- what an edit puts there
 fresh_at : (x after : List ℕ) (st rem ins n : ℕ) (e : IsEditOf x after st rem ins) → n ≡ ins → take n (drop st after) ≡ e.fresh
@@ -285,34 +240,24 @@ fresh_at x after st rem ins n e is =
 pub few_with : (bs : List Block) (i : ℕ) (own inserted : Counts) (y : List ℕ) (n : ℕ) → AreModest bs →
     total (take (i + 1) bs) ≡ plus (total (take i bs)) own → inserted ≡ counts_of (take n y) → length y ≤ MAX_LEN → AreFew (plus own inserted)
 few_with bs i own inserted y n modest own-is inserted-is le =
-    let fresh : List ℕ = take n y in
-    let short : length fresh ≤ MAX_LEN = omega (arith, le, length-take n y) in
-    record {
-      bytes = (let a = ap (λ (a : Counts). a.bytes) own-is in
-          let b = ap (λ (a : Counts). a.bytes) inserted-is in
-          omega (arith, a, b, short, modest.bytes, sum_by-take-le (λ (b : Block). b.bytes) bs (i + 1)));
-      ends = (let a = ap (λ (a : Counts). a.ends) own-is in
-          let b = ap (λ (a : Counts). a.ends) inserted-is in
-          omega (arith, a, b, short, ends-le fresh, modest.ends, sum_by-take-le (λ (b : Block). b.ends) bs (i + 1)));
-      chars = (let a = ap (λ (a : Counts). a.chars) own-is in
-          let b = ap (λ (a : Counts). a.chars) inserted-is in
-          omega (arith, a, b, short, chars-le fresh, modest.chars, sum_by-take-le (λ (b : Block). b.chars) bs (i + 1)));
-    }
+    let all = alike own-is in
+    let some = alike inserted-is in
+    let within = first_within block_counts bs (i + 1) in
+    omega (arith, length-take n y, ends-le (take n y), chars-le (take n y))
 
 -- an edit within one block
-module _ (bs : List Block) (edit : Edit) (own removed inserted : Counts) (b : Block) (span : Span) (after : List ℕ)
-    (covers : Covers bs span edit) (one : span.count ≡ 1) (counted : block_counts b ≡ exchanged own removed inserted) where
-  set-is : take span.first bs ++ (b ∷ []) ++ drop (span.first + span.count) bs ≡ set bs span.first b
+module _ (bs : List Block) (edit : Edit) (own removed inserted : Counts) (b : Block) (span : Span) (after : List ℕ) (covers : Covers bs span edit)
+    (one : span.count ≡ 1) (is : IsExchanged own removed inserted (span.bytes - edit.removed + edit.inserted) b) where
+  set-is : replaced bs span.first span.count (b ∷ []) ≡ set bs span.first b
   set-is = (let lt : span.first < length bs = omega (arith, covers.span.inside, one) in
-      ap (λ (n : ℕ). take span.first bs ++ (b ∷ []) ++ drop (span.first + n) bs) one ∙ sym (set_one bs span.first b lt))
+      ap (λ (n : ℕ). replaced bs span.first n (b ∷ [])) one ∙ sym (set_one bs span.first b lt))
 
-  pub set_some : AreOfSomeText bs → EditFits edit (total bs).bytes (length after) → length after ≤ MAX_LEN → AreOfBytes b →
-      b.bytes ≡ span.bytes - edit.removed + edit.inserted → AreOfSomeText (set bs span.first b)
-  set_some some fits le of len = (let y : List ℕ = bytes_with b.bytes b.ends b.chars in
-      let is : block_counts b ≡ counts_of y = some_counts b.bytes b.ends b.chars of.ends of.chars in
-      let same : b.bytes ≡ length y = ap (λ (a : Counts). a.bytes) is in
+  pub set_some : AreOfSomeText bs → EditFits edit (total bs).bytes (length after) → length after ≤ MAX_LEN → AreOfSomeText (set bs span.first b)
+  set_some some fits le = (let y : List ℕ = bytes_with b.bytes b.ends b.chars in
+      let counted : block_counts b ≡ counts_of y = some_counts b.bytes b.ends b.chars is.ends is.chars in
+      let same = alike counted in
       subst AreOfSomeText set-is
-      (replaced_by bs (b ∷ []) some span edit (length after) covers fits le y (omega (arith, len, same)) (y, [], sym (append-nil y), is, refl)))
+      (replaced_by bs (b ∷ []) span edit after covers some fits le y (omega (arith, is.bytes, same.bytes)) (y, [], sym (append-nil y), counted, refl)))
 
   pub set_follows : total (take (span.first + 1) bs) ≡ plus (total (take span.first bs)) own →
       inserted ≡ counts_of (take ((edit.start + edit.inserted) - edit.start) (drop edit.start after)) →
@@ -323,5 +268,5 @@ module _ (bs : List Block) (edit : Edit) (own removed inserted : Counts) (b : Bl
       let same : inserted ≡ counts_of edited.fresh =
       inserted-is ∙ ap counts_of (fresh_at old after edit.start edit.removed edit.inserted ((edit.start + edit.inserted) - edit.start) edited n) in
       subst (λ (ys : List Block). AreBlocksOf ys after) set-is
-      (exchanged_in bs (b ∷ []) old cut span.first span.count span.start span.bytes covers.span.start covers.span.end own removed after
-      edit.start edit.removed edit.inserted edited covers.from covers.to both-is known b (counted ∙ ap (exchanged own removed) same) refl)
+      (exchanged_in bs (b ∷ []) old cut span.first span.count span.start span.bytes covers.span.start covers.span.end after edit.start edit.removed
+      edit.inserted edited covers.from covers.to own removed both-is known b (is.counts ∙ ap (exchanged own removed) same) refl)

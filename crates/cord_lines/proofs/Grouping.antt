@@ -1,5 +1,5 @@
 -- The sums of groups, made one after another.
-use Rattle.std.proofs.Common.{◌≡◌, ◌<◌, List, [], ◌∷◌, ◌++◌, length, take, drop, refl, arith, append_assoc}
+use Rattle.std.proofs.Common.{◌≡◌, ◌<◌, List, [], ◌∷◌, ◌++◌, length, take, drop, append_assoc}
 use Rattle.std.proofs.lemmas.List.{append-nil}
 use Rattle.cord_lines.specs.declared.counting.Counts.{Counts}
 use Rattle.cord_lines.specs.inner.Blocks.{total_by, AreSumsOf}
@@ -20,7 +20,3 @@ module _ {A : Type 0} (part : A → Counts) where
 
   pub groups_done : (sums : List Counts) (bs rest : List A) → GroupsSoFar sums bs rest → rest ≡ [] → AreSumsOf part sums bs
   groups_done sums bs rest g none = let all = g.all [] none in rw append-nil at all
-
-pub none_left : {A : Type 0} (xs : List A) → length xs ≡ 0 → xs ≡ []
-none_left [] e = refl
-none_left (x ∷ xs) e = absurd (omega (arith, e))

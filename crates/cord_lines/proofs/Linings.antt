@@ -1,5 +1,5 @@
 -- Lines begin after the ends of those before them.
-use Rattle.std.proofs.Common.{◌≡◌, ℕ, suc, zero, ◌+◌, ◌-◌, ◌<◌, ◌≤◌, Bool, true, false, cond, Some, None, List, [], ◌∷◌, ◌++◌, length, length-append, length-drop, get_or, take, drop, refl, sym, ap, ◌∙◌, arith, min, map, subst, true≢false}
+use Rattle.std.proofs.Common.{◌≡◌, ℕ, suc, zero, ◌+◌, ◌-◌, ◌<◌, ◌≤◌, Bool, true, false, cond, Some, None, List, [], ◌∷◌, ◌++◌, length, length-append, length-drop, get_or, take, drop, refl, sym, ap, ◌∙◌, arith, min, map, subst, add-zero, true≢false}
 use Rattle.std.specs.Prelude.{◌||◌, if◌then◌else◌, not, slice_get, option_map, Option}
 use Rattle.std.proofs.lemmas.List.{drop_all, drop-map, length-map, take-append-drop}
 use Rattle.std.proofs.lemmas.Option.{slice_get_past, slice_get-get_or, slice_get-map}
@@ -24,9 +24,6 @@ lacks_is : (b : ℕ) (x : List ℕ) → lacks_end (b ∷ x) ≡ open_last b x
 lacks_is b x =
     let at : length (b ∷ x) - 1 ≡ length x = omega arith in
     ap (λ (n : ℕ). is_inside_line (slice_get (b ∷ x) n)) at ∙ ap is_inside_line (slice_get-get_or (b ∷ x) (length x) 0 (omega arith)) ∙ last_is b x
-
-led_len : (b : ℕ) (line : List ℕ) (others : List (List ℕ)) → length (led_by b (line ∷ others)) ≡ length (line ∷ others)
-led_len b line others = refl
 
 -- the first byte leads the first line
 more_lines : (b : ℕ) (ls : List (List ℕ)) → 0 < length ls → length (led_by b ls) ≡ length ls
@@ -121,15 +118,18 @@ first_step b (c ∷ x) false h later =
     let past : after_ends 1 (b ∷ c ∷ x) ≡ suc (after_ends 1 (c ∷ x)) = one_more 1 (c ∷ x) b false h (omega arith) ∙ omega arith in
     led_first b (lines (c ∷ x)) (take (after_ends 1 (c ∷ x)) (c ∷ x)) (later (omega arith)) ∙ sym (ap (λ (n : ℕ). Some (take n (b ∷ c ∷ x))) past)
 
-pub first_line : (x : List ℕ) → 0 < length x → slice_get (lines x) 0 ≡ Some (take (after_ends 1 x) x)
+first_line : (x : List ℕ) → 0 < length x → slice_get (lines x) 0 ≡ Some (take (after_ends 1 x) x)
 first_line [] some = absurd (omega (arith, some))
 first_line (b ∷ x) some = first_step b x (is_end b) refl (first_line x)
 
 -- an element after the first n
+get_drop : {X : Type 0} (n i : ℕ) (x : List X) → slice_get (drop n x) i ≡ slice_get x (n + i)
+get_drop zero i x = ap (λ (k : ℕ). slice_get x k) (let e : i ≡ 0 + i = omega arith in e)
+get_drop (suc n) i [] = slice_get_past [] i (omega arith) ∙ sym (slice_get_past [] (suc n + i) (omega arith))
+get_drop (suc n) i (b ∷ x) = get_drop n i x ∙ ap (λ (k : ℕ). slice_get (b ∷ x) k) (let e : suc (n + i) ≡ suc n + i = omega arith in e)
+
 pub get_after : (n : ℕ) (ls : List (List ℕ)) (line : List ℕ) → slice_get (drop n ls) 0 ≡ Some line → slice_get ls n ≡ Some line
-get_after zero ls line e = e
-get_after (suc n) [] line e = cc
-get_after (suc n) (l ∷ ls) line e = get_after n ls line e
+get_after n ls line e = ap (λ (k : ℕ). slice_get ls k) (sym (add-zero n)) ∙ sym (get_drop n 0 ls) ∙ e
 
 -- the line that ends after the first k bytes, without its end
 pub record IsBare (y : List ℕ) (k : ℕ) : Type 0 where
@@ -168,12 +168,12 @@ bare_step b (c ∷ x) false h later =
       unended = λ e. line ∙ ap (λ (y : List ℕ). b ∷ y) (r.unended (sym (ap is_inside_line same) ∙ e));
     })
 
-pub bare_first : (x : List ℕ) → 0 < length x → IsBare x (after_ends 1 x)
+bare_first : (x : List ℕ) → 0 < length x → IsBare x (after_ends 1 x)
 bare_first [] some = absurd (omega (arith, some))
 bare_first (b ∷ x) some = bare_step b x (is_end b) refl (bare_first x)
 
 -- the first line ends there, with its end or without it
-pub first_as : (with_end inside : Bool) (x : List ℕ) → 0 < length x → is_inside_line (slice_get x (after_ends 1 x - 1)) ≡ inside →
+first_as : (with_end inside : Bool) (x : List ℕ) → 0 < length x → is_inside_line (slice_get x (after_ends 1 x - 1)) ≡ inside →
     slice_get (lines_as with_end x) 0 ≡ Some (take (if with_end || inside then after_ends 1 x else after_ends 1 x - 1) x)
 first_as true inside x some e = first_line x some
 first_as false true x some e =
@@ -190,10 +190,25 @@ pub as_none : (with_ends : Bool) (n : ℕ) (x : List ℕ) → length (lines x) �
 as_none true n x le = slice_get_past (lines x) n le
 as_none false n x le = slice_get_past (bare_lines x) n (omega (arith, length-map (lines x) bare, le))
 
-pub get_drop : (n i : ℕ) (x : List ℕ) → slice_get (drop n x) i ≡ slice_get x (n + i)
-get_drop zero i x = ap (λ (k : ℕ). slice_get x k) (let e : i ≡ 0 + i = omega arith in e)
-get_drop (suc n) i [] = slice_get_past [] i (omega arith) ∙ sym (slice_get_past [] (suc n + i) (omega arith))
-get_drop (suc n) i (b ∷ x) = get_drop n i x ∙ ap (λ (k : ℕ). slice_get (b ∷ x) k) (let e : suc (n + i) ≡ suc n + i = omega arith in e)
+-- the first line of what is left
+pub later : (x : List ℕ) (start : ℕ) → start < length x → 0 < after_ends 1 (drop start x)
+later x start lt = (bare_first (drop start x) (omega (arith, length-drop start x, lt))).some
+
+end_as : (whole : Bool) (k start end : ℕ) → end ≡ start + k → 0 < k → (if whole then k else k - 1) ≡ (if whole then end else end - 1) - start
+end_as true k start end e some = omega arith
+end_as false k start end e some = omega arith
+
+pub line_from : (with_end inside : Bool) (x : List ℕ) (start end : ℕ) → start < length x → end ≡ start + after_ends 1 (drop start x) →
+    inside ≡ is_inside_line (slice_get x (end - 1)) →
+    slice_get (lines_as with_end (drop start x)) 0 ≡ Some (take ((if with_end || inside then end else end - 1) - start) (drop start x))
+line_from with_end inside x start end lt e is =
+    let y = drop start x in
+    let k = after_ends 1 y in
+    let some = later x start lt in
+    let there : start + (k - 1) ≡ end - 1 = omega (arith, e, some) in
+    first_as with_end inside y (omega (arith, length-drop start x, lt))
+    (ap is_inside_line (get_drop start (k - 1) x ∙ ap (λ (n : ℕ). slice_get x n) there) ∙ sym is)
+    ∙ ap (λ (n : ℕ). Some (take n y)) (end_as (with_end || inside) k start end e some)
 
 lacks_last : (x z : List ℕ) → 0 < length z → lacks_end (x ++ z) ≡ lacks_end z
 lacks_last x z some =

@@ -1,12 +1,14 @@
 -- What a text has from a place on, chunk by chunk.
-use Rattle.std.proofs.Common.{◌≡◌, ℕ, ◌+◌, ◌-◌, ◌<◌, ◌≤◌, List, ◌++◌, length, drop, sym, ap, ◌∙◌, arith, length-append, append_assoc}
-use Rattle.std.proofs.lemmas.List.{drop-drop}
+use Rattle.std.proofs.Common.{◌≡◌, ℕ, ◌+◌, ◌-◌, ◌<◌, ◌≤◌, List, ◌++◌, length, take, drop, sym, ap, ◌∙◌, arith, length-append, append_assoc, subst}
+use Rattle.std.proofs.lemmas.List.{drop-drop, take-append-drop}
 use Rattle.std.proofs.Math.Seq.{drop-append_seam}
 use Rattle.cord.specs.declared.chunks.Chunk.{Chunk}
 use Rattle.cord.specs.Chunks.{chunk_bytes}
-use Rattle.cord_lines.specs.Counts.{ends_in}
+use Rattle.cord_lines.specs.Counts.{counts_of, ends_in}
 use Rattle.cord_lines.specs.Lines.{after_ends}
-use Rattle.cord_lines.specs.inner.Reading.{IsAhead, IsCut, IsSearch}
+use Rattle.cord_lines.specs.inner.Reading.{IsAhead, IsAround, IsCounted, IsCut, IsInTwo, IsSearch}
+use Rattle.cord_lines.specs.declared.around.Around.{Around}
+use Rattle.cord_lines.specs.declared.counting.Counts.{Counts}
 use Rattle.cord_lines.specs.declared.reading.Cut.{Cut}
 use Rattle.cord_lines.specs.declared.reading.Search.TheVariants.{Found, Missing}
 use Rattle.cord_lines.proofs.Countings.{after-le}
@@ -17,17 +19,15 @@ ahead_of : (all back rest : List ℕ) → all ≡ back ++ rest → all ≡ back 
 ahead_of all back rest e = e ∙ ap (λ (y : List ℕ). back ++ y) (sym (ap (drop (length back)) e ∙ drop-append_seam back rest))
 
 -- a chunk in two, with which some bytes begin
-pub cut_is : (all : List ℕ) (most : ℕ) (chunk : Chunk) (cut : Cut) → IsAhead all chunk →
-    chunk_bytes chunk ≡ chunk_bytes cut.prefix ++ chunk_bytes cut.back → 0 < length (chunk_bytes cut.prefix) →
-    length (chunk_bytes cut.prefix) ≤ most → IsCut all most cut
-cut_is all most chunk cut ahead parts some few =
+pub cut_is : {all : List ℕ} {most : ℕ} {chunk : Chunk} {cut : Cut} → IsAhead all chunk → IsInTwo chunk most cut → IsCut all most cut
+cut_is {all} {chunk} {cut} ahead two =
     let a = chunk_bytes cut.prefix in
     let b = chunk_bytes cut.back in
     let rest = drop (length (chunk_bytes chunk)) all in
-    let whole : all ≡ a ++ (b ++ rest) = ahead ∙ ap (λ (y : List ℕ). y ++ rest) parts ∙ append_assoc a b rest in
+    let whole : all ≡ a ++ (b ++ rest) = ahead ∙ ap (λ (y : List ℕ). y ++ rest) two.parts ∙ append_assoc a b rest in
     record {
-      some = some;
-      few = few;
+      some = two.some;
+      few = two.few;
       prefix = ahead_of all a (b ++ rest) whole;
       back = ahead_of (drop (length a) all) b rest (ap (drop (length a)) whole ∙ drop-append_seam a (b ++ rest));
     }
@@ -35,6 +35,22 @@ cut_is all most chunk cut ahead parts some few =
 -- the next bytes are behind them
 pub next_left : (x : List ℕ) (place n m : ℕ) → m ≡ place + n → drop n (drop place x) ≡ drop m x
 next_left x place n m e = drop-drop n place x ∙ ap (λ (k : ℕ). drop k x) (sym e)
+
+-- so many bytes are counted, no fewer and no more
+module _ {x : List ℕ} {place n : ℕ} {c : Counts} {ahead : Chunk} (is : IsCounted x place n n c ahead) where
+  len-is : c.bytes ≡ n
+  len-is = omega (arith, is.enough, is.few)
+
+  pub exact_counts : c ≡ counts_of (take n (drop place x))
+  exact_counts = is.counts ∙ ap (λ (k : ℕ). counts_of (take k (drop place x))) len-is
+
+  pub ahead_after : (end : ℕ) → place + n ≡ end → IsAhead (drop end x) ahead
+  ahead_after end e = subst (λ (k : ℕ). IsAhead (drop k x) ahead) (ap (λ (k : ℕ). place + k) len-is ∙ e) is.held
+
+-- what is around a place is known where more is
+pub around_where : {known more : Type 0} {x : List ℕ} {place count : ℕ} {around : Around} → IsAround known x place count around → (more → known) →
+    IsAround more x place count around
+around_where is f = record { before = λ m. is.before (f m); next = is.next }
 
 module _ (x : List ℕ) (n p : ℕ) where
   pub found_in : n ≤ ends_in x → p ≡ after_ends n x → IsSearch x n (Found p)
@@ -44,8 +60,11 @@ module _ (x : List ℕ) (n p : ℕ) where
   missing_in lt e = λ y. past_all n x y lt ∙ ap (λ (k : ℕ). length x + after_ends k y) (sym e)
 
 -- the way to the end of a line led to the rest, of which a piece is next
-module _ (n left : ℕ) (all rest piece back : List ℕ) (split : rest ≡ piece ++ back) (inside : length rest ≤ length all)
+module _ (n left m : ℕ) (all rest piece back : List ℕ) (piece-is : piece ≡ take m rest) (back-is : back ≡ drop m rest) (inside : length rest ≤ length all)
     (way : (y : List ℕ) → after_ends n (all ++ y) ≡ (length all - length rest) + after_ends left (rest ++ y)) where
+  split : rest ≡ piece ++ back
+  split = rw (piece-is, back-is) (sym (take-append-drop m rest))
+
   cut : (y : List ℕ) → after_ends left (rest ++ y) ≡ after_ends left (piece ++ (back ++ y))
   cut y = ap (λ (z : List ℕ). after_ends left (z ++ y)) split ∙ ap (after_ends left) (append_assoc piece back y)
 

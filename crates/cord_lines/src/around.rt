@@ -1,9 +1,8 @@
 // What a text has before a place, and after it.
-ghost use Rattle.std.specs.Prelude.{◌≡◌, ◌+◌, ◌≤◌, List, ℕ, IfSome, length, take, drop};
-ghost use Rattle.cord_lines.specs.Counts.{counts_of};
-ghost use Rattle.cord_lines.specs.inner.Blocks.{IsFound};
-ghost use Rattle.cord_lines.specs.inner.Cuts.{AreBlocksOf, AreModest, IsModest};
+ghost use Rattle.std.specs.Prelude.{◌≡◌, ◌+◌, ◌≤◌, List, ℕ, IfSome, length};
+ghost use Rattle.cord_lines.specs.inner.Cuts.{AreBlocksOf, BeginsBy, IsMark, IsMarkWhere, IsModest};
 ghost use Rattle.cord_lines.specs.inner.Edits.{AreRemoved};
+ghost use Rattle.cord_lines.specs.inner.Reading.{IsAround, IsRange};
 
 use crate::blocks::{Blocks, Found};
 use crate::counting::Counts;
@@ -33,14 +32,11 @@ pub(crate) fn known_of(
     edit: Edit,
     found: Found,
 ) -> Known
-    requires modest { AreModest blocks.now }
+    requires found { BeginsBy blocks.now found edit.start }
     requires last { IsModest last }
-    requires found { IsFound blocks.now found }
-    requires from { found.before.bytes ≤ edit.start }
-    ensures modest { IsModest result.mark }
-    ensures from { result.mark.bytes ≤ edit.start }
-    ensures marked { (x : List ℕ) → IfSome before.entry (λ text. text.now ≡ x) → AreBlocksOf blocks.now x →
-        last ≡ counts_of (take last.bytes x) → result.mark ≡ counts_of (take result.mark.bytes x) }
+    ensures mark { IsMarkWhere
+        (λ x. IfSome before.entry (λ text. text.now ≡ x) × AreBlocksOf blocks.now x × IsMark x last)
+        edit.start result.mark }
     ensures removed { (x : List ℕ) → IfSome before.entry (λ text. text.now ≡ x) → AreRemoved result.removed edit x }
 {
     if let Some(text) = before {
@@ -60,14 +56,11 @@ pub(crate) fn known_of(
 
 // What is around the place of an edit: before it, and removed there.
 fn around_near(blocks: &Blocks, last: Counts, text: &Text, edit: Edit, found: Found) -> Around
-    requires modest { AreModest blocks.now }
+    requires found { BeginsBy blocks.now found edit.start }
     requires last { IsModest last }
-    requires found { IsFound blocks.now found }
-    requires from { found.before.bytes ≤ edit.start }
     requires inside { edit.start + edit.removed ≤ length text.now }
-    ensures before { AreBlocksOf blocks.now text.now → last ≡ counts_of (take last.bytes text.now) →
-        result.before ≡ counts_of (take edit.start text.now) }
-    ensures next { result.next ≡ counts_of (take edit.removed (drop edit.start text.now)) }
+    ensures { IsAround (AreBlocksOf blocks.now text.now × IsMark text.now last)
+        text.now edit.start edit.removed result }
 {
     if last.are_near(edit.start) {
         around_after(last, text, edit.start, edit.removed)
@@ -84,12 +77,9 @@ pub(crate) fn around_within(
     place: u64,
     count: u64,
 ) -> Around
-    requires modest { AreModest blocks.now }
-    requires found { IsFound blocks.now found }
-    requires from { found.before.bytes ≤ place }
+    requires found { BeginsBy blocks.now found place }
     requires inside { place + count ≤ length text.now }
-    ensures before { AreBlocksOf blocks.now text.now → result.before ≡ counts_of (take place text.now) }
-    ensures next { result.next ≡ counts_of (take count (drop place text.now)) }
+    ensures { IsAround (AreBlocksOf blocks.now text.now) text.now place count result }
 {
     let before = found.before;
     let len = text.len();
@@ -110,8 +100,7 @@ pub(crate) fn around_after(from: Counts, text: &Text, place: u64, count: u64) ->
     requires modest { IsModest from }
     requires ordered { from.bytes ≤ place }
     requires inside { place + count ≤ length text.now }
-    ensures before { from ≡ counts_of (take from.bytes text.now) → result.before ≡ counts_of (take place text.now) }
-    ensures next { result.next ≡ counts_of (take count (drop place text.now)) }
+    ensures { IsAround (IsMark text.now from) text.now place count result }
 {
     let _len = text.len();
     let counted = count_next(text, from.bytes, place - from.bytes, NOTHING);
@@ -124,10 +113,8 @@ pub(crate) fn around_after(from: Counts, text: &Text, place: u64, count: u64) ->
 
 // What is around a place, counted up to a place after it, of which the counts of all before it are known.
 fn around_up_to(end: Counts, text: &Text, place: u64, count: u64) -> Around
-    requires ordered { place + count ≤ end.bytes }
-    requires inside { end.bytes ≤ length text.now }
-    ensures before { end ≡ counts_of (take end.bytes text.now) → result.before ≡ counts_of (take place text.now) }
-    ensures next { result.next ≡ counts_of (take count (drop place text.now)) }
+    requires { IsRange text.now (place + count) end.bytes }
+    ensures { IsAround (IsMark text.now end) text.now place count result }
 {
     let _len = text.len();
     let next = count_next(text, place, count, NOTHING);

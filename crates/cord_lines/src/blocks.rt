@@ -1,8 +1,9 @@
 // The blocks of a text, and what each holds.
-ghost use Rattle.std.specs.Prelude.{◌≡◌, ◌+◌, ◌-◌, ◌*◌, ◌<◌, ◌≤◌, ◌^◌, ◌++◌, IfOk, OnOk, IsErr, [], length, take, drop, slice_set};
+ghost use Rattle.std.specs.Prelude.{◌≡◌, ◌+◌, ◌<◌, ◌≤◌, ◌^◌, IfOk, OnOk, IsErr, [], length, take, slice_set};
 ghost use Rattle.cord_lines.specs.Counts.{plus, AreFew, AreNarrow};
-ghost use Rattle.cord_lines.specs.inner.Blocks.{amount, block_counts, own, total, total_by, AreSumsOf, IsFound};
-ghost use Rattle.cord_lines.specs.inner.Cuts.{AreModest};
+ghost use Rattle.cord_lines.specs.inner.Blocks.{amount, block_counts, own, total, total_by};
+ghost use Rattle.cord_lines.specs.inner.Blocks.{AreSumsOf, IsFound, IsFoundAfter, IsGroup};
+ghost use Rattle.cord_lines.specs.inner.Edits.{replaced, CanReplace};
 
 use crate::counting::Counts;
 use std::alloc::{AllocError, Global};
@@ -164,8 +165,7 @@ impl Blocks {
     /// The last block with no more than `target` before it: of no blocks none.
     pub(crate) fn find(&self, measure: Measure, target: u64) -> Found
         requires { AreFew (total self.now) }
-        ensures found { IsFound self.now result }
-        ensures most { amount measure result.before ≤ target }
+        ensures { IsFound block_counts self.now measure target result }
     {
         let top = last_with(&self.tops, measure, target, Counts::NONE);
         let sum = last_in_group(&self.sums, top, measure, target);
@@ -192,11 +192,9 @@ impl Blocks {
 
     // Puts blocks into the place of as many others.
     fn set_each(&mut self, start: usize, fresh: &[Block])
-        requires inside { start + length fresh.now ≤ length self.old }
+        requires fits { CanReplace self.old start (length fresh.now) fresh.now }
         requires short { length self.old < 2 ^ 64 }
-        requires old { AreModest self.old }
-        requires new { AreModest (take start self.old ++ fresh.now ++ drop (start + length fresh.now) self.old) }
-        ensures { self.new ≡ take start self.old ++ fresh.now ++ drop (start + length fresh.now) self.old }
+        ensures { self.new ≡ replaced self.old start (length fresh.now) fresh.now }
     {
         for (offset, block) in fresh.iter().enumerate() {
             self.set(start + offset, *block);
@@ -212,10 +210,8 @@ impl Blocks {
         count: usize,
         fresh: &[Block],
     ) -> Result<(), AllocError>
-        requires inside { start + count ≤ length self.old }
-        requires old { AreModest self.old }
-        requires new { AreModest (take start self.old ++ fresh.now ++ drop (start + count) self.old) }
-        ensures blocks { OnOk result (self.new ≡ take start self.old ++ fresh.now ++ drop (start + count) self.old) }
+        requires { CanReplace self.old start count fresh.now }
+        ensures blocks { OnOk result (self.new ≡ replaced self.old start count fresh.now) }
         ensures unchanged { IsErr result → self.new ≡ self.old }
     {
         let len = self.blocks.len() - count + fresh.len();
@@ -234,13 +230,8 @@ impl Blocks {
 
 // The last one with no more than `target` before it in a group, of which the number is known and what is before it.
 fn last_in_group<T: Counted>(parts: &[T], group: Found, measure: Measure, target: u64) -> Found
-    requires few { AreFew (total_by T.part parts.now) }
-    requires short { length parts.now < 2 ^ 64 }
-    requires before { group.before ≡ total_by T.part (take (group.index * 64) parts.now) }
-    requires most { amount measure group.before ≤ target }
-    ensures inside { result.index ≤ length parts.now }
-    ensures before { result.before ≡ total_by T.part (take result.index parts.now) }
-    ensures most { amount measure result.before ≤ target }
+    requires { IsGroup T.part parts.now measure target group }
+    ensures { IsFound T.part parts.now measure target result }
 {
     let start = group.index.saturating_mul(GROUP).min(parts.len());
     let rest = &parts[start..];
@@ -256,9 +247,7 @@ fn last_in_group<T: Counted>(parts: &[T], group: Found, measure: Measure, target
 fn last_with<T: Counted>(parts: &[T], measure: Measure, target: u64, others: Counts) -> Found
     requires few { AreFew (plus others (total_by T.part parts.now)) }
     requires most { amount measure others ≤ target }
-    ensures inside { result.index ≤ length parts.now }
-    ensures before { result.before ≡ plus others (total_by T.part (take result.index parts.now)) }
-    ensures most { amount measure result.before ≤ target }
+    ensures { IsFoundAfter others T.part parts.now measure target result }
 {
     let mut before = others;
     for (index, part) in parts.iter().enumerate() {

@@ -1,9 +1,9 @@
 // What is counted in some bytes.
-ghost use Rattle.std.specs.Prelude.{◌≡◌, ◌↔◌, ◌+◌, ◌<◌, ◌≤◌, ◌^◌, ℕ, List, IsTrue, length, take, true, if◌then◌else◌, ◌||◌, nat_lt, nat_le};
+ghost use Rattle.std.specs.Prelude.{◌≡◌, ◌↔◌, ◌+◌, ◌<◌, ◌≤◌, ◌^◌, IsTrue, length, true, if◌then◌else◌, ◌||◌, nat_lt, nat_le};
 ghost use Rattle.cord.specs.Chunks.{chunk_bytes};
 ghost use Rattle.cord_lines.specs.Counts.{begins_char, chars_in, counts_of, ends_in, plus, AreFew};
-ghost use Rattle.cord_lines.specs.inner.Blocks.{exchanged, without, AreWithin};
-ghost use Rattle.cord_lines.specs.inner.Cuts.{IsModest};
+ghost use Rattle.cord_lines.specs.inner.Blocks.{exchanged, without, AreWithin, CanExchange};
+ghost use Rattle.cord_lines.specs.inner.Cuts.{IsMark, IsMarkWhere};
 
 use cord::{Chunk, MAX_LEN};
 
@@ -68,9 +68,7 @@ impl Counts {
 
     /// These counts, where they are of no more than `most` bytes and a text can have them: else those of no bytes.
     pub(crate) fn up_to(self, most: u64) -> Counts
-        ensures modest { IsModest result }
-        ensures from { result.bytes ≤ most }
-        ensures marked { (x : List ℕ) → self ≡ counts_of (take self.bytes x) → result ≡ counts_of (take result.bytes x) }
+        ensures { IsMarkWhere (λ x. IsMark x self) most result }
     {
         if self.bytes <= most.min(MAX_LEN) && self.ends <= MAX_LEN && self.chars <= MAX_LEN {
             self
@@ -81,8 +79,7 @@ impl Counts {
 
     /// These counts with others in the place of a part of them.
     pub(crate) fn exchanged(self, old: Counts, new: Counts) -> Counts
-        requires within { AreWithin old self }
-        requires few { AreFew (exchanged self old new) }
+        requires { CanExchange self old new }
         ensures { result ≡ exchanged self old new }
     {
         Counts {

@@ -1,7 +1,7 @@
 // Ranges of a text that are cut into blocks.
-ghost use Rattle.std.specs.Prelude.{◌≡◌, ◌+◌, ◌-◌, ◌<◌, ◌≤◌, IfOk, length, take, drop};
-ghost use Rattle.cord_lines.specs.Counts.{counts_of};
-ghost use Rattle.cord_lines.specs.inner.Cuts.{AreBlocksOf};
+ghost use Rattle.std.specs.Prelude.{◌-◌, ◌<◌, ◌≤◌, IfOk, length, take, drop};
+ghost use Rattle.cord_lines.specs.inner.Cuts.{AreBlocksOf, IsNextBlock, IsSize};
+ghost use Rattle.cord_lines.specs.inner.Reading.{IsRange};
 
 use crate::blocks::Block;
 use crate::counting::Counts;
@@ -24,10 +24,8 @@ pub(crate) fn cut(
     to: u64,
     size: u64,
 ) -> Result<Vec<Block>, AllocError>
-    requires ordered { from ≤ to }
-    requires inside { to ≤ length text.now }
-    requires some { 0 < size }
-    requires few { size ≤ LARGEST }
+    requires range { IsRange text.now from to }
+    requires size { IsSize size LARGEST }
     ensures cut { IfOk result (λ blocks. AreBlocksOf blocks.items (take (to - from) (drop from text.now))) }
 {
     let mut blocks = Vec::with_capacity(alloc, ((to - from) / least_of(size)).max(1) as usize)?;
@@ -44,12 +42,8 @@ pub(crate) fn cut(
 fn next_block(text: &Text, place: u64, to: u64, size: u64) -> Counts
     requires more { place < to }
     requires inside { to ≤ length text.now }
-    requires some { 0 < size }
-    requires few { size ≤ LARGEST }
-    ensures counts { result ≡ counts_of (take result.bytes (drop place text.now)) }
-    ensures some { 0 < result.bytes }
-    ensures inside { place + result.bytes ≤ to }
-    ensures few { result.bytes < 65536 }
+    requires size { IsSize size LARGEST }
+    ensures { IsNextBlock text.now place to result }
 {
     if to - place < 2 * size {
         return count_range(text, place, to);
@@ -60,8 +54,7 @@ fn next_block(text: &Text, place: u64, to: u64, size: u64) -> Counts
 // The fewest bytes of a block but the last one.
 fn least_of(size: u64) -> u64
     requires { 0 < size }
-    ensures some { 0 < result }
-    ensures few { result ≤ size }
+    ensures { IsSize result size }
 {
     size - size / 5
 }

@@ -1,9 +1,9 @@
 // A text from a place on.
-ghost use Rattle.std.specs.Prelude.{◌≡◌, ◌+◌, ◌-◌, ◌<◌, ◌≤◌, ◌^◌, ◌++◌, length, take, drop};
+ghost use Rattle.std.specs.Prelude.{◌≡◌, ◌+◌, ◌-◌, ◌<◌, ◌≤◌, ◌^◌, length, take, drop};
 ghost use Rattle.cord.specs.Chunks.{chunk_bytes};
 ghost use Rattle.cord_lines.specs.Counts.{counts_of, ends_in};
 ghost use Rattle.cord_lines.specs.Lines.{after_ends};
-ghost use Rattle.cord_lines.specs.inner.Reading.{GivesCut, IsAhead, IsSearch};
+ghost use Rattle.cord_lines.specs.inner.Reading.{CanCount, GivesCut, IsAhead, IsCounted, IsInTwo, IsRange, IsSearch};
 
 use crate::counting::{Counts, count_chunk, count_few};
 use cord::{Chunk, Text};
@@ -32,8 +32,7 @@ pub(crate) const NOTHING: Chunk<'static> = Chunk::Run { byte: 0, count: 0 };
 
 /// The counts of the bytes from one place of a text up to another.
 pub(crate) fn count_range(text: &Text, from: u64, to: u64) -> Counts
-    requires ordered { from ≤ to }
-    requires inside { to ≤ length text.now }
+    requires { IsRange text.now from to }
     ensures { result ≡ counts_of (take (to - from) (drop from text.now)) }
 {
     count_next(text, from, to - from, NOTHING).0
@@ -47,10 +46,8 @@ pub(crate) fn count_next<'a>(
     count: u64,
     held: Chunk<'a>,
 ) -> (Counts, Chunk<'a>)
-    requires inside { from + count ≤ length text.now }
-    requires held { IsAhead (drop from text.now) held }
-    ensures counts { result.0 ≡ counts_of (take count (drop from text.now)) }
-    ensures held { IsAhead (drop (from + count) text.now) result.1 }
+    requires { CanCount text.now from count count held }
+    ensures { IsCounted text.now from count count result.0 result.1 }
 {
     count_parts(text, from, count, count, held)
 }
@@ -63,13 +60,8 @@ pub(crate) fn count_parts<'a>(
     most: u64,
     held: Chunk<'a>,
 ) -> (Counts, Chunk<'a>)
-    requires ordered { least ≤ most }
-    requires inside { from + most ≤ length text.now }
-    requires held { IsAhead (drop from text.now) held }
-    ensures counts { result.0 ≡ counts_of (take result.0.bytes (drop from text.now)) }
-    ensures least { least ≤ result.0.bytes }
-    ensures most { result.0.bytes ≤ most }
-    ensures held { IsAhead (drop (from + result.0.bytes) text.now) result.1 }
+    requires { CanCount text.now from least most held }
+    ensures { IsCounted text.now from least most result.0 result.1 }
 {
     let _len = text.len();
     let mut counts = Counts::NONE;
@@ -103,9 +95,7 @@ fn cut_at<'a>(text: &'a Text, place: u64, most: u64, held: Chunk<'a>) -> Option<
 fn cut_chunk(chunk: Chunk<'_>, most: u64) -> Cut<'_>
     requires more { 0 < most }
     requires some { 0 < length (chunk_bytes chunk) }
-    ensures parts { chunk_bytes chunk.entry ≡ chunk_bytes result.prefix ++ chunk_bytes result.back }
-    ensures some { 0 < length (chunk_bytes result.prefix) }
-    ensures few { length (chunk_bytes result.prefix) ≤ most }
+    ensures { IsInTwo chunk.entry most result }
 {
     let len = chunk.len().min(most);
     match chunk {

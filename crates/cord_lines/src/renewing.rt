@@ -1,9 +1,10 @@
 // Blocks of a text that was edited.
-ghost use Rattle.std.specs.Prelude.{◌≡◌, ◌↔◌, ◌+◌, ◌<◌, ◌≤◌, ◌^◌, List, ℕ, IsTrue, IfSome, OnOk, IsErr, length};
+ghost use Rattle.std.specs.Prelude.{◌≡◌, ◌↔◌, ◌+◌, ◌<◌, ◌≤◌, List, ℕ, IsTrue, IfSome, OnOk, IsErr, length};
 ghost use Rattle.cord_lines.specs.Counts.{plus, AreFew};
-ghost use Rattle.cord_lines.specs.inner.Blocks.{block_counts, exchanged, total, IsFound};
-ghost use Rattle.cord_lines.specs.inner.Cuts.{AreModest, AreOfSomeText};
-ghost use Rattle.cord_lines.specs.inner.Edits.{AreOfBytes, AreRemoved, Covers, EditFits, FollowEdit, IsSpan};
+ghost use Rattle.cord_lines.specs.declared.blocks.Measure.TheVariants.{Bytes};
+ghost use Rattle.cord_lines.specs.inner.Blocks.{block_counts, total, IsFound};
+ghost use Rattle.cord_lines.specs.inner.Cuts.{AreOfSomeText, BeginsBy, IsSize};
+ghost use Rattle.cord_lines.specs.inner.Edits.{AreRemoved, Covers, EditFits, FollowEdit, IsExchanged, IsSpan, IsSpanTo};
 
 use crate::blocks::{Block, Blocks, Found};
 use crate::counting::Counts;
@@ -73,8 +74,7 @@ pub(crate) fn renew(
     removed: Option<Counts>,
 ) -> Result<(), AllocError>
     requires blocks { AreOfSomeText blocks.old }
-    requires found { IsFound blocks.old found }
-    requires from { found.before.bytes ≤ edit.start }
+    requires found { IsFound block_counts blocks.old Bytes edit.start found }
     requires edit { EditFits edit (total blocks.old).bytes (length after.now) }
     ensures blocks { AreOfSomeText blocks.new }
     ensures cut { OnOk result (FollowEdit blocks.old blocks.new after.now edit removed) }
@@ -103,9 +103,7 @@ pub(crate) fn renew(
 fn block_with(own: Counts, removed: Counts, inserted: Counts, len: u64) -> Option<Block>
     requires few { AreFew (plus own inserted) }
     requires small { len ≤ LARGEST }
-    ensures counts { IfSome result (λ b. block_counts b ≡ exchanged own removed inserted) }
-    ensures some { IfSome result AreOfBytes }
-    ensures len { IfSome result (λ b. b.bytes ≡ len) }
+    ensures { IfSome result (IsExchanged own removed inserted len) }
 {
     if !removed.are_within(own) {
         return None;
@@ -121,8 +119,7 @@ fn block_with(own: Counts, removed: Counts, inserted: Counts, len: u64) -> Optio
 // The size of the blocks of so many bytes in the place of so many blocks: such that their number stays, where they are
 // neither small nor large then.
 fn size_of(len: u64, count: usize) -> u64
-    ensures some { 0 < result }
-    ensures few { result ≤ LARGEST }
+    ensures { IsSize result LARGEST }
 {
     let mean = len / (count as u64).max(1);
     if SMALLEST <= mean && mean <= LARGEST {
@@ -134,9 +131,7 @@ fn size_of(len: u64, count: usize) -> u64
 
 // The blocks that an edit meets, with one more beside them where they would be small afterwards.
 fn span_of(blocks: &Blocks, edit: Edit, found: Found) -> Span
-    requires modest { AreModest blocks.now }
-    requires found { IsFound blocks.now found }
-    requires from { found.before.bytes ≤ edit.start }
+    requires found { BeginsBy blocks.now found edit.start }
     requires inside { edit.start + edit.removed ≤ (total blocks.now).bytes }
     ensures { Covers blocks.now result edit }
 {
@@ -154,12 +149,9 @@ fn span_of(blocks: &Blocks, edit: Edit, found: Found) -> Span
 
 // The blocks that hold the bytes from where a block begins up to a place.
 fn span_over(blocks: &Blocks, found: Found, end: u64) -> Span
-    requires modest { AreModest blocks.now }
-    requires found { IsFound blocks.now found }
+    requires found { BeginsBy blocks.now found found.before.bytes }
     requires inside { end ≤ (total blocks.now).bytes }
-    ensures span { IsSpan blocks.now result }
-    ensures from { result.start ≡ found.before.bytes }
-    ensures to { end ≤ result.start + result.bytes }
+    ensures { IsSpanTo blocks.now result found.before.bytes end }
 {
     let mut span = Span {
         first: found.index,
@@ -175,13 +167,9 @@ fn span_over(blocks: &Blocks, found: Found, end: u64) -> Span
 
 // These blocks and the one after them.
 fn with_next(blocks: &Blocks, span: Span) -> Span
-    requires modest { AreModest blocks.now }
-    requires short { length blocks.now < 2 ^ 64 }
     requires span { IsSpan blocks.now span }
     requires more { span.first + span.count < length blocks.now }
-    ensures span { IsSpan blocks.now result }
-    ensures start { result.start ≡ span.start }
-    ensures longer { span.bytes ≤ result.bytes }
+    ensures span { IsSpanTo blocks.now result span.start (span.start + span.bytes) }
     ensures first { result.first ≡ span.first }
     ensures count { result.count ≡ span.count + 1 }
 {
@@ -194,8 +182,6 @@ fn with_next(blocks: &Blocks, span: Span) -> Span
 
 // The block before these ones, and them.
 fn with_last(blocks: &Blocks, span: Span) -> Span
-    requires modest { AreModest blocks.now }
-    requires short { length blocks.now < 2 ^ 64 }
     requires span { IsSpan blocks.now span }
     requires more { 0 < span.first }
     ensures span { IsSpan blocks.now result }

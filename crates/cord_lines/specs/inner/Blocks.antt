@@ -1,6 +1,7 @@
 -- Blocks of a text: what they hold together, and the sums of groups of them.
-use Rattle.std.specs.Prelude.{◌≡◌, ℕ, ◌+◌, ◌-◌, ◌<◌, ◌≤◌, ◌^◌, List, [], ◌∷◌, length, take, drop}
+use Rattle.std.specs.Prelude.{◌≡◌, ℕ, ◌+◌, ◌-◌, ◌*◌, ◌<◌, ◌≤◌, ◌^◌, List, [], ◌∷◌, length, take, drop}
 use Rattle.std.specs.List.{sum_by}
+use Rattle.cord_lines.specs.Counts.{plus, AreFew}
 use Rattle.cord_lines.specs.declared.counting.Counts.{Counts}
 use Rattle.cord_lines.specs.declared.blocks.Block.{Block}
 use Rattle.cord_lines.specs.declared.blocks.Found.{Found}
@@ -19,15 +20,30 @@ abbrev pub amount : Measure → Counts → ℕ
 amount Bytes c = c.bytes
 amount Ends c = c.ends
 
--- a block, or the end of all, with the counts of what is before it
-pub record IsFound (bs : List Block) (found : Found) : Type 0 where
-  pub inside : found.index ≤ length bs
-  pub before : found.before ≡ total (take found.index bs)
-  pub short : length bs < 2 ^ 64
-
 -- those of things of which each has some
 abbrev pub total_by : {A : Type 0} → (A → Counts) → List A → Counts
 total_by part xs = record { bytes = sum_by (λ x. (part x).bytes) xs; ends = sum_by (λ x. (part x).ends) xs; chars = sum_by (λ x. (part x).chars) xs }
+
+-- one with no more than so much before it, or the end of all, with the counts of what is before it
+pub record IsFound {A : Type 0} (part : A → Counts) (xs : List A) (measure : Measure) (target : ℕ) (found : Found) : Type 0 where
+  pub inside : found.index ≤ length xs
+  pub before : found.before ≡ total_by part (take found.index xs)
+  pub short : length xs < 2 ^ 64
+  pub most : amount measure found.before ≤ target
+
+-- the same, where others with these counts come before all
+pub record IsFoundAfter {A : Type 0} (others : Counts) (part : A → Counts) (xs : List A) (measure : Measure) (target : ℕ) (found : Found) :
+    Type 0 where
+  pub inside : found.index ≤ length xs
+  pub before : found.before ≡ plus others (total_by part (take found.index xs))
+  pub most : amount measure found.before ≤ target
+
+-- a group of 64 with no more than so much before it, or the end of all
+pub record IsGroup {A : Type 0} (part : A → Counts) (xs : List A) (measure : Measure) (target : ℕ) (group : Found) : Type 0 where
+  pub few : AreFew (total_by part xs)
+  pub short : length xs < 2 ^ 64
+  pub before : group.before ≡ total_by part (take (group.index * 64) xs)
+  pub most : amount measure group.before ≤ target
 
 -- each sum is that of the next 64
 abbrev pub AreSumsOf : {A : Type 0} → (A → Counts) → List Counts → List A → Type 0
@@ -53,6 +69,11 @@ pub record AreWithin (part all : Counts) : Type 0 where
 -- a part of some counts is replaced
 abbrev pub exchanged : Counts → Counts → Counts → Counts
 exchanged all old new = record { bytes = all.bytes - old.bytes + new.bytes; ends = all.ends - old.ends + new.ends; chars = all.chars - old.chars + new.chars }
+
+-- it can be replaced
+pub record CanExchange (all old new : Counts) : Type 0 where
+  pub within : AreWithin old all
+  pub few : AreFew (exchanged all old new)
 
 -- what some counts are without a part
 abbrev pub without : Counts → Counts → Counts

@@ -15,8 +15,8 @@ plus-after-requires g c =
 
 pub loop-index-preserved : goal.loop-index-preserved
 loop-index-preserved g c = record {
-  sum = then_next g.T.Counted.part c.args.others c.loop-index.before c.plus-after.result c.args.parts.now c.loop-index.index c.index-parts-index.result
-      c.loop-index-test.true c.loop-index.invariant.sum
+  sum = then_next g.T.Counted.part c.args.others c.loop-index.before c.args.parts.now c.loop-index.index c.index-parts-index.result
+      c.loop-index-test.true c.loop-index.invariant.sum c.plus-after.result
       (c.plus-after.ensures ∙ ap (plus c.loop-index.before) (c.counts.ensures ∙ ap g.T.Counted.part c.index-parts-index.is));
   most = omega (arith, c.of.ensures, c.if-target-of.false);
 }

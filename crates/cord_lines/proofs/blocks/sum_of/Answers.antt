@@ -1,17 +1,20 @@
-use Rattle.std.proofs.Common.{◌∙◌, ap, subst, sym, take}
+use Rattle.std.proofs.Common.{◌+◌, ◌∙◌, ap, sym, take, arith}
 use Rattle.std.proofs.lemmas.List.{take_all}
 use Rattle.cord_lines.specs.declared.counting.Counts.{Counts}
-use Rattle.cord_lines.specs.Counts.{plus, AreFew}
+use Rattle.cord_lines.specs.Counts.{plus}
 use Rattle.cord_lines.specs.inner.Blocks.{total_by}
-use Rattle.cord_lines.proofs.Sums.{few_block_next, one_block_more}
+use Rattle.cord_lines.proofs.Countings.{alike}
+use Rattle.cord_lines.proofs.Sums.{first_within, one_block_more}
 use Rattle.cord_lines.proofs.blocks.sum_of.Goals as goal
 
 pub plus-sum-requires : goal.plus-sum-requires
 plus-sum-requires g c =
-    subst (λ (a : Counts). AreFew (plus a c.counts.result)) (sym c.loop-part.invariant)
-    (subst (λ (a : Counts). AreFew (plus (total_by g.T.Counted.part (take c.loop-part.part-index c.args.parts.now)) a))
-    (sym (c.counts.ensures ∙ ap g.T.Counted.part c.part-item.is))
-    (few_block_next g.T.Counted.part c.args.parts.now c.loop-part.part-index c.part-item.result c.loop-part-test.true c.requires))
+    let part = g.T.Counted.part in
+    let sum = alike c.loop-part.invariant in
+    let next = alike (c.counts.ensures ∙ ap part c.part-item.is) in
+    let more = alike (one_block_more part c.args.parts.now c.loop-part.part-index c.part-item.result c.loop-part-test.true) in
+    let within = first_within part c.args.parts.now (c.loop-part.part-index + 1) in
+    omega arith
 
 pub loop-part-preserved : goal.loop-part-preserved
 loop-part-preserved g c =

@@ -16,7 +16,7 @@ loop-place-init c =
     record {
       cut = rw c.in_ok-blocks.ensures.items (ap (λ (n : ℕ). take n (drop c.args.from c.args.text.now)) none);
       from = omega arith;
-      to = c.requires.ordered;
+      to = c.requires.range.ordered;
     }
 
 pub loop-place-preserved : goal.loop-place-preserved

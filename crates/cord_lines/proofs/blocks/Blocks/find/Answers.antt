@@ -1,41 +1,44 @@
-use Rattle.std.proofs.Common.{◌≡◌, ◌∙◌, ◌*◌, ap, sym, subst, List, take, arith}
+use Rattle.std.proofs.Common.{◌≡◌, ◌∙◌, ap, sym, subst, List, take, arith}
 use Rattle.cord_lines.specs.declared.counting.Counts.{Counts}
 use Rattle.cord_lines.specs.declared.blocks.Block.{Block}
-use Rattle.cord_lines.specs.Counts.{plus, AreFew}
-use Rattle.cord_lines.specs.inner.Blocks.{block_counts, own, total, total_by}
+use Rattle.cord_lines.specs.Counts.{no_counts, plus, AreFew}
+use Rattle.cord_lines.specs.inner.Blocks.{block_counts, own, total, total_by, AreSummed, IsFound}
 use Rattle.cord_lines.proofs.Countings.{same_counts}
-use Rattle.cord_lines.proofs.Sums.{sums_prefix, sums_all}
+use Rattle.cord_lines.proofs.Sums.{group_of, sums_all}
 use Rattle.cord_lines.proofs.blocks.Blocks.find.Goals as goal
 
-none_before : (c : Counts) → plus (record { bytes = 0; ends = 0; chars = 0 }) c ≡ c
-none_before c = same_counts (plus (record { bytes = 0; ends = 0; chars = 0 }) c) c (omega arith) (omega arith) (omega arith)
+none_before : (c : Counts) → plus no_counts c ≡ c
+none_before c = same_counts (plus no_counts c) c (omega arith)
+
+-- the sums are few
+module _ {tops sums : List Counts} {all : Counts} {bs ys : List Block} (s : AreSummed tops sums all bs) (view : bs ≡ ys) (few : AreFew (total ys)) where
+  few_blocks : AreFew (total bs)
+  few_blocks = subst (λ (y : List Block). AreFew (total y)) (sym view) few
+
+  few_sums : AreFew (total_by own sums)
+  few_sums = subst AreFew (sym (sums_all block_counts sums bs s.groups)) few_blocks
+
+  few_tops : AreFew (plus no_counts (total_by own tops))
+  few_tops = subst AreFew (sym (none_before (total_by own tops) ∙ sums_all own tops sums s.groups_of_groups)) few_sums
 
 pub last_with-top-requires-clause-few : goal.last_with-top-requires-clause-few
-last_with-top-requires-clause-few c =
-    let all : total_by own c.deref.result.now ≡ total c.args.self.now =
-    ap (λ (y : List Counts). total_by own y) c.deref.ensures.value
-    ∙ sums_all own c.self.inside.tops.items c.self.inside.sums.items c.self.invariant.groups_of_groups
-    ∙ sums_all block_counts c.self.inside.sums.items c.self.inside.blocks.items c.self.invariant.groups ∙ ap (λ (y : List Block). total y) c.self.view_is in
-    subst AreFew (sym (none_before (total_by own c.deref.result.now) ∙ all)) c.requires
+last_with-top-requires-clause-few c = rw c.deref.ensures.value (few_tops c.self.invariant c.self.view_is c.requires)
 
-pub last_in_group-sum-requires-clause-few : goal.last_in_group-sum-requires-clause-few
-last_in_group-sum-requires-clause-few c =
-    let all : total_by own c.deref-2.result.now ≡ total c.args.self.now =
-    ap (λ (y : List Counts). total_by own y) c.deref-2.ensures.value
-    ∙ sums_all block_counts c.self.inside.sums.items c.self.inside.blocks.items c.self.invariant.groups ∙ ap (λ (y : List Block). total y) c.self.view_is in
-    subst AreFew (sym all) c.requires
+pub last_in_group-sum-requires : goal.last_in_group-sum-requires
+last_in_group-sum-requires c =
+    let top = c.last_with-top.result in
+    rw c.deref-2.ensures.value (group_of own c.self.inside.tops.items c.self.inside.sums.items c.args.measure c.args.target top
+    c.self.invariant.groups_of_groups (few_sums c.self.invariant c.self.view_is c.requires) (omega (arith, c.self.inside.sums.ok))
+    (c.last_with-top.ensures.before ∙ none_before (total_by own (take top.index c.deref.result.now))
+    ∙ ap (λ (y : List Counts). total_by own (take top.index y)) c.deref.ensures.value) c.last_with-top.ensures.most)
 
-pub last_in_group-sum-requires-clause-before : goal.last_in_group-sum-requires-clause-before
-last_in_group-sum-requires-clause-before c =
-    let i = c.last_with-top.result.index in
-    c.last_with-top.ensures.before ∙ none_before (total_by own (take i c.deref.result.now))
-    ∙ ap (λ (y : List Counts). total_by own (take i y)) c.deref.ensures.value
-    ∙ sums_prefix own i c.self.inside.tops.items c.self.inside.sums.items c.self.invariant.groups_of_groups
-    ∙ ap (λ (y : List Counts). total_by own (take (i * 64) y)) (sym c.deref-2.ensures.value)
+pub last_in_group-requires : goal.last_in_group-requires
+last_in_group-requires c =
+    let sum = c.last_in_group-sum.result in
+    rw c.deref-3.ensures.value (group_of block_counts c.self.inside.sums.items c.self.inside.blocks.items c.args.measure c.args.target sum
+    c.self.invariant.groups (few_blocks c.self.invariant c.self.view_is c.requires) (omega (arith, c.self.inside.blocks.ok))
+    (c.last_in_group-sum.ensures.before ∙ ap (λ (y : List Counts). total_by own (take sum.index y)) c.deref-2.ensures.value) c.last_in_group-sum.ensures.most)
 
-pub last_in_group-requires-clause-before : goal.last_in_group-requires-clause-before
-last_in_group-requires-clause-before c =
-    let i = c.last_in_group-sum.result.index in
-    c.last_in_group-sum.ensures.before ∙ ap (λ (y : List Counts). total_by own (take i y)) c.deref-2.ensures.value
-    ∙ sums_prefix block_counts i c.self.inside.sums.items c.self.inside.blocks.items c.self.invariant.groups
-    ∙ ap (λ (y : List Block). total_by block_counts (take (i * 64) y)) (sym c.deref-3.ensures.value)
+pub returns : goal.returns
+returns c = subst (λ (ys : List Block). IsFound block_counts ys c.args.measure c.args.target c.last_in_group.result) (c.deref-3.ensures.value ∙ c.self.view_is)
+    c.last_in_group.ensures

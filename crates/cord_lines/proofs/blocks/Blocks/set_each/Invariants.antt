@@ -1,6 +1,6 @@
-use Rattle.std.proofs.Common.{◌≡◌}
-use Rattle.cord_lines.proofs.Sums.{replaced}
+use Rattle.std.proofs.Common.{◌≡◌, take}
+use Rattle.cord_lines.specs.inner.Edits.{replaced}
 use Rattle.cord_lines.proofs.blocks.Blocks.set_each.Given as goal
 
 abbrev pub invariant-loop-offset : goal.invariant-loop-offset
-invariant-loop-offset l = l.self ≡ replaced l.initial.self l.fresh l.start l.offset
+invariant-loop-offset l = l.self ≡ replaced l.initial.self l.start l.offset (take l.offset l.fresh)

@@ -4,7 +4,5 @@ use Rattle.cord_lines.specs.inner.Cuts.{AreBlocksOf}
 use Rattle.cord_lines.proofs.index.LineIndex.empty.Goals as goal
 
 pub invariant_of-result : goal.invariant_of-result
-invariant_of-result c = (
-  record { text = []; cut = subst (λ (bs : List Block). AreBlocksOf bs []) (sym c.none.ensures) refl; limit = omega arith },
-  record { bytes = omega arith; ends = omega arith; chars = omega arith },
-)
+invariant_of-result c =
+    (record { text = []; cut = subst (λ (bs : List Block). AreBlocksOf bs []) (sym c.none.ensures) refl; limit = omega arith }, omega arith)

@@ -1,4 +1,4 @@
-use Rattle.std.proofs.Common.{◌≡◌, ◌∙◌, ℕ, ap, sym, min, length, arith}
+use Rattle.std.proofs.Common.{◌∙◌, ℕ, ap, sym, arith}
 use Rattle.cord_lines.specs.Lines.{after_ends}
 use Rattle.cord_lines.proofs.Ends.{none_passed}
 use Rattle.cord_lines.proofs.Cuts.{cut_from, modest_by, past_counts}
@@ -11,9 +11,6 @@ pub before_line-before-requires-clause-modest : goal.before_line-before-requires
 before_line-before-requires-clause-modest c = modest_by c.self.inside.blocks c.self.invariant.0
 
 pub returns : goal.returns
-returns c = λ is.
-    let from : c.min-from.result ≡ min c.before_line-before.result.bytes (length c.args.text.now) = omega (arith, c.min-from.ensures, c.len-2.ensures.value) in
-    c.end_from.ensures
-    ∙ past_counts c.args.text.now c.before_line-before.result c.min-from.result c.args.n
-    (c.before_line-before.ensures.counts (cut_from c.self.inside.blocks c.self.inside.lacks_end c.self.inside.mark c.args.self.now c.args.text.now c.self.view_is is))
-    from c.before_line-before.ensures.few
+returns c = λ is. c.end_from.ensures ∙ past_counts c.args.text.now c.before_line-before.result c.min-from.result c.args.n
+    (c.before_line-before.ensures.counts (cut_from c.self.inside.blocks c.self.view_is is)) (omega (arith, c.min-from.ensures, c.len-2.ensures.value))
+    c.before_line-before.ensures.few

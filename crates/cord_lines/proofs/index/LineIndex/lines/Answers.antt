@@ -1,8 +1,8 @@
 use Rattle.std.proofs.Common.{◌≡◌, ◌∙◌, ◌+◌, ◌≤◌, ℕ, Bool, true, false, cond, refl, ap, sym, arith}
 use mir.Val.{bool_byte}
-use Rattle.cord_lines.specs.declared.counting.Counts.{Counts}
 use Rattle.cord_lines.specs.Counts.{ends_in}
 use Rattle.cord_lines.specs.Index.{Indexed}
+use Rattle.cord_lines.proofs.Countings.{alike}
 use Rattle.cord_lines.proofs.Linings.{line_count}
 use Rattle.cord_lines.proofs.Cuts.{modest_by, cut_from, total_is}
 use Rattle.cord_lines.proofs.index.LineIndex.lines.Goals as goal
@@ -17,11 +17,11 @@ unit_le false = omega arith
 
 pub overflow_add-result : goal.overflow_add-result
 overflow_add-result c =
-    let ends = ap (λ (a : Counts). a.ends) c.counts.ensures in
-    omega (arith, ends, (modest_by c.self.inside.blocks c.self.invariant.0).ends, c.from.ensures ∙ byte_is c.self.inside.lacks_end, unit_le c.self.inside.lacks_end)
+    let all = alike c.counts.ensures in
+    omega (arith, (modest_by c.self.inside.blocks c.self.invariant.0).ends, c.from.ensures ∙ byte_is c.self.inside.lacks_end, unit_le c.self.inside.lacks_end)
 
 pub returns : goal.returns
 returns c = λ x is.
-    let ends : c.counts.result.ends ≡ ends_in x = ap (λ (a : Counts). a.ends) (c.counts.ensures ∙ total_is c.self.inside.blocks x (cut_from c.self.inside.blocks c.self.inside.lacks_end c.self.inside.mark c.args.self.now x c.self.view_is is)) in
+    let all = alike (c.counts.ensures ∙ total_is c.self.inside.blocks x (cut_from c.self.inside.blocks c.self.view_is is)) in
     let last = c.from.ensures ∙ byte_is c.self.inside.lacks_end ∙ ap (λ (i : Indexed). cond i.lacks_end 1 0) c.self.view_is ∙ ap (λ (b : Bool). cond b 1 0) is.end in
-    ap (λ (n : ℕ). n + c.from.result) ends ∙ ap (λ (n : ℕ). ends_in x + n) last ∙ sym (line_count x)
+    ap (λ (n : ℕ). n + c.from.result) all.ends ∙ ap (λ (n : ℕ). ends_in x + n) last ∙ sym (line_count x)
