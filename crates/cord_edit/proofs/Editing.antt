@@ -5,7 +5,7 @@ use Rattle.std.proofs.lemmas.List.{map-append, take-map, drop-map}
 use Rattle.cord_io.specs.Table.{Table, Lengths}
 use Rattle.cord_node.specs.declared.Node.{Node}
 use Rattle.cord_node.specs.Tree.{Cell, known}
-use Rattle.cord_node.specs.Tables.{lengths_of, byte_at, AreHeldIn}
+use Rattle.cord_node.specs.Tables.{byte_at, AreHeldIn}
 use Rattle.cord_node.proofs.TableLemmas.{AreHeldIn-append, AreHeldIn-take, AreHeldIn-drop}
 use Rattle.cord_core.specs.Cord.{text}
 use Rattle.cord_core.proofs.OverLemmas.{AreHeldIn-text, bytes-text}

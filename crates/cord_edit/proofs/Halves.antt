@@ -1,5 +1,5 @@
 -- A text in one cord or in two.
-use Rattle.std.proofs.Common.{◌≡◌, ℕ, ◌+◌, ◌-◌, ◌≤◌, List, [], ◌∷◌, ◌++◌, length, take, drop, refl, sym, ap, ◌∙◌, subst, arith, length-append, append-nil}
+use Rattle.std.proofs.Common.{◌≡◌, ℕ, ◌+◌, ◌≤◌, List, ◌++◌, length, sym, subst, arith, length-append}
 use Rattle.std.specs.Prelude.{Option, Some, None}
 use Rattle.cord_io.specs.declared.TheConstants.{MAX_LEN}
 use Rattle.cord_node.specs.declared.Node.{Node}
@@ -14,7 +14,7 @@ use Rattle.cord_core.proofs.OverLemmas.{length-text}
 use Rattle.cord_core.proofs.Splices.{cut_parts, old_parts, new_parts}
 use Rattle.cord_ec.specs.Gathered.{IsGathered, Gathered}
 use Rattle.cord_ec.proofs.Leaves.{gathered_own}
-use Rattle.cord_ec.proofs.MadeLemmas.{are_from, made_from, made_more, made_through}
+use Rattle.cord_ec.proofs.MadeLemmas.{are_from}
 use Rattle.cord_edit.proofs.Parting.{spliced}
 
 -- how long two cords are

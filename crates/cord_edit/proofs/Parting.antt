@@ -1,12 +1,17 @@
 -- The parts of a text with a gap.
-use Rattle.std.proofs.Common.{◌≡◌, ℕ, zero, suc, ◌+◌, ◌*◌, ◌≤◌, List, [], ◌∷◌, ◌++◌, length, take, length-append, append-nil, refl, sym, subst, arith}
+use Rattle.std.proofs.Common.{◌≡◌, ℕ, zero, suc, ◌+◌, ◌-◌, ◌*◌, ◌≤◌, List, [], ◌∷◌, ◌++◌, length, map, take, drop, length-append, append-nil, ap, ◌∙◌, sym, subst, arith}
+use Rattle.std.specs.Prelude.{Option}
+use Rattle.cord_node.specs.declared.Node.{Node}
+use Rattle.cord_node.specs.Tree.{Cell, known}
 use Rattle.cord_node.specs.PartsFrom.{Part, AreFrom, PartsFrom}
 use Rattle.cord_node.specs.Touched.{AtMostOneMore}
 use Rattle.cord_node.proofs.PartsFromLemmas.{PartsFrom-self}
 use Rattle.cord_raw.specs.declared.buffer.TheConstants.RawBuf.{CAP}
-use Rattle.cord_ec.specs.Gathered.{leaf_parts, IsGathered, AreFromOr, Gathered}
+use Rattle.cord_core.specs.Cord.{text, text_len, parts_of}
+use Rattle.cord_ec.specs.Gathered.{leaf_parts, Growth, IsGathered, AreFromOr, Gathered}
+use Rattle.cord_edit.specs.inner.Splices.{growth_of, leaf_growth, IsSpliced}
 use Rattle.cord_ec.proofs.Leaves.{gathered_own, leaf_begun}
-use Rattle.cord_ec.proofs.MadeLemmas.{made_from, are_from, are_self, are_left, are_right, are_both, made_self, made_more, made_through, made_after, made_beside}
+use Rattle.cord_ec.proofs.MadeLemmas.{made_from, are_from, are_self, are_left, are_both, made_self, made_more, made_through, made_after, made_beside}
 
 leaf_small : (b : List ℕ) → length b ≤ CAP → AreFromOr IsGathered (leaf_parts b) []
 leaf_small [] h = tt
@@ -104,3 +109,12 @@ gathered_then_from k old ps new g h = more (k + 0) k old new (omega arith)
 pub unchanged_parts : (n : ℕ) (all old new : List Part) → old ≡ all → new ≡ old → Gathered n all new
 unchanged_parts n all old new e f = subst (λ (ps : List Part). Gathered n ps new) e
     (subst (λ (ps : List Part). Gathered n old ps) (sym f) (as_before n old))
+
+-- a leaf that was put in is its bytes
+pub leaf_spliced : {from until : ℕ} {old new : Growth} (leaf : Option Node) (b : List ℕ) → text leaf ≡ map known b → parts_of leaf ≡ leaf_parts b →
+    text_len leaf ≡ length b → IsSpliced from until (growth_of leaf) (text_len leaf) old new → IsSpliced from until (leaf_growth b) (length b) old new
+leaf_spliced {from} {until} {old} {new} leaf b t p n s = record {
+  text = s.text ∙ ap (λ (xs : List Cell). take from old.text ++ xs ++ drop until old.text) t;
+  len = s.len ∙ ap (λ (k : ℕ). from + k + (length old.text - until)) n;
+  gathered = subst (λ (ps : List Part). Gathered 1 (old.parts ++ ps) new.parts) p s.gathered;
+}

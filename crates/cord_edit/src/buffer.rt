@@ -8,7 +8,8 @@ ghost use Rattle.cord_core.specs.Refusals.{IsRefusal};
 ghost use Rattle.cord_ec.specs.Gathered.{leaf_bytes, leaf_parts, Gathered};
 ghost use Rattle.cord_ec.specs.Grown.{bytes_of_cells, IsCordOf};
 ghost use Rattle.cord_edit.specs.Edits.{edited, IsTextOf, IsEdited, IsEditedByCord};
-ghost use Rattle.cord_edit.specs.inner.Gaps.{gap_bytes};
+ghost use Rattle.cord_edit.specs.inner.Gaps.{gap_bytes, IsCleared};
+ghost use Rattle.cord_edit.specs.inner.Splices.{leaf_growth, CanSplice, IsCordWith, IsSpliced, StaysText};
 
 use crate::gap::{Gap, MOST};
 use crate::parted::Parted;
@@ -236,11 +237,8 @@ impl EditBuffer {
 
     // The text as a cord, where it is parted at the gap, whose bytes stay in it.
     fn with_gap(&mut self, alloc: Global) -> Result<Cord, CordError>
-        ensures text { IfOk result (λ c. text c ≡ self.old.text) }
-        ensures sound { IfOk result IsCord }
-        ensures gathered { IfOk result (λ c. Gathered 1 self.old.parts (parts_of c)) }
-        ensures same { self.new.text ≡ self.old.text }
-        ensures stays { Gathered 1 self.old.parts self.new.parts }
+        ensures made { IfOk result (IsCordWith 1 self.old) }
+        ensures stays { StaysText self.old self.new }
         ensures refused { IsOkUnless result CordError.NoMemory }
     {
         let leaf = Cord::from_bytes(alloc, self.gap.bytes())?;
@@ -253,8 +251,7 @@ impl EditBuffer {
     #[cold]
     #[inline(never)]
     fn insert_apart(&mut self, alloc: Global, at: u64, bytes: &[u8]) -> Result<(), CordError>
-        requires inside { at ≤ length self.old.text }
-        requires within_limit { length self.old.text + length bytes.now ≤ MAX_LEN }
+        requires { CanSplice self.old.text at at (length bytes.now) }
         ensures text { IfOk result (λ _. self.new.text ≡ edited at 0 (map known bytes.now) self.old.text) }
         ensures gathered { (k : ℕ) → length bytes.now ≤ leaf_bytes k → Gathered (2 + k) self.old.parts self.new.parts }
         ensures unchanged { IsErr result → self.new.text ≡ self.old.text }
@@ -292,19 +289,11 @@ fn flush(
     gap: &mut Gap,
     is_parted: bool,
 ) -> Result<u64, CordError>
-    requires order { cut_start ≤ cut_end }
-    requires inside { cut_end ≤ length cords.old.text }
-    requires within_limit { cut_start + length (gap_bytes gap.old) + (length cords.old.text - cut_end) ≤ MAX_LEN }
-    ensures text { IfOk result (λ _. cords.new.text
-        ≡ take cut_start cords.old.text ++ map known (gap_bytes gap.old) ++ drop cut_end cords.old.text) }
-    ensures len { IfOk result (λ _. length cords.new.text
-        ≡ cut_start + length (gap_bytes gap.old) + (length cords.old.text - cut_end)) }
+    requires { CanSplice cords.old.text cut_start cut_end (length (gap_bytes gap.old)) }
+    ensures spliced { IfOk result (λ _. IsSpliced cut_start cut_end (leaf_growth (gap_bytes gap.old))
+        (length (gap_bytes gap.old)) cords.old cords.new) }
     ensures place { IfOk result (λ place. place ≡ cut_start + length (gap_bytes gap.old)) }
-    ensures gathered { IfOk result (λ _. Gathered 1 (cords.old.parts ++ leaf_parts (gap_bytes gap.old))
-        cords.new.parts) }
-    ensures emptied { IfOk result (λ _. gap_bytes gap.new ≡ []) }
-    ensures gap_start { IfOk result (λ _. gap.new.start ≡ MOST) }
-    ensures gap_end { IfOk result (λ _. gap.new.end ≡ MOST) }
+    ensures cleared { IfOk result (λ _. IsCleared gap.new) }
     ensures cords_unchanged { IsErr result → cords.new ≡ cords.old }
     ensures gap_unchanged { IsErr result → gap.new ≡ gap.old }
     ensures refused { IsOkUnless result CordError.NoMemory }
@@ -328,14 +317,10 @@ fn put_bytes(
     bytes: &[u8],
     is_parted: bool,
 ) -> Result<(), CordError>
-    requires order { from ≤ until }
-    requires inside { until ≤ length cords.old.text }
+    requires fits { CanSplice cords.old.text from until (length bytes.now) }
     requires leaf { length bytes.now ≤ MOST }
-    requires within_limit { from + length bytes.now + (length cords.old.text - until) ≤ MAX_LEN }
-    ensures text { IfOk result (λ _. cords.new.text
-        ≡ take from cords.old.text ++ map known bytes.now ++ drop until cords.old.text) }
-    ensures len { IfOk result (λ _. length cords.new.text ≡ from + length bytes.now + (length cords.old.text - until)) }
-    ensures gathered { IfOk result (λ _. Gathered 1 (cords.old.parts ++ leaf_parts bytes.now) cords.new.parts) }
+    ensures spliced { IfOk result (λ _. IsSpliced from until (leaf_growth bytes.now) (length bytes.now)
+        cords.old cords.new) }
     ensures unchanged { IsErr result → cords.new ≡ cords.old }
     ensures refused { IsOkUnless result CordError.NoMemory }
 {
@@ -350,8 +335,7 @@ fn put_bytes(
 
 // Puts bytes in front of the byte `at`, as leaves of at most `RawBuf::CAP` bytes.
 fn put_leaves(alloc: Global, cords: &mut Parted, at: u64, bytes: &[u8]) -> Result<(), CordError>
-    requires inside { at ≤ length cords.old.text }
-    requires within_limit { length cords.old.text + length bytes.now ≤ MAX_LEN }
+    requires { CanSplice cords.old.text at at (length bytes.now) }
     ensures text { IfOk result (λ _. cords.new.text ≡ take at cords.old.text ++ map known bytes.now ++ drop at cords.old.text) }
     ensures len { IfOk result (λ _. length cords.new.text ≡ length cords.old.text + length bytes.now) }
     ensures gathered { IfOk result (λ _. (k : ℕ) → length bytes.now ≤ leaf_bytes k →

@@ -1,5 +1,5 @@
 // The bytes in a gap.
-ghost use Rattle.std.specs.Prelude.{◌≡◌, ◌↔◌, ◌+◌, ◌*◌, ◌<◌, ◌≤◌, List, [], ◌++◌, length, take, true, IfOk};
+ghost use Rattle.std.specs.Prelude.{◌≡◌, ◌+◌, ◌≤◌, [], ◌++◌, length, take, true, IfOk};
 ghost use Rattle.cord_edit.specs.declared.gap.TheConstants.{MOST, ROOM};
 ghost use borrow.Rule.Slice.PartMut.{put_mid};
 
@@ -25,7 +25,7 @@ pub(crate) struct Gap {
 }
 
 impl Gap {
-    ghost use Rattle.cord_edit.specs.inner.Gaps.{gap_bytes};
+    ghost use Rattle.cord_edit.specs.inner.Gaps.{gap_bytes, FitsAfter, FitsBefore, IsCleared};
 
     // A gap of no bytes.
     pub(crate) fn new(alloc: Global) -> Result<Gap, AllocError>
@@ -56,7 +56,7 @@ impl Gap {
     // Whether so many bytes may come after those that are there.
     #[inline(always)]
     pub(crate) fn fits_after(&self, count: usize) -> bool
-        ensures room { result ≡ true → (self.now.end + count ≤ ROOM) × (self.now.end + count ≤ self.now.start + MOST) }
+        ensures room { result ≡ true → FitsAfter self.now count }
         ensures most { result ≡ true → length (gap_bytes self.now) + count ≤ MOST }
     {
         count <= MOST - self.len() && count <= ROOM - self.end
@@ -65,7 +65,7 @@ impl Gap {
     // Whether so many bytes may come in front of those that are there.
     #[inline(always)]
     pub(crate) fn fits_before(&self, count: usize) -> bool
-        ensures room { result ≡ true → (count ≤ self.now.start) × (self.now.end + count ≤ self.now.start + MOST) }
+        ensures room { result ≡ true → FitsBefore self.now count }
         ensures most { result ≡ true → length (gap_bytes self.now) + count ≤ MOST }
     {
         count <= MOST - self.len() && count <= self.start
@@ -74,8 +74,7 @@ impl Gap {
     // Adds bytes at the end.
     #[inline(always)]
     pub(crate) fn append(&mut self, bytes: &[u8])
-        requires room { self.old.end + length bytes.now ≤ ROOM }
-        requires most { self.old.end + length bytes.now ≤ self.old.start + MOST }
+        requires { FitsAfter self.old (length bytes.now) }
         ensures { gap_bytes self.new ≡ gap_bytes self.old ++ bytes.now }
     {
         copy_to(&mut self.room, self.end, bytes);
@@ -85,8 +84,7 @@ impl Gap {
     // Adds bytes in front.
     #[inline(always)]
     pub(crate) fn prepend(&mut self, bytes: &[u8])
-        requires room { length bytes.now ≤ self.old.start }
-        requires most { self.old.end + length bytes.now ≤ self.old.start + MOST }
+        requires { FitsBefore self.old (length bytes.now) }
         ensures { gap_bytes self.new ≡ bytes.now ++ gap_bytes self.old }
     {
         let start = self.start - bytes.len();
@@ -104,9 +102,7 @@ impl Gap {
 
     // Leaves no bytes, and all the room.
     pub(crate) fn clear(&mut self)
-        ensures bytes { gap_bytes self.new ≡ [] }
-        ensures start { self.new.start ≡ MOST }
-        ensures end { self.new.end ≡ MOST }
+        ensures { IsCleared self.new }
     {
         self.start = MOST;
         self.end = MOST;

@@ -3,6 +3,7 @@ ghost use Rattle.std.specs.Prelude.{◌≡◌, ◌+◌, ◌-◌, ◌≤◌, ◌+
 ghost use Rattle.cord_node.specs.PartsFrom.{AreFrom};
 ghost use Rattle.cord_core.specs.Cord.{text, text_len, parts_of, IsCord};
 ghost use Rattle.cord_ec.specs.Gathered.{Gathered};
+ghost use Rattle.cord_edit.specs.inner.Splices.{growth_of, spliced, CanSplice, IsCordWith, IsSpliced};
 
 use cord_core::Cord;
 use cord_io::{CordError, MAX_DEPTH, MAX_LEN};
@@ -65,9 +66,7 @@ impl Parted {
 
     // The text as one cord.
     pub(crate) fn to_cord(&self, alloc: Global) -> Result<Cord, CordError>
-        ensures text { IfOk result (λ c. text c ≡ self.now.text) }
-        ensures sound { IfOk result IsCord }
-        ensures gathered { IfOk result (λ c. Gathered 0 self.now.parts (parts_of c)) }
+        ensures made { IfOk result (IsCordWith 0 self.now) }
         ensures refused { IsOkUnless result CordError.NoMemory }
     {
         let cord = Cord::cat(alloc, &self.prefix, &self.back)?;
@@ -82,14 +81,9 @@ impl Parted {
         until: u64,
         middle: &Cord,
     ) -> Result<(), CordError>
-        requires order { from ≤ until }
-        requires inside { until ≤ length self.old.text }
-        requires within_limit { from + text_len middle.now + (length self.old.text - until) ≤ MAX_LEN }
-        ensures text { IfOk result (λ _. self.new.text
-            ≡ take from self.old.text ++ text middle.now ++ drop until self.old.text) }
-        ensures len { IfOk result (λ _. length self.new.text
-            ≡ from + text_len middle.now + (length self.old.text - until)) }
-        ensures gathered { IfOk result (λ _. Gathered 1 (self.old.parts ++ parts_of middle.now) self.new.parts) }
+        requires { CanSplice self.old.text from until (text_len middle.now) }
+        ensures spliced { IfOk result (λ _. IsSpliced from until (growth_of middle.now) (text_len middle.now)
+            self.old self.new) }
         ensures unchanged { IsErr result → self.new ≡ self.old }
         ensures refused { IsOkUnless result CordError.NoMemory }
     {
@@ -112,14 +106,9 @@ impl Parted {
         until: u64,
         middle: &Cord,
     ) -> Result<(), CordError>
-        requires order { from ≤ until }
-        requires inside { until ≤ length self.old.text }
-        requires within_limit { from + text_len middle.now + (length self.old.text - until) ≤ MAX_LEN }
-        ensures text { IfOk result (λ _. self.new.text
-            ≡ take from self.old.text ++ text middle.now ++ drop until self.old.text) }
-        ensures len { IfOk result (λ _. length self.new.text
-            ≡ from + text_len middle.now + (length self.old.text - until)) }
-        ensures gathered { IfOk result (λ _. Gathered 1 (self.old.parts ++ parts_of middle.now) self.new.parts) }
+        requires { CanSplice self.old.text from until (text_len middle.now) }
+        ensures spliced { IfOk result (λ _. IsSpliced from until (growth_of middle.now) (text_len middle.now)
+            self.old self.new) }
         ensures unchanged { IsErr result → self.new ≡ self.old }
         ensures refused { IsOkUnless result CordError.NoMemory }
     {
@@ -139,13 +128,8 @@ impl Parted {
         until: u64,
         middle: &Cord,
     ) -> Result<Cord, CordError>
-        requires order { from ≤ until }
-        requires inside { until ≤ length self.old.text }
-        requires within_limit { from + text_len middle.now + (length self.old.text - until) ≤ MAX_LEN }
-        ensures text { IfOk result (λ c. text c
-            ≡ take from self.old.text ++ text middle.now ++ drop until self.old.text) }
-        ensures sound { IfOk result IsCord }
-        ensures gathered { IfOk result (λ c. Gathered 1 (self.old.parts ++ parts_of middle.now) (parts_of c)) }
+        requires { CanSplice self.old.text from until (text_len middle.now) }
+        ensures made { IfOk result (IsCordWith 1 (spliced from until (growth_of middle.now) self.old)) }
         ensures cut { IfOk result (λ _. self.new.text ≡ take from self.old.text ++ drop until self.old.text) }
         ensures cut_len { IfOk result (λ _. length self.new.text ≡ from + (length self.old.text - until)) }
         ensures stays { IfOk result (λ _. Gathered 1 self.old.parts self.new.parts) }

@@ -1,8 +1,8 @@
-use Rattle.std.proofs.Common.{◌≡◌, ◌∙◌, ◌++◌, List, [], length, map, ap, sym, subst}
+use Rattle.std.proofs.Common.{◌∙◌, ◌++◌, List, length, map, ap, sym, subst}
 use Rattle.std.proofs.lemmas.List.{length-map}
 use Rattle.cord_node.specs.PartsFrom.{Part}
 use Rattle.cord_node.specs.Tree.{known}
-use Rattle.cord_core.specs.Cord.{text, parts_of}
+use Rattle.cord_core.specs.Cord.{parts_of}
 use Rattle.cord_core.proofs.OverLemmas.{length-text}
 use Rattle.cord_ec.specs.Gathered.{Gathered}
 use Rattle.cord_edit.proofs.Parting.{gathered_then_from}

@@ -1,18 +1,12 @@
-use Rattle.std.proofs.Common.{◌≡◌, ◌∙◌, ◌+◌, ◌-◌, ◌≤◌, ◌++◌, ◌^◌, ℕ, List, [], length, length-append, map, take, drop, ap, refl, sym, subst, arith}
-use Rattle.std.proofs.lemmas.List.{length-take, length-map}
-use Rattle.std.specs.Prelude.{Option}
+use Rattle.std.proofs.Common.{◌∙◌, ◌+◌, ◌≤◌, ◌++◌, ℕ, List, length, length-append, map, ap, refl, sym, subst, arith}
 use Rattle.cord_raw.specs.declared.buffer.TheConstants.RawBuf.{CAP}
-use Rattle.cord_node.specs.declared.Node.{Node}
-use Rattle.cord_node.specs.Tree.{Cell, known}
+use Rattle.cord_node.specs.Tree.{known}
 use Rattle.cord_node.specs.PartsFrom.{Part}
-use Rattle.cord_core.specs.Cord.{text, text_len, parts_of}
 use Rattle.cord_ec.specs.Gathered.{Growth, Gathered, leaf_parts}
-use Rattle.cord_edit.specs.declared.gap.Gap.{Gap}
-use Rattle.cord_edit.specs.Edits.{edited}
 use Rattle.cord_edit.specs.inner.Gaps.{gap_bytes}
 use Rattle.cord_ec.proofs.Leaves.{tail_grown}
 use Rattle.cord_edit.proofs.Lists.{insert_clamped}
-use Rattle.cord_edit.proofs.Steps.{gapped, typed_after, typed_before}
+use Rattle.cord_edit.proofs.Steps.{typed_after, typed_before}
 use Rattle.cord_edit.proofs.Editing.{edited_by}
 use Rattle.cord_edit.proofs.Parting.{more, prefix_grown, as_before}
 use Rattle.cord_edit.proofs.buffer.EditBuffer.insert.Goals as goal

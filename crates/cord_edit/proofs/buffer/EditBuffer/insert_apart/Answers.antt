@@ -1,14 +1,7 @@
-use Rattle.std.proofs.Common.{◌≡◌, ◌∙◌, ◌+◌, ◌-◌, ◌≤◌, ◌++◌, ◌^◌, ℕ, List, [], length, length-append, map, take, drop, ap, refl, sym, subst, arith}
-use Rattle.std.proofs.lemmas.List.{length-take, length-map}
-use Rattle.std.specs.Prelude.{Option}
-use Rattle.cord_raw.specs.declared.buffer.TheConstants.RawBuf.{CAP}
-use Rattle.cord_node.specs.declared.Node.{Node}
-use Rattle.cord_node.specs.Tree.{Cell, known}
+use Rattle.std.proofs.Common.{◌≡◌, ◌∙◌, ◌+◌, ◌++◌, ℕ, List, ap, refl, sym, subst, arith}
 use Rattle.cord_node.specs.PartsFrom.{Part}
-use Rattle.cord_core.specs.Cord.{text, text_len, parts_of}
 use Rattle.cord_ec.specs.Gathered.{Growth, Gathered, leaf_parts}
 use Rattle.cord_edit.specs.declared.gap.Gap.{Gap}
-use Rattle.cord_edit.specs.Edits.{edited}
 use Rattle.cord_edit.specs.inner.Gaps.{gap_bytes}
 use Rattle.cord_edit.proofs.Parting.{more, steps, gap_begun, no_gap, unchanged_parts}
 use Rattle.cord_edit.proofs.buffer.EditBuffer.insert_apart.Goals as goal
@@ -23,19 +16,19 @@ returns-then-bytes-le-MOST-clause-gathered c = λ k few.
     let ps : List Part = c.flush.new.cords.parts in
     let b : List ℕ = c.args.bytes.now in
     let held : gap_bytes c.append.new.self ≡ b =
-    c.append.ensures ∙ ap (λ (g : List ℕ). g ++ b) c.in_ok-flush.ensures.emptied in
+    c.append.ensures ∙ ap (λ (g : List ℕ). g ++ b) c.in_ok-flush.ensures.cleared.bytes in
     subst (λ (old : List Part). Gathered (2 + k) old (ps ++ leaf_parts (gap_bytes c.append.new.self)))
     (ap (λ (e : Growth). e.parts) c.self.view_is)
     (subst (λ (h : List ℕ). Gathered (2 + k) (c.self.inside.cords.parts ++ leaf_parts (gap_bytes c.self.inside.gap)) (ps ++ leaf_parts h))
     (sym held)
-    (gap_begun k (c.self.inside.cords.parts ++ leaf_parts (gap_bytes c.self.inside.gap)) ps b (omega arith) c.in_ok-flush.ensures.gathered))
+    (gap_begun k (c.self.inside.cords.parts ++ leaf_parts (gap_bytes c.self.inside.gap)) ps b (omega arith) c.in_ok-flush.ensures.spliced.gathered))
 
 pub returns-clause-gathered : goal.returns-clause-gathered
 returns-clause-gathered c = λ k few.
     let old : List Part = c.self.inside.cords.parts ++ leaf_parts (gap_bytes c.self.inside.gap) in
     subst (λ (ps : List Part). Gathered (2 + k) ps (c.put_leaves.new.cords.parts ++ leaf_parts (gap_bytes c.flush.new.gap)))
     (ap (λ (e : Growth). e.parts) c.self.view_is)
-    (no_gap (2 + k) old c.put_leaves.new.cords.parts (gap_bytes c.flush.new.gap) c.in_ok-flush.ensures.emptied
+    (no_gap (2 + k) old c.put_leaves.new.cords.parts (gap_bytes c.flush.new.gap) c.in_ok-flush.ensures.cleared.bytes
     (more (1 + (1 + k)) (2 + k) old c.put_leaves.new.cords.parts (omega arith)
-    (steps 1 (1 + k) old c.flush.new.cords.parts c.put_leaves.new.cords.parts c.in_ok-flush.ensures.gathered
+    (steps 1 (1 + k) old c.flush.new.cords.parts c.put_leaves.new.cords.parts c.in_ok-flush.ensures.spliced.gathered
     (c.in_ok-put_leaves.ensures.gathered k few))))

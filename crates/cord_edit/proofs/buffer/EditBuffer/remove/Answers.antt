@@ -1,16 +1,11 @@
-use Rattle.std.proofs.Common.{◌≡◌, ◌∙◌, ◌+◌, ◌-◌, ◌≤◌, ◌++◌, ◌^◌, ℕ, List, [], length, length-append, map, take, drop, ap, refl, sym, subst, arith}
-use Rattle.std.proofs.lemmas.List.{length-take, length-map}
-use Rattle.std.specs.Prelude.{Option}
+use Rattle.std.proofs.Common.{◌∙◌, ◌+◌, ◌-◌, ◌≤◌, ◌++◌, ◌^◌, ℕ, List, [], length, take, ap, refl, sym, subst, arith}
+use Rattle.std.proofs.lemmas.List.{length-take}
 use Rattle.cord_raw.specs.declared.buffer.TheConstants.RawBuf.{CAP}
-use Rattle.cord_node.specs.declared.Node.{Node}
-use Rattle.cord_node.specs.Tree.{Cell, known}
 use Rattle.cord_node.specs.PartsFrom.{Part}
-use Rattle.cord_core.specs.Cord.{text, text_len, parts_of}
 use Rattle.cord_ec.specs.Gathered.{Growth, Gathered, leaf_parts}
 use Rattle.cord_edit.specs.declared.gap.Gap.{Gap}
-use Rattle.cord_edit.specs.Edits.{edited}
 use Rattle.cord_edit.specs.inner.Gaps.{gap_bytes}
-use Rattle.cord_edit.proofs.Steps.{gapped, removed_next, removed_apart}
+use Rattle.cord_edit.proofs.Steps.{removed_next, removed_apart}
 use Rattle.cord_edit.proofs.Editing.{edited_by}
 use Rattle.cord_edit.proofs.Parting.{tail_cut, unchanged_parts}
 use Rattle.cord_edit.proofs.buffer.EditBuffer.remove.Goals as goal
@@ -44,7 +39,7 @@ returns-in_err-flush-clause-gathered c = unchanged_parts 1 _ _ _ (ap (λ (g : Gr
 pub returns-clause-text : goal.returns-clause-text
 returns-clause-text c = removed_apart c.flush.new.cords.text c.args.self.now.text (gap_bytes c.flush.new.gap) c.len-len.result
     c.min-from.result c.min-until.result c.args.start c.args.count c.saturating_add.result (2 ^ 64 - 1)
-    (c.in_ok-flush.ensures.text ∙ ap (λ (g : Growth). g.text) c.self.view_is) c.in_ok-flush.ensures.emptied c.len-len.ensures.value
+    (c.in_ok-flush.ensures.spliced.text ∙ ap (λ (g : Growth). g.text) c.self.view_is) c.in_ok-flush.ensures.cleared.bytes c.len-len.ensures.value
     (omega (arith, c.len-len.ensures.limit)) c.min-from.ensures c.saturating_add.ensures c.min-until.ensures
 
 pub returns-clause-over : goal.returns-clause-over

@@ -1,19 +1,14 @@
-use Rattle.std.proofs.Common.{◌≡◌, ◌∙◌, ◌+◌, ◌-◌, ◌≤◌, ◌++◌, ◌^◌, ℕ, List, [], length, length-append, map, take, drop, ap, refl, sym, subst, arith, rules}
-use Rattle.std.proofs.lemmas.List.{length-take, length-map}
-use Rattle.std.specs.Prelude.{Option}
-use Rattle.cord_raw.specs.declared.buffer.TheConstants.RawBuf.{CAP}
-use Rattle.cord_node.specs.declared.Node.{Node}
-use Rattle.cord_node.specs.Tree.{Cell, known}
+use Rattle.std.proofs.Common.{◌≡◌, ◌∙◌, ◌+◌, ◌-◌, ◌++◌, ◌^◌, ℕ, List, length, take, drop, ap, refl, sym, subst, arith, rules}
+use Rattle.cord_node.specs.Tree.{Cell}
 use Rattle.cord_node.specs.PartsFrom.{Part}
-use Rattle.cord_core.specs.Cord.{text, text_len, parts_of}
+use Rattle.cord_core.specs.Cord.{text, parts_of}
 use Rattle.cord_ec.specs.Gathered.{Growth, Gathered, leaf_parts}
 use Rattle.cord_edit.specs.declared.gap.Gap.{Gap}
-use Rattle.cord_edit.specs.Edits.{edited}
 use Rattle.cord_edit.specs.inner.Gaps.{gap_bytes}
 use Rattle.cord_core.proofs.Splices.{clamped_text}
 use Rattle.cord_edit.proofs.Lists.{around_nothing}
 use Rattle.cord_edit.proofs.Editing.{edited_by_cord}
-use Rattle.cord_edit.proofs.Parting.{no_gap, not_yet, spliced_after, untouched, unchanged_parts}
+use Rattle.cord_edit.proofs.Parting.{no_gap, not_yet, spliced_after, untouched}
 use Rattle.cord_edit.proofs.buffer.EditBuffer.splice.Goals as goal
 
 pub returns-then-from-len-gt-MAX_LEN-clause-gathered : goal.returns-then-from-len-gt-MAX_LEN-clause-gathered
@@ -29,19 +24,12 @@ returns-in_err-end-clause-gathered c =
     subst (λ (ps : List Part). Gathered 2 (c.args.self.now.parts ++ parts_of c.args.middle.now) ps) (sym same)
     (untouched 2 c.args.self.now.parts (parts_of c.args.middle.now))
 
-pub splice-requires-clause-inside : goal.splice-requires-clause-inside
-splice-requires-clause-inside c = omega (
+pub splice-requires : goal.splice-requires
+splice-requires c = omega (
   arith,
   c.min-until.ensures,
   c.len-len.ensures.value,
-  ap length (c.in_ok-end.ensures.text ∙ ap (λ (e : Growth). e.text) c.self.view_is),
-)
-
-pub splice-requires-clause-within_limit : goal.splice-requires-clause-within_limit
-splice-requires-clause-within_limit c = omega (
-  arith,
-  c.len-len.ensures.value,
-  ap length (c.in_ok-end.ensures.text ∙ ap (λ (e : Growth). e.text) c.self.view_is),
+  ap length (c.in_ok-end.ensures.spliced.text ∙ ap (λ (e : Growth). e.text) c.self.view_is),
 )
 
 pub returns-in_err-splice-clause-gathered : goal.returns-in_err-splice-clause-gathered
@@ -52,17 +40,17 @@ returns-in_err-splice-clause-gathered c =
     (sym (c.in_err-splice.ensures.unchanged refl))
     (subst (λ (old : List Part). Gathered 2 (old ++ m) (c.flush.new.cords.parts ++ leaf_parts g))
     (ap (λ (e : Growth). e.parts) c.self.view_is)
-    (not_yet _ c.flush.new.cords.parts m g c.in_ok-end.ensures.emptied c.in_ok-end.ensures.gathered))
+    (not_yet _ c.flush.new.cords.parts m g c.in_ok-end.ensures.cleared.bytes c.in_ok-end.ensures.spliced.gathered))
 
 pub returns-clause-text : goal.returns-clause-text
 returns-clause-text c = around_nothing c.splice.new.self.text (gap_bytes c.flush.new.gap) (c.min-from.result + c.len-2.result)
-    c.in_ok-end.ensures.emptied
+    c.in_ok-end.ensures.cleared.bytes
     ∙ clamped_text c.args.self.now.text (text c.args.middle.now) c.splice.new.self.text c.args.start (c.args.start + c.args.count)
     (2 ^ 64 - 1) c.len-len.result c.min-from.result c.saturating_add.result c.min-until.result (sym c.len-len.ensures.value)
     (omega (arith, c.len-len.ensures.limit)) c.min-from.ensures c.saturating_add.ensures c.min-until.ensures
-    (c.in_ok-splice.ensures.text
+    (c.in_ok-splice.ensures.spliced.text
     ∙ ap (λ (xs : List Cell). take c.min-from.result xs ++ text c.args.middle.now ++ drop c.min-until.result xs)
-    (c.in_ok-end.ensures.text ∙ ap (λ (e : Growth). e.text) c.self.view_is))
+    (c.in_ok-end.ensures.spliced.text ∙ ap (λ (e : Growth). e.text) c.self.view_is))
 
 pub returns-clause-over : goal.returns-clause-over
 returns-clause-over c = edited_by_cord c.args.start c.args.count c.args.middle.now c.args.self.now.text _ (returns-clause-text c)
@@ -73,8 +61,8 @@ returns-clause-gathered c =
     let g : List ℕ = gap_bytes c.flush.new.gap in
     subst (λ (old : List Part). Gathered 2 (old ++ m) (c.splice.new.self.parts ++ leaf_parts g))
     (ap (λ (e : Growth). e.parts) c.self.view_is)
-    (no_gap 2 _ c.splice.new.self.parts g c.in_ok-end.ensures.emptied
-    (spliced_after _ c.flush.new.cords.parts m c.splice.new.self.parts c.in_ok-end.ensures.gathered c.in_ok-splice.ensures.gathered))
+    (no_gap 2 _ c.splice.new.self.parts g c.in_ok-end.ensures.cleared.bytes
+    (spliced_after _ c.flush.new.cords.parts m c.splice.new.self.parts c.in_ok-end.ensures.spliced.gathered c.in_ok-splice.ensures.spliced.gathered))
 
 pub invariant_of-self-2 : goal.invariant_of-self-2
 invariant_of-self-2 c = search rules

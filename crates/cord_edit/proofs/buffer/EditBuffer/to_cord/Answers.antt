@@ -1,14 +1,8 @@
-use Rattle.std.proofs.Common.{◌≡◌, ◌∙◌, ◌+◌, ◌-◌, ◌≤◌, ◌++◌, ◌^◌, ℕ, List, [], length, length-append, map, take, drop, ap, refl, sym, subst, arith}
-use Rattle.std.proofs.lemmas.List.{length-take, length-map}
-use Rattle.std.specs.Prelude.{Option}
-use Rattle.cord_raw.specs.declared.buffer.TheConstants.RawBuf.{CAP}
-use Rattle.cord_node.specs.declared.Node.{Node}
-use Rattle.cord_node.specs.Tree.{Cell, known}
+use Rattle.std.proofs.Common.{◌∙◌, ◌+◌, ◌++◌, List, ap, refl, subst, arith}
 use Rattle.cord_node.specs.PartsFrom.{Part}
-use Rattle.cord_core.specs.Cord.{text, text_len, parts_of, IsCord}
+use Rattle.cord_core.specs.Cord.{parts_of}
 use Rattle.cord_ec.specs.Gathered.{Growth, Gathered, leaf_parts}
 use Rattle.cord_edit.specs.declared.gap.Gap.{Gap}
-use Rattle.cord_edit.specs.Edits.{edited}
 use Rattle.cord_edit.specs.inner.Gaps.{gap_bytes}
 use Rattle.cord_ec.proofs.Growing.{cord_of}
 use Rattle.cord_edit.proofs.Lists.{around_nothing}
@@ -23,26 +17,26 @@ returns-in_err-end-clause-stays c = unchanged_parts 1 _ _ _ (ap (λ (g : Growth)
 pub returns-in_err-cord-2-clause-stays : goal.returns-in_err-cord-2-clause-stays
 returns-in_err-cord-2-clause-stays c = subst (λ (old : List Part). Gathered 1 old (c.flush.new.cords.parts ++ leaf_parts (gap_bytes c.flush.new.gap)))
     (ap (λ (e : Growth). e.parts) c.self.view_is)
-    (no_gap 1 _ c.flush.new.cords.parts (gap_bytes c.flush.new.gap) c.in_ok-end.ensures.emptied c.in_ok-end.ensures.gathered)
+    (no_gap 1 _ c.flush.new.cords.parts (gap_bytes c.flush.new.gap) c.in_ok-end.ensures.cleared.bytes c.in_ok-end.ensures.spliced.gathered)
 
 pub returns-then-has_edits-clause-over : goal.returns-then-has_edits-clause-over
-returns-then-has_edits-clause-over c = cord_of c.args.self.now.text c.in_ok-cord.cord c.in_ok-cord.ensures.sound c.in_ok-cord.ensures.text
+returns-then-has_edits-clause-over c = cord_of c.args.self.now.text c.in_ok-cord.cord c.in_ok-cord.ensures.made.sound c.in_ok-cord.ensures.made.text
 
 pub returns-clause-over : goal.returns-clause-over
-returns-clause-over c = cord_of c.args.self.now.text c.in_ok-cord-2.cord c.in_ok-cord-2.ensures.sound
-    (c.in_ok-cord-2.ensures.text ∙ c.in_ok-end.ensures.text ∙ ap (λ (e : Growth). e.text) c.self.view_is)
+returns-clause-over c = cord_of c.args.self.now.text c.in_ok-cord-2.cord c.in_ok-cord-2.ensures.made.sound
+    (c.in_ok-cord-2.ensures.made.text ∙ c.in_ok-end.ensures.spliced.text ∙ ap (λ (e : Growth). e.text) c.self.view_is)
 
 pub returns-clause-gathered : goal.returns-clause-gathered
 returns-clause-gathered c = subst (λ (old : List Part). Gathered 1 old (parts_of c.in_ok-cord-2.cord))
     (ap (λ (e : Growth). e.parts) c.self.view_is)
     (more (1 + 0) 1 _ _ (omega arith)
-    (steps 1 0 _ c.flush.new.cords.parts (parts_of c.in_ok-cord-2.cord) c.in_ok-end.ensures.gathered c.in_ok-cord-2.ensures.gathered))
+    (steps 1 0 _ c.flush.new.cords.parts (parts_of c.in_ok-cord-2.cord) c.in_ok-end.ensures.spliced.gathered c.in_ok-cord-2.ensures.made.gathered))
 
 pub returns-clause-stays : goal.returns-clause-stays
 returns-clause-stays c = subst (λ (old : List Part). Gathered 1 old (c.flush.new.cords.parts ++ leaf_parts (gap_bytes c.flush.new.gap)))
     (ap (λ (e : Growth). e.parts) c.self.view_is)
-    (no_gap 1 _ c.flush.new.cords.parts (gap_bytes c.flush.new.gap) c.in_ok-end.ensures.emptied c.in_ok-end.ensures.gathered)
+    (no_gap 1 _ c.flush.new.cords.parts (gap_bytes c.flush.new.gap) c.in_ok-end.ensures.cleared.bytes c.in_ok-end.ensures.spliced.gathered)
 
 pub returns-clause-same : goal.returns-clause-same
-returns-clause-same c = around_nothing c.flush.new.cords.text (gap_bytes c.flush.new.gap) c.in_ok-end.end c.in_ok-end.ensures.emptied
-    ∙ c.in_ok-end.ensures.text ∙ ap (λ (e : Growth). e.text) c.self.view_is
+returns-clause-same c = around_nothing c.flush.new.cords.text (gap_bytes c.flush.new.gap) c.in_ok-end.end c.in_ok-end.ensures.cleared.bytes
+    ∙ c.in_ok-end.ensures.spliced.text ∙ ap (λ (e : Growth). e.text) c.self.view_is

@@ -1,14 +1,8 @@
-use Rattle.std.proofs.Common.{◌≡◌, ◌∙◌, ◌+◌, ◌-◌, ◌≤◌, ◌++◌, ◌^◌, ℕ, List, [], length, length-append, map, take, drop, ap, refl, sym, subst, arith, rules}
-use Rattle.std.proofs.lemmas.List.{length-take, length-map}
-use Rattle.std.specs.Prelude.{Option}
-use Rattle.cord_raw.specs.declared.buffer.TheConstants.RawBuf.{CAP}
-use Rattle.cord_node.specs.declared.Node.{Node}
+use Rattle.std.proofs.Common.{◌∙◌, ◌++◌, List, length, map, take, drop, ap, refl, subst, arith, rules}
 use Rattle.cord_node.specs.Tree.{Cell, known}
 use Rattle.cord_node.specs.PartsFrom.{Part}
-use Rattle.cord_core.specs.Cord.{text, text_len, parts_of, IsCord}
+use Rattle.cord_core.specs.Cord.{parts_of}
 use Rattle.cord_ec.specs.Gathered.{Growth, Gathered, leaf_parts}
-use Rattle.cord_edit.specs.declared.gap.Gap.{Gap}
-use Rattle.cord_edit.specs.Edits.{edited}
 use Rattle.cord_edit.specs.inner.Gaps.{gap_bytes}
 use Rattle.cord_ec.proofs.Leaves.{gathered_own, leaf_of_bytes}
 use Rattle.cord_ec.specs.Gathered.{IsGathered}
@@ -18,37 +12,40 @@ use Rattle.cord_edit.proofs.Parting.{as_before, unchanged_parts}
 use Rattle.cord_edit.proofs.buffer.EditBuffer.with_gap.Goals as goal
 
 pub returns-in_err-leaf-clause-stays : goal.returns-in_err-leaf-clause-stays
-returns-in_err-leaf-clause-stays c = as_before 1 c.args.self.now.parts
+returns-in_err-leaf-clause-stays c = record { same = refl; stays = as_before 1 c.args.self.now.parts }
 
 pub returns-in_err-cord-clause-stays : goal.returns-in_err-cord-clause-stays
-returns-in_err-cord-clause-stays c = unchanged_parts 1 _ _ _ (ap (λ (g : Growth). g.parts) c.self.view_is)
-    (ap (λ (n : Growth). n.parts ++ leaf_parts (gap_bytes c.self.inside.gap)) (c.in_err-cord.ensures.unchanged refl))
+returns-in_err-cord-clause-stays c = record {
+  same = ap (λ (n : Growth). take c.self.inside.cut_start n.text ++ map known (gap_bytes c.self.inside.gap) ++ drop c.self.inside.cut_end n.text)
+      (c.in_err-cord.ensures.unchanged refl) ∙ ap (λ (g : Growth). g.text) c.self.view_is;
+  stays = unchanged_parts 1 _ _ _ (ap (λ (g : Growth). g.parts) c.self.view_is)
+      (ap (λ (n : Growth). n.parts ++ leaf_parts (gap_bytes c.self.inside.gap)) (c.in_err-cord.ensures.unchanged refl));
+}
 
-pub returns-clause-text : goal.returns-clause-text
-returns-clause-text c = c.in_ok-cord.ensures.text
-    ∙ ap (λ (xs : List Cell). take c.self.inside.cut_start c.self.inside.cords.text ++ xs ++ drop c.self.inside.cut_end c.self.inside.cords.text)
-    (c.in_ok-leaf.ensures.text ∙ ap (map known) c.bytes.ensures) ∙ ap (λ (e : Growth). e.text) c.self.view_is
-
-pub returns-clause-same : goal.returns-clause-same
-returns-clause-same c = still_around c.self.inside.cords.text c.with.new.self.text (gap_bytes c.self.inside.gap) c.self.inside.cut_start
-    c.self.inside.cut_end (omega (arith, c.self.invariant.0, c.self.invariant.1)) c.in_ok-cord.ensures.cut
-    ∙ ap (λ (e : Growth). e.text) c.self.view_is
-
-pub returns-clause-gathered : goal.returns-clause-gathered
-returns-clause-gathered c = subst (λ (old : List Part). Gathered 1 old (parts_of c.in_ok-cord.cord))
-    (ap (λ (e : Growth). e.parts) c.self.view_is)
-    (subst (λ (leaf : List Part). Gathered 1 (c.self.inside.cords.parts ++ leaf) (parts_of c.in_ok-cord.cord))
-    (leaf_of_bytes c.bytes.result.now c.in_ok-leaf.leaf c.in_ok-leaf.ensures.sound c.in_ok-leaf.ensures.form
-    ∙ ap leaf_parts c.bytes.ensures) c.in_ok-cord.ensures.gathered)
+pub returns-clause-made : goal.returns-clause-made
+returns-clause-made c = record {
+  text = c.in_ok-cord.ensures.made.text
+      ∙ ap (λ (xs : List Cell). take c.self.inside.cut_start c.self.inside.cords.text ++ xs ++ drop c.self.inside.cut_end c.self.inside.cords.text)
+      (c.in_ok-leaf.ensures.text ∙ ap (map known) c.bytes.ensures) ∙ ap (λ (e : Growth). e.text) c.self.view_is;
+  sound = c.in_ok-cord.ensures.made.sound;
+  gathered = subst (λ (old : List Part). Gathered 1 old (parts_of c.in_ok-cord.cord)) (ap (λ (e : Growth). e.parts) c.self.view_is)
+      (subst (λ (leaf : List Part). Gathered 1 (c.self.inside.cords.parts ++ leaf) (parts_of c.in_ok-cord.cord))
+      (leaf_of_bytes c.bytes.result.now c.in_ok-leaf.leaf c.in_ok-leaf.ensures.sound c.in_ok-leaf.ensures.form
+      ∙ ap leaf_parts c.bytes.ensures) c.in_ok-cord.ensures.made.gathered);
+}
 
 pub returns-clause-stays : goal.returns-clause-stays
-returns-clause-stays c = subst (λ (old : List Part). Gathered 1 old (c.with.new.self.parts ++ leaf_parts (gap_bytes c.self.inside.gap)))
-    (ap (λ (e : Growth). e.parts) c.self.view_is)
-    (made_beside IsGathered gathered_own 1 c.self.inside.cords.parts c.with.new.self.parts (leaf_parts (gap_bytes c.self.inside.gap))
-    c.in_ok-cord.ensures.stays)
+returns-clause-stays c = record {
+  same = still_around c.self.inside.cords.text c.with.new.self.text (gap_bytes c.self.inside.gap) c.self.inside.cut_start c.self.inside.cut_end
+      (omega (arith, c.self.invariant.0, c.self.invariant.1)) c.in_ok-cord.ensures.cut ∙ ap (λ (e : Growth). e.text) c.self.view_is;
+  stays = subst (λ (old : List Part). Gathered 1 old (c.with.new.self.parts ++ leaf_parts (gap_bytes c.self.inside.gap)))
+      (ap (λ (e : Growth). e.parts) c.self.view_is)
+      (made_beside IsGathered gathered_own 1 c.self.inside.cords.parts c.with.new.self.parts (leaf_parts (gap_bytes c.self.inside.gap))
+      c.in_ok-cord.ensures.stays);
+}
 
-pub with-requires-clause-within_limit : goal.with-requires-clause-within_limit
-with-requires-clause-within_limit c = omega (arith, c.in_ok-leaf.ensures.len, ap length c.bytes.ensures, c.self.invariant.0, c.self.invariant.1)
+pub with-requires : goal.with-requires
+with-requires c = omega (arith, c.in_ok-leaf.ensures.len, ap length c.bytes.ensures, c.self.invariant.0, c.self.invariant.1)
 
 pub invariant_of-self-2 : goal.invariant_of-self-2
 invariant_of-self-2 c = search rules

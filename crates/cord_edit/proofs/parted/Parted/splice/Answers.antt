@@ -1,53 +1,44 @@
-use Rattle.std.proofs.Common.{◌≡◌, ◌∙◌, ◌+◌, ◌-◌, ◌≤◌, ◌++◌, append-nil, ℕ, List, [], length, length-append, map, take, drop, ap, refl, sym, subst, arith}
+use Rattle.std.proofs.Common.{◌≡◌, ◌∙◌, ◌++◌, append-nil, List, length, ap, sym, subst, arith}
 use Rattle.std.proofs.lemmas.Grind.{common_steps}
 use Rattle.std.specs.Prelude.{Option}
-use Rattle.cord_io.specs.declared.TheConstants.{MAX_LEN}
 use Rattle.cord_node.specs.declared.Node.{Node}
-use Rattle.cord_node.specs.Tree.{Cell}
-use Rattle.cord_node.specs.PartsFrom.{Part, AreFrom}
-use Rattle.cord_node.proofs.PartsFromLemmas.{AreFrom-trans}
-use Rattle.cord_core.specs.Cord.{text, text_len, parts_of, IsCord}
-use Rattle.cord_core.proofs.Splices.{old_parts, new_parts, joined_parts}
-use Rattle.cord_core.proofs.OverLemmas.{length-text}
-use Rattle.cord_ec.specs.Gathered.{Growth, IsGathered, Gathered}
-use Rattle.cord_ec.proofs.Leaves.{gathered_own}
-use Rattle.cord_ec.proofs.MadeLemmas.{made_from}
-use Rattle.cord_edit.proofs.Halves.{counted, one_cord, halves_few, parted, put_between, put_after, put_in_prefix, put_in_all}
+use Rattle.cord_node.specs.PartsFrom.{Part}
+use Rattle.cord_core.specs.Cord.{text_len, parts_of}
+use Rattle.cord_ec.specs.Gathered.{Growth, Gathered}
+use Rattle.cord_edit.proofs.Halves.{counted, one_cord, put_in_prefix, put_in_all}
 use Rattle.cord_edit.proofs.parted.Parted.splice.Goals as goal
 
-pub returns-then-len-eq0-clause-len : goal.returns-then-len-eq0-clause-len
-returns-then-len-eq0-clause-len c = counted c.splice.new.self c.self.inside.back c.in_ok-splice.ensures.sound c.len.ensures.sound
-    ∙ omega (arith, c.in_ok-splice.ensures.len, c.len.ensures.stored, c.if-len-eq0.true, c.requires.order, c.requires.inside, c.self.invariant.1, ap (λ (e : Growth). length e.text) c.self.view_is)
+pub returns-then-len-eq0-clause-spliced : goal.returns-then-len-eq0-clause-spliced
+returns-then-len-eq0-clause-spliced c = record {
+  text = grind (arith, common_steps);
+  len = counted c.splice.new.self c.self.inside.back c.in_ok-splice.ensures.sound c.len.ensures.sound
+      ∙ omega (arith, c.in_ok-splice.ensures.len, c.len.ensures.stored, c.if-len-eq0.true, c.requires.order, c.requires.inside, c.self.invariant.1, ap (λ (e : Growth). length e.text) c.self.view_is);
+  gathered = subst (λ (old : List Part). Gathered 1 (old ++ parts_of c.args.middle.now) (parts_of c.splice.new.self ++ parts_of c.self.inside.back))
+      (ap (λ (e : Growth). e.parts) c.self.view_is)
+      (put_in_prefix (parts_of c.self.inside.prefix) (parts_of c.self.inside.back) (parts_of c.args.middle.now) (parts_of c.splice.new.self)
+      c.in_ok-splice.ensures.few c.in_ok-splice.ensures.from_there);
+}
 
 pub invariant_of-self-then-len-eq0 : goal.invariant_of-self-then-len-eq0
 invariant_of-self-then-len-eq0 c =
-    let both : length (text c.splice.new.self ++ text c.self.inside.back) ≡ text_len c.splice.new.self + text_len c.self.inside.back =
-    counted c.splice.new.self c.self.inside.back c.in_ok-splice.ensures.sound c.len.ensures.sound in
-    let limit : text_len c.splice.new.self + text_len c.self.inside.back ≤ MAX_LEN =
-    omega (arith, both, returns-then-len-eq0-clause-len c, c.requires.within_limit) in
-    (limit, both)
-
-pub returns-then-len-eq0-clause-gathered : goal.returns-then-len-eq0-clause-gathered
-returns-then-len-eq0-clause-gathered c =
-    subst (λ (old : List Part). Gathered 1 (old ++ parts_of c.args.middle.now) (parts_of c.splice.new.self ++ parts_of c.self.inside.back))
-    (ap (λ (e : Growth). e.parts) c.self.view_is)
-    (put_in_prefix (parts_of c.self.inside.prefix) (parts_of c.self.inside.back) (parts_of c.args.middle.now) (parts_of c.splice.new.self)
-    c.in_ok-splice.ensures.few c.in_ok-splice.ensures.from_there)
+    let both = counted c.splice.new.self c.self.inside.back c.in_ok-splice.ensures.sound c.len.ensures.sound in
+    let len = (returns-then-len-eq0-clause-spliced c).len in
+    (omega (arith, both, len, c.requires.within_limit), both)
 
 pub invariant_of-self-2 : goal.invariant_of-self-2
 invariant_of-self-2 c = one_cord c.splice-2.new.self c.empty.result c.in_ok-splice-2.ensures.sound c.empty.ensures
 
-pub returns-clause-len : goal.returns-clause-len
-returns-clause-len c =
-    let none : text_len c.empty.result ≡ 0 = ap text_len c.empty.ensures in
-    (invariant_of-self-2 c).1
-    ∙ omega (arith, none, c.in_ok-splice-2.ensures.len, c.in_ok-all.ensures.len, c.requires.order, c.requires.inside, c.self.invariant.1, ap (λ (e : Growth). length e.text) c.self.view_is)
-
-pub returns-clause-gathered : goal.returns-clause-gathered
-returns-clause-gathered c =
+pub returns-clause-spliced : goal.returns-clause-spliced
+returns-clause-spliced c =
     let m : List Part = parts_of c.args.middle.now in
-    subst (λ (n : Option Node). Gathered 1 (c.args.self.now.parts ++ m) (parts_of c.splice-2.new.self ++ parts_of n)) (sym c.empty.ensures)
-    (subst (λ (ps : List Part). Gathered 1 (c.args.self.now.parts ++ m) ps) (sym (append-nil (parts_of c.splice-2.new.self)))
-    (subst (λ (old : List Part). Gathered 1 (old ++ m) (parts_of c.splice-2.new.self)) (ap (λ (e : Growth). e.parts) c.self.view_is)
-    (put_in_all (parts_of c.self.inside.prefix ++ parts_of c.self.inside.back) m (parts_of c.in_ok-all.all) (parts_of c.splice-2.new.self)
-    c.in_ok-all.ensures.parts_from c.in_ok-splice-2.ensures.few c.in_ok-splice-2.ensures.from_there)))
+    let none : text_len c.empty.result ≡ 0 = ap text_len c.empty.ensures in
+    record {
+      text = grind (arith, common_steps);
+      len = (invariant_of-self-2 c).1
+          ∙ omega (arith, none, c.in_ok-splice-2.ensures.len, c.in_ok-all.ensures.len, c.requires.order, c.requires.inside, c.self.invariant.1, ap (λ (e : Growth). length e.text) c.self.view_is);
+      gathered = subst (λ (n : Option Node). Gathered 1 (c.args.self.now.parts ++ m) (parts_of c.splice-2.new.self ++ parts_of n)) (sym c.empty.ensures)
+          (subst (λ (ps : List Part). Gathered 1 (c.args.self.now.parts ++ m) ps) (sym (append-nil (parts_of c.splice-2.new.self)))
+          (subst (λ (old : List Part). Gathered 1 (old ++ m) (parts_of c.splice-2.new.self)) (ap (λ (e : Growth). e.parts) c.self.view_is)
+          (put_in_all (parts_of c.self.inside.prefix ++ parts_of c.self.inside.back) m (parts_of c.in_ok-all.all) (parts_of c.splice-2.new.self)
+          c.in_ok-all.ensures.parts_from c.in_ok-splice-2.ensures.few c.in_ok-splice-2.ensures.from_there)));
+    }

@@ -1,18 +1,10 @@
-use Rattle.std.proofs.Common.{◌≡◌, ◌∙◌, ◌+◌, ◌-◌, ◌≤◌, ◌++◌, ℕ, List, [], length, length-append, map, take, drop, ap, refl, sym, subst, arith}
-use Rattle.std.proofs.lemmas.Grind.{common_steps}
-use Rattle.std.specs.Prelude.{Option}
+use Rattle.std.proofs.Common.{◌∙◌, ◌+◌, ◌≤◌, ◌++◌, List, length, take, drop, ap, subst, arith}
 use Rattle.cord_io.specs.declared.TheConstants.{MAX_LEN}
-use Rattle.cord_node.specs.declared.Node.{Node}
 use Rattle.cord_node.specs.Tree.{Cell}
-use Rattle.cord_node.specs.PartsFrom.{Part, AreFrom}
-use Rattle.cord_node.proofs.PartsFromLemmas.{AreFrom-trans}
-use Rattle.cord_core.specs.Cord.{text, text_len, parts_of, IsCord}
-use Rattle.cord_core.proofs.Splices.{old_parts, new_parts, joined_parts}
-use Rattle.cord_core.proofs.OverLemmas.{length-text}
-use Rattle.cord_ec.specs.Gathered.{Growth, IsGathered, Gathered}
-use Rattle.cord_ec.proofs.Leaves.{gathered_own}
-use Rattle.cord_ec.proofs.MadeLemmas.{made_from}
-use Rattle.cord_edit.proofs.Halves.{counted, halves_few, parted, put_between, put_after, put_in_prefix, put_in_all}
+use Rattle.cord_node.specs.PartsFrom.{Part}
+use Rattle.cord_core.specs.Cord.{text, text_len, parts_of}
+use Rattle.cord_ec.specs.Gathered.{Growth, Gathered}
+use Rattle.cord_edit.proofs.Halves.{counted, parted, put_between}
 use Rattle.cord_edit.proofs.parted.Parted.with.Goals as goal
 
 pub halves-requires-clause-inside : goal.halves-requires-clause-inside
@@ -51,13 +43,21 @@ returns-clause-cut_len c = counted c.in_ok-prefix.prefix c.in_ok-prefix.back c.i
       ap (λ (e : Growth). length e.text) c.self.view_is,
     )
 
-pub returns-clause-gathered : goal.returns-clause-gathered
-returns-clause-gathered c =
-    subst (λ (old : List Part). Gathered 1 (old ++ parts_of c.args.middle.now) (parts_of c.in_ok-all.all))
-    (ap (λ (e : Growth). e.parts) c.self.view_is)
-    (put_between (parts_of c.self.inside.prefix ++ parts_of c.self.inside.back) (parts_of c.args.middle.now)
-    (parts_of c.in_ok-prefix.prefix) (parts_of c.in_ok-prefix.back) (parts_of c.in_ok-all.all) c.in_ok-prefix.ensures.few
-    c.in_ok-prefix.ensures.prefix_from c.in_ok-prefix.ensures.back_from c.in_ok-all.ensures.few c.in_ok-all.ensures.from_there)
+pub returns-clause-made : goal.returns-clause-made
+returns-clause-made c =
+    let m : List Cell = text c.args.middle.now in
+    let old : List Cell = text c.self.inside.prefix ++ text c.self.inside.back in
+    record {
+      text = c.in_ok-all.ensures.text ∙ ap (λ (xs : List Cell). xs ++ m ++ text c.in_ok-prefix.back) c.in_ok-prefix.ensures.prefix
+          ∙ ap (λ (xs : List Cell). take c.args.from old ++ m ++ xs) c.in_ok-prefix.ensures.back
+          ∙ ap (λ (e : Growth). take c.args.from e.text ++ m ++ drop c.args.until e.text) c.self.view_is;
+      sound = c.in_ok-all.ensures.sound;
+      gathered = subst (λ (old : List Part). Gathered 1 (old ++ parts_of c.args.middle.now) (parts_of c.in_ok-all.all))
+          (ap (λ (e : Growth). e.parts) c.self.view_is)
+          (put_between (parts_of c.self.inside.prefix ++ parts_of c.self.inside.back) (parts_of c.args.middle.now)
+          (parts_of c.in_ok-prefix.prefix) (parts_of c.in_ok-prefix.back) (parts_of c.in_ok-all.all) c.in_ok-prefix.ensures.few
+          c.in_ok-prefix.ensures.prefix_from c.in_ok-prefix.ensures.back_from c.in_ok-all.ensures.few c.in_ok-all.ensures.from_there);
+    }
 
 pub returns-clause-stays : goal.returns-clause-stays
 returns-clause-stays c =
@@ -65,11 +65,3 @@ returns-clause-stays c =
     (ap (λ (e : Growth). e.parts) c.self.view_is)
     (parted (parts_of c.self.inside.prefix ++ parts_of c.self.inside.back) (parts_of c.in_ok-prefix.prefix) (parts_of c.in_ok-prefix.back)
     c.in_ok-prefix.ensures.few c.in_ok-prefix.ensures.prefix_from c.in_ok-prefix.ensures.back_from)
-
-pub returns-clause-text : goal.returns-clause-text
-returns-clause-text c =
-    let m : List Cell = text c.args.middle.now in
-    let old : List Cell = text c.self.inside.prefix ++ text c.self.inside.back in
-    c.in_ok-all.ensures.text ∙ ap (λ (xs : List Cell). xs ++ m ++ text c.in_ok-prefix.back) c.in_ok-prefix.ensures.prefix
-    ∙ ap (λ (xs : List Cell). take c.args.from old ++ m ++ xs) c.in_ok-prefix.ensures.back
-    ∙ ap (λ (e : Growth). take c.args.from e.text ++ m ++ drop c.args.until e.text) c.self.view_is
