@@ -9,6 +9,8 @@ use Rattle.cord_node.proofs.PartsFromLemmas.{PartsFrom-self}
 use Rattle.cord_raw.specs.declared.buffer.TheConstants.RawBuf.{CAP}
 use Rattle.cord_core.specs.Cord.{text, text_len, parts_of}
 use Rattle.cord_ec.specs.Gathered.{leaf_parts, Growth, IsGathered, AreFromOr, Gathered}
+use Rattle.cord_edit.specs.declared.gap.Gap.{Gap}
+use Rattle.cord_edit.specs.inner.Gaps.{gap_bytes}
 use Rattle.cord_edit.specs.inner.Splices.{growth_of, leaf_growth, IsSpliced}
 use Rattle.cord_ec.proofs.Leaves.{gathered_own, leaf_begun}
 use Rattle.cord_ec.proofs.MadeLemmas.{made_from, are_from, are_self, are_left, are_both, made_self, made_more, made_through, made_after, made_beside}
@@ -109,6 +111,18 @@ gathered_then_from k old ps new g h = more (k + 0) k old new (omega arith)
 pub unchanged_parts : (n : ℕ) (all old new : List Part) → old ≡ all → new ≡ old → Gathered n all new
 unchanged_parts n all old new e f = subst (λ (ps : List Part). Gathered n ps new) e
     (subst (λ (ps : List Part). Gathered n old ps) (sym f) (as_before n old))
+
+-- the gap's bytes weren't put in
+pub gap_kept : {old new : Growth} {g h : Gap} → new ≡ old → h ≡ g → new.parts ++ leaf_parts (gap_bytes h) ≡ old.parts ++ leaf_parts (gap_bytes g)
+gap_kept {old} {h} cords gap = ap (λ (n : Growth). n.parts ++ leaf_parts (gap_bytes h)) cords ∙ ap (λ (k : Gap). old.parts ++ leaf_parts (gap_bytes k)) gap
+
+-- parts of a growth that is seen as another one, and with some beside them
+pub as_seen : {n : ℕ} {old all : Growth} {new : List Part} → old ≡ all → Gathered n old.parts new → Gathered n all.parts new
+as_seen {n} {new} e g = subst (λ (x : Growth). Gathered n x.parts new) e g
+
+pub as_seen_with : {n : ℕ} {old all : Growth} {new : List Part} (middle : List Part) → old ≡ all → Gathered n (old.parts ++ middle) new →
+    Gathered n (all.parts ++ middle) new
+as_seen_with {n} {new} middle e g = subst (λ (x : Growth). Gathered n (x.parts ++ middle) new) e g
 
 -- a leaf that was put in is its bytes
 pub leaf_spliced : {from until : ℕ} {old new : Growth} (leaf : Option Node) (b : List ℕ) → text leaf ≡ map known b → parts_of leaf ≡ leaf_parts b →

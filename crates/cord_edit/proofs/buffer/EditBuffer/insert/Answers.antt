@@ -8,7 +8,7 @@ use Rattle.cord_ec.proofs.Leaves.{tail_grown}
 use Rattle.cord_edit.proofs.Lists.{insert_clamped}
 use Rattle.cord_edit.proofs.Steps.{typed_after, typed_before}
 use Rattle.cord_edit.proofs.Editing.{edited_by}
-use Rattle.cord_edit.proofs.Parting.{more, prefix_grown, as_before}
+use Rattle.cord_edit.proofs.Parting.{as_before, as_seen, more, prefix_grown}
 use Rattle.cord_edit.proofs.buffer.EditBuffer.insert.Goals as goal
 
 pub returns-then-bytes-len-clause-gathered : goal.returns-then-bytes-len-clause-gathered
@@ -30,9 +30,7 @@ returns-then-fits_after-clause-gathered c = λ k few.
     let g : List ℕ = gap_bytes c.self.inside.gap in
     let b : List ℕ = c.args.bytes.now in
     let fits : length (g ++ b) ≤ CAP = omega (arith, length-append g b, c.fits_after.ensures.most c.if-fits_after.true) in
-    subst (λ (old : List Part). Gathered (2 + k) old (ps ++ leaf_parts (gap_bytes c.append.new.self)))
-    (ap (λ (e : Growth). e.parts) c.self.view_is)
-    (subst (λ (h : List ℕ). Gathered (2 + k) (ps ++ leaf_parts g) (ps ++ leaf_parts h)) (sym c.append.ensures)
+    as_seen c.self.view_is (subst (λ (h : List ℕ). Gathered (2 + k) (ps ++ leaf_parts g) (ps ++ leaf_parts h)) (sym c.append.ensures)
     (more k (2 + k) (ps ++ leaf_parts g) (ps ++ leaf_parts (g ++ b)) (omega arith) (tail_grown ps g b k fits few)))
 
 pub returns-then-fits_before-clause-text : goal.returns-then-fits_before-clause-text
@@ -51,9 +49,7 @@ returns-then-fits_before-clause-gathered c = λ k few.
     let g : List ℕ = gap_bytes c.self.inside.gap in
     let b : List ℕ = c.args.bytes.now in
     let fits : length (b ++ g) ≤ CAP = omega (arith, length-append b g, c.fits_before.ensures.most c.if-fits_before.true) in
-    subst (λ (old : List Part). Gathered (2 + k) old (ps ++ leaf_parts (gap_bytes c.prepend.new.self)))
-    (ap (λ (e : Growth). e.parts) c.self.view_is)
-    (subst (λ (h : List ℕ). Gathered (2 + k) (ps ++ leaf_parts g) (ps ++ leaf_parts h)) (sym c.prepend.ensures)
+    as_seen c.self.view_is (subst (λ (h : List ℕ). Gathered (2 + k) (ps ++ leaf_parts g) (ps ++ leaf_parts h)) (sym c.prepend.ensures)
     (more k (2 + k) (ps ++ leaf_parts g) (ps ++ leaf_parts (b ++ g)) (omega arith) (prefix_grown ps g b k fits few)))
 
 pub returns-clause-text : goal.returns-clause-text

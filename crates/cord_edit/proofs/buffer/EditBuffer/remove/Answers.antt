@@ -3,11 +3,10 @@ use Rattle.std.proofs.lemmas.List.{length-take}
 use Rattle.cord_raw.specs.declared.buffer.TheConstants.RawBuf.{CAP}
 use Rattle.cord_node.specs.PartsFrom.{Part}
 use Rattle.cord_ec.specs.Gathered.{Growth, Gathered, leaf_parts}
-use Rattle.cord_edit.specs.declared.gap.Gap.{Gap}
 use Rattle.cord_edit.specs.inner.Gaps.{gap_bytes}
 use Rattle.cord_edit.proofs.Steps.{removed_next, removed_apart}
 use Rattle.cord_edit.proofs.Editing.{edited_by}
-use Rattle.cord_edit.proofs.Parting.{tail_cut, unchanged_parts}
+use Rattle.cord_edit.proofs.Parting.{as_seen, gap_kept, tail_cut, unchanged_parts}
 use Rattle.cord_edit.proofs.buffer.EditBuffer.remove.Goals as goal
 
 pub returns-then-end-until-clause-text : goal.returns-then-end-until-clause-text
@@ -28,13 +27,11 @@ returns-then-end-until-clause-gathered c =
     let g : List ℕ = gap_bytes c.self.inside.gap in
     let n : ℕ = c.saturating_sub.result in
     let fits : length (take n g) ≤ CAP = omega (arith, length-take n g, c.len.ensures.value, c.len.ensures.limit) in
-    subst (λ (old : List Part). Gathered 1 old (ps ++ leaf_parts (gap_bytes c.truncate.new.self))) (ap (λ (e : Growth). e.parts) c.self.view_is)
-    (subst (λ (h : List ℕ). Gathered 1 (ps ++ leaf_parts g) (ps ++ leaf_parts h)) (sym c.truncate.ensures) (tail_cut ps g n fits))
+    as_seen c.self.view_is (subst (λ (h : List ℕ). Gathered 1 (ps ++ leaf_parts g) (ps ++ leaf_parts h)) (sym c.truncate.ensures) (tail_cut ps g n fits))
 
 pub returns-in_err-flush-clause-gathered : goal.returns-in_err-flush-clause-gathered
 returns-in_err-flush-clause-gathered c = unchanged_parts 1 _ _ _ (ap (λ (g : Growth). g.parts) c.self.view_is)
-    (ap (λ (n : Growth). n.parts ++ leaf_parts (gap_bytes c.flush.new.gap)) (c.in_err-flush.ensures.cords_unchanged refl)
-    ∙ ap (λ (g : Gap). c.self.inside.cords.parts ++ leaf_parts (gap_bytes g)) (c.in_err-flush.ensures.gap_unchanged refl))
+    (gap_kept (c.in_err-flush.ensures.cords_unchanged refl) (c.in_err-flush.ensures.gap_unchanged refl))
 
 pub returns-clause-text : goal.returns-clause-text
 returns-clause-text c = removed_apart c.flush.new.cords.text c.args.self.now.text (gap_bytes c.flush.new.gap) c.len-len.result

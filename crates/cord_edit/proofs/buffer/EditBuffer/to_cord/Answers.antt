@@ -1,22 +1,18 @@
-use Rattle.std.proofs.Common.{◌∙◌, ◌+◌, ◌++◌, List, ap, refl, subst, arith}
-use Rattle.cord_node.specs.PartsFrom.{Part}
+use Rattle.std.proofs.Common.{◌∙◌, ◌+◌, ap, refl, arith}
 use Rattle.cord_core.specs.Cord.{parts_of}
-use Rattle.cord_ec.specs.Gathered.{Growth, Gathered, leaf_parts}
-use Rattle.cord_edit.specs.declared.gap.Gap.{Gap}
+use Rattle.cord_ec.specs.Gathered.{Growth}
 use Rattle.cord_edit.specs.inner.Gaps.{gap_bytes}
 use Rattle.cord_ec.proofs.Growing.{cord_of}
 use Rattle.cord_edit.proofs.Lists.{around_nothing}
-use Rattle.cord_edit.proofs.Parting.{more, steps, no_gap, unchanged_parts}
+use Rattle.cord_edit.proofs.Parting.{as_seen, gap_kept, more, steps, no_gap, unchanged_parts}
 use Rattle.cord_edit.proofs.buffer.EditBuffer.to_cord.Goals as goal
 
 pub returns-in_err-end-clause-stays : goal.returns-in_err-end-clause-stays
 returns-in_err-end-clause-stays c = unchanged_parts 1 _ _ _ (ap (λ (g : Growth). g.parts) c.self.view_is)
-    (ap (λ (n : Growth). n.parts ++ leaf_parts (gap_bytes c.flush.new.gap)) (c.in_err-end.ensures.cords_unchanged refl)
-    ∙ ap (λ (g : Gap). c.self.inside.cords.parts ++ leaf_parts (gap_bytes g)) (c.in_err-end.ensures.gap_unchanged refl))
+    (gap_kept (c.in_err-end.ensures.cords_unchanged refl) (c.in_err-end.ensures.gap_unchanged refl))
 
 pub returns-in_err-cord-2-clause-stays : goal.returns-in_err-cord-2-clause-stays
-returns-in_err-cord-2-clause-stays c = subst (λ (old : List Part). Gathered 1 old (c.flush.new.cords.parts ++ leaf_parts (gap_bytes c.flush.new.gap)))
-    (ap (λ (e : Growth). e.parts) c.self.view_is)
+returns-in_err-cord-2-clause-stays c = as_seen c.self.view_is
     (no_gap 1 _ c.flush.new.cords.parts (gap_bytes c.flush.new.gap) c.in_ok-end.ensures.cleared.bytes c.in_ok-end.ensures.spliced.gathered)
 
 pub returns-then-has_edits-clause-over : goal.returns-then-has_edits-clause-over
@@ -27,14 +23,11 @@ returns-clause-over c = cord_of c.args.self.now.text c.in_ok-cord-2.cord c.in_ok
     (c.in_ok-cord-2.ensures.made.text ∙ c.in_ok-end.ensures.spliced.text ∙ ap (λ (e : Growth). e.text) c.self.view_is)
 
 pub returns-clause-gathered : goal.returns-clause-gathered
-returns-clause-gathered c = subst (λ (old : List Part). Gathered 1 old (parts_of c.in_ok-cord-2.cord))
-    (ap (λ (e : Growth). e.parts) c.self.view_is)
-    (more (1 + 0) 1 _ _ (omega arith)
+returns-clause-gathered c = as_seen c.self.view_is (more (1 + 0) 1 _ _ (omega arith)
     (steps 1 0 _ c.flush.new.cords.parts (parts_of c.in_ok-cord-2.cord) c.in_ok-end.ensures.spliced.gathered c.in_ok-cord-2.ensures.made.gathered))
 
 pub returns-clause-stays : goal.returns-clause-stays
-returns-clause-stays c = subst (λ (old : List Part). Gathered 1 old (c.flush.new.cords.parts ++ leaf_parts (gap_bytes c.flush.new.gap)))
-    (ap (λ (e : Growth). e.parts) c.self.view_is)
+returns-clause-stays c = as_seen c.self.view_is
     (no_gap 1 _ c.flush.new.cords.parts (gap_bytes c.flush.new.gap) c.in_ok-end.ensures.cleared.bytes c.in_ok-end.ensures.spliced.gathered)
 
 pub returns-clause-same : goal.returns-clause-same

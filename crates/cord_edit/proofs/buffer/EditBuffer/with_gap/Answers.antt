@@ -8,7 +8,7 @@ use Rattle.cord_ec.proofs.Leaves.{gathered_own, leaf_of_bytes}
 use Rattle.cord_ec.specs.Gathered.{IsGathered}
 use Rattle.cord_ec.proofs.MadeLemmas.{made_beside}
 use Rattle.cord_edit.proofs.Lists.{still_around}
-use Rattle.cord_edit.proofs.Parting.{as_before, unchanged_parts}
+use Rattle.cord_edit.proofs.Parting.{as_before, as_seen, unchanged_parts}
 use Rattle.cord_edit.proofs.buffer.EditBuffer.with_gap.Goals as goal
 
 pub returns-in_err-leaf-clause-stays : goal.returns-in_err-leaf-clause-stays
@@ -28,8 +28,7 @@ returns-clause-made c = record {
       ∙ ap (λ (xs : List Cell). take c.self.inside.cut_start c.self.inside.cords.text ++ xs ++ drop c.self.inside.cut_end c.self.inside.cords.text)
       (c.in_ok-leaf.ensures.text ∙ ap (map known) c.bytes.ensures) ∙ ap (λ (e : Growth). e.text) c.self.view_is;
   sound = c.in_ok-cord.ensures.made.sound;
-  gathered = subst (λ (old : List Part). Gathered 1 old (parts_of c.in_ok-cord.cord)) (ap (λ (e : Growth). e.parts) c.self.view_is)
-      (subst (λ (leaf : List Part). Gathered 1 (c.self.inside.cords.parts ++ leaf) (parts_of c.in_ok-cord.cord))
+  gathered = as_seen c.self.view_is (subst (λ (leaf : List Part). Gathered 1 (c.self.inside.cords.parts ++ leaf) (parts_of c.in_ok-cord.cord))
       (leaf_of_bytes c.bytes.result.now c.in_ok-leaf.leaf c.in_ok-leaf.ensures.sound c.in_ok-leaf.ensures.form
       ∙ ap leaf_parts c.bytes.ensures) c.in_ok-cord.ensures.made.gathered);
 }
@@ -38,8 +37,7 @@ pub returns-clause-stays : goal.returns-clause-stays
 returns-clause-stays c = record {
   same = still_around c.self.inside.cords.text c.with.new.self.text (gap_bytes c.self.inside.gap) c.self.inside.cut_start c.self.inside.cut_end
       (omega (arith, c.self.invariant.0, c.self.invariant.1)) c.in_ok-cord.ensures.cut ∙ ap (λ (e : Growth). e.text) c.self.view_is;
-  stays = subst (λ (old : List Part). Gathered 1 old (c.with.new.self.parts ++ leaf_parts (gap_bytes c.self.inside.gap)))
-      (ap (λ (e : Growth). e.parts) c.self.view_is)
+  stays = as_seen c.self.view_is
       (made_beside IsGathered gathered_own 1 c.self.inside.cords.parts c.with.new.self.parts (leaf_parts (gap_bytes c.self.inside.gap))
       c.in_ok-cord.ensures.stays);
 }

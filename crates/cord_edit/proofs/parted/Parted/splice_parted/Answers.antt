@@ -1,10 +1,10 @@
-use Rattle.std.proofs.Common.{◌≡◌, ◌∙◌, ◌+◌, ◌≤◌, ◌++◌, List, length, take, drop, ap, subst, arith}
+use Rattle.std.proofs.Common.{◌≡◌, ◌∙◌, ◌+◌, ◌≤◌, ◌++◌, List, length, take, drop, ap, arith}
 use Rattle.cord_io.specs.declared.TheConstants.{MAX_LEN}
 use Rattle.cord_node.specs.Tree.{Cell}
-use Rattle.cord_node.specs.PartsFrom.{Part}
 use Rattle.cord_core.specs.Cord.{text, text_len, parts_of}
-use Rattle.cord_ec.specs.Gathered.{Growth, Gathered}
+use Rattle.cord_ec.specs.Gathered.{Growth}
 use Rattle.cord_edit.proofs.Halves.{counted, put_after}
+use Rattle.cord_edit.proofs.Parting.{as_seen_with}
 use Rattle.cord_edit.proofs.parted.Parted.splice_parted.Goals as goal
 
 pub halves-requires-clause-inside : goal.halves-requires-clause-inside
@@ -36,8 +36,7 @@ returns-clause-spliced c =
           ∙ ap (λ (e : Growth). take c.args.from e.text ++ m ++ drop c.args.until e.text) c.self.view_is;
       len = counted c.in_ok-longer.longer c.in_ok-prefix.back c.in_ok-longer.ensures.sound c.in_ok-prefix.ensures.back_sound
           ∙ omega (arith, c.in_ok-longer.ensures.len, c.in_ok-prefix.ensures.prefix_len, c.in_ok-prefix.ensures.back_len, c.self.invariant.1, ap (λ (e : Growth). length e.text) c.self.view_is);
-      gathered = subst (λ (old : List Part). Gathered 1 (old ++ parts_of c.args.middle.now) (parts_of c.in_ok-longer.longer ++ parts_of c.in_ok-prefix.back))
-          (ap (λ (e : Growth). e.parts) c.self.view_is)
+      gathered = as_seen_with (parts_of c.args.middle.now) c.self.view_is
           (put_after (parts_of c.self.inside.prefix ++ parts_of c.self.inside.back) (parts_of c.args.middle.now) (parts_of c.in_ok-prefix.prefix)
           (parts_of c.in_ok-prefix.back) (parts_of c.in_ok-longer.longer) c.in_ok-prefix.ensures.few c.in_ok-prefix.ensures.prefix_from
           c.in_ok-prefix.ensures.back_from c.in_ok-longer.ensures.parts_from);

@@ -1,10 +1,10 @@
-use Rattle.std.proofs.Common.{◌∙◌, ◌+◌, ◌≤◌, ◌++◌, List, length, take, drop, ap, subst, arith}
+use Rattle.std.proofs.Common.{◌∙◌, ◌+◌, ◌≤◌, ◌++◌, List, length, take, drop, ap, arith}
 use Rattle.cord_io.specs.declared.TheConstants.{MAX_LEN}
 use Rattle.cord_node.specs.Tree.{Cell}
-use Rattle.cord_node.specs.PartsFrom.{Part}
 use Rattle.cord_core.specs.Cord.{text, text_len, parts_of}
-use Rattle.cord_ec.specs.Gathered.{Growth, Gathered}
+use Rattle.cord_ec.specs.Gathered.{Growth}
 use Rattle.cord_edit.proofs.Halves.{counted, parted, put_between}
+use Rattle.cord_edit.proofs.Parting.{as_seen, as_seen_with}
 use Rattle.cord_edit.proofs.parted.Parted.with.Goals as goal
 
 pub halves-requires-clause-inside : goal.halves-requires-clause-inside
@@ -52,8 +52,7 @@ returns-clause-made c =
           ∙ ap (λ (xs : List Cell). take c.args.from old ++ m ++ xs) c.in_ok-prefix.ensures.back
           ∙ ap (λ (e : Growth). take c.args.from e.text ++ m ++ drop c.args.until e.text) c.self.view_is;
       sound = c.in_ok-all.ensures.sound;
-      gathered = subst (λ (old : List Part). Gathered 1 (old ++ parts_of c.args.middle.now) (parts_of c.in_ok-all.all))
-          (ap (λ (e : Growth). e.parts) c.self.view_is)
+      gathered = as_seen_with (parts_of c.args.middle.now) c.self.view_is
           (put_between (parts_of c.self.inside.prefix ++ parts_of c.self.inside.back) (parts_of c.args.middle.now)
           (parts_of c.in_ok-prefix.prefix) (parts_of c.in_ok-prefix.back) (parts_of c.in_ok-all.all) c.in_ok-prefix.ensures.few
           c.in_ok-prefix.ensures.prefix_from c.in_ok-prefix.ensures.back_from c.in_ok-all.ensures.few c.in_ok-all.ensures.from_there);
@@ -61,7 +60,6 @@ returns-clause-made c =
 
 pub returns-clause-stays : goal.returns-clause-stays
 returns-clause-stays c =
-    subst (λ (old : List Part). Gathered 1 old (parts_of c.in_ok-prefix.prefix ++ parts_of c.in_ok-prefix.back))
-    (ap (λ (e : Growth). e.parts) c.self.view_is)
+    as_seen c.self.view_is
     (parted (parts_of c.self.inside.prefix ++ parts_of c.self.inside.back) (parts_of c.in_ok-prefix.prefix) (parts_of c.in_ok-prefix.back)
     c.in_ok-prefix.ensures.few c.in_ok-prefix.ensures.prefix_from c.in_ok-prefix.ensures.back_from)
