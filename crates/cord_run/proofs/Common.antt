@@ -78,42 +78,39 @@ pub use Rattle.cord_run.specs.declared.expressions.ranges.Wanted.{Wanted}
 pub use Rattle.cord_run.specs.declared.targets.edits.Replaced.{Replaced}
 pub use Rattle.cord_run.specs.declared.targets.files.Reading.{Reading}
 pub use Rattle.cord_run.specs.declared.targets.files.Reading.TheVariants.{ByLength}
-pub use Rattle.cord_run.specs.inner.{AddsAtMostOne, AddsCopies, AddsCordRange, AddsExpression, AddsFew, AddsInTurn, AddsMembers, AddsRange}
-pub use Rattle.cord_run.specs.inner.{AddsRun, Advances, All, AllFitIn, AppendBuffer, AreCopies, AreHeldIn, ArePreceding, AreTextsIn}
-pub use Rattle.cord_run.specs.inner.{AreWhole, Becomes, Began, Bool, Bor, Build, Cell, Changes, Closes, Comes, Content, ContentFits}
-pub use Rattle.cord_run.specs.inner.{ControlStop, CordError, CordFits, CordFitsIn, CountsFinding, CountsReadStop, CountsStops, Edited, End}
-pub use Rattle.cord_run.specs.inner.{EndsInName, EndsRun, Entry, Err, Expr, Exprs, ExtensibleFits, FailsAmong, FailsBy, FailsIn}
-pub use Rattle.cord_run.specs.inner.{FailsToFinish, FailureCounts, FaithfulPlan, FaultKind, FileSystem, Finds, FindsOver, FitsSome, Gave}
-pub use Rattle.cord_run.specs.inner.{Gives, Goal, Goes, GoesWithin, Grew, GrewTo, Grows, GrowsOn, Growth, HasBeside, HasContent}
-pub use Rattle.cord_run.specs.inner.{HasExtensible, HasFinished, HasLengths, HasNoEntry, HasNumber, HasSplice, HasText, Held, Holding}
-pub use Rattle.cord_run.specs.inner.{IfErr, IfOk, IfSome, InTurn, IsAfter, IsBuilt, IsContentSpliced, IsCord, IsCordOfText, IsCutOf, IsEdit}
-pub use Rattle.cord_run.specs.inner.{IsEntryAt, IsExtended, IsExtent, IsFaultOver, IsFileAt, IsFirstEntry, IsFit, IsFree, IsGrownBy}
-pub use Rattle.cord_run.specs.inner.{IsInnerWanted, IsJoinOfFirst, IsKnownAt, IsKnownOf, IsLength, IsLengthAt, IsLengthOfNames}
-pub use Rattle.cord_run.specs.inner.{IsLengthReported, IsMade, IsMadeAfter, IsMadeOfNames, IsMiddle, IsNoFileAt, IsNoMiddle, IsOutside}
-pub use Rattle.cord_run.specs.inner.{IsOver, IsPast, IsPieceFrom, IsPrefixOf, IsRefusal, IsRefusedAt, IsReplaced, IsReportedOver, IsSettled}
-pub use Rattle.cord_run.specs.inner.{IsSliceOf, IsSome, IsStartAsked, IsStartOf, IsStopBy, IsStopOfNoDevice, IsStopOver, IsSubstring}
-pub use Rattle.cord_run.specs.inner.{IsTakenOut, IsTextIn, IsTextOver, IsTurnAt, IsUnbuilt, IsUnderway, IsUnmade, IsUnmadeOfNames}
-pub use Rattle.cord_run.specs.inner.{IsUnmeasured, IsUnmeasuredOfNames, IsWholeAt, IsWholeContent, Joined, JoinsTo, Lengths, List, Long}
-pub use Rattle.cord_run.specs.inner.{MAX_LEN, Made, MeansOver, Measure, Measures, MeasuresBeside, Narrowed, Negative, Node, None, Number}
-pub use Rattle.cord_run.specs.inner.{OfEager, OfFile, OfLazy, Ok, Opened, Operation, Option, Origin, Overflow, PartsFrom, PlanOutcome}
-pub use Rattle.cord_run.specs.inner.{Point, Printed, Progress, PutIn, PutMiddle, Puts, PutsText, ReportsLength, Result, SameEntries, Served}
-pub use Rattle.cord_run.specs.inner.{ServesIfFree, Some, Spot, SpotFits, State, Statement, StaysKnown, StaysOver, StepsTo, Stop}
-pub use Rattle.cord_run.specs.inner.{StopAt, StopsAmong, StopsIn, Table, Takes, TakesNoMemory, Text, TooLong, TooManyTurns, TookPrefix}
+pub use Rattle.cord_run.specs.inner.{NoMoreConsistent, failures_in}
+pub use Rattle.cord_run.specs.inner.{Adds, AddsAtMostOne, AddsCopies, AddsCordRange, AddsExpression, AddsFew, AddsInTurn, AddsMembers}
+pub use Rattle.cord_run.specs.inner.{AddsRange, AddsRun, Advances, All, AllFitIn, AppendBuffer, AreCopies, AreHeldIn, ArePreceding}
+pub use Rattle.cord_run.specs.inner.{AreTextsIn, AreWhole, Asks, Becomes, Began, Bool, Bor, Build, Builds, Cell, Changes, Closes, Comes}
+pub use Rattle.cord_run.specs.inner.{Content, ContentFits, ControlStop, CordError, CordFits, CordFitsIn, CountsFinding, CountsReadStop}
+pub use Rattle.cord_run.specs.inner.{CountsStops, Edited, End, EndsRun, Entry, Err, Expr, Exprs, ExtensibleFits, FailsAmong, FailsBy}
+pub use Rattle.cord_run.specs.inner.{FailureCounts, FaithfulPlan, FaultKind, FileSystem, Finds, FindsOver, FitsSome, Gave, Gives, Goal}
+pub use Rattle.cord_run.specs.inner.{Goes, GoesWithin, Grew, GrewTo, Grows, GrowsOn, Growth, HasBeside, HasContent, HasExtensible}
+pub use Rattle.cord_run.specs.inner.{HasLengths, HasNoEntry, HasNumber, HasSplice, HasText, Held, Holding, IfErr, IfOk, IfSome, InTurn}
+pub use Rattle.cord_run.specs.inner.{IsAfter, IsBuilt, IsContentSpliced, IsCord, IsCordOfText, IsCutOf, IsEdit, IsEntryAt, IsExtended}
+pub use Rattle.cord_run.specs.inner.{IsExtent, IsFaultOver, IsFirstEntry, IsFit, IsFree, IsGrownBy, IsJoinOfFirst, IsKnownAt, IsKnownOf}
+pub use Rattle.cord_run.specs.inner.{IsLength, IsLengthOfNames, IsMade, IsMadeAfter, IsMadeOfNames, IsMiddle, IsNoMiddle, IsOver, IsPast}
+pub use Rattle.cord_run.specs.inner.{IsPieceFrom, IsPrefixOf, IsRefusal, IsRefusedAt, IsReplaced, IsSettled, IsSliceOf, IsSome, IsStartOf}
+pub use Rattle.cord_run.specs.inner.{IsStopBy, IsStopOver, IsSubstring, IsTextIn, IsTextOver, IsTurnAt, IsUnbuilt}
+pub use Rattle.cord_run.specs.inner.{IsUnmade, IsUnmadeOfNames, IsUnmeasured, IsUnmeasuredOfNames, IsWholeAt, IsWholeContent, Joined}
+pub use Rattle.cord_run.specs.inner.{JoinsTo, Lengths, List, Long, MAX_LEN, Made, MeansOver, Measure, MeasuresBeside, Narrowed, Negative}
+pub use Rattle.cord_run.specs.inner.{Node, None, Number, OfEager, OfFile, OfLazy, Ok, Opened, Operation, Option, Origin, Overflow}
+pub use Rattle.cord_run.specs.inner.{PartsFrom, PlanOutcome, Point, Printed, Progress, PutIn, PutMiddle, Puts, PutsText, ReportsLength}
+pub use Rattle.cord_run.specs.inner.{Result, SameEntries, Serves, Some, Spot, SpotFits, State, Statement, StaysKnown, StaysOver, Steps}
+pub use Rattle.cord_run.specs.inner.{StepsTo, Stop, StopAt, StopsAmong, StopsIn, Table, Takes, TakesNoMemory, Text, TooLong, TooManyTurns}
 pub use Rattle.cord_run.specs.inner.{Where, Whole, Works, WorksOrLeaves, World, Wrote, [], all_bytes, all_len, all_parts, all_text}
 pub use Rattle.cord_run.specs.inner.{all_texts, and_then, append, are_distinct, argument_in, as_byte, as_index, as_length, at_line, begun}
 pub use Rattle.cord_run.specs.inner.{byte_place, bytes_eq, bytes_of, bytes_of_cells, cat, cells_in, cells_or_none, chosen, closed}
 pub use Rattle.cord_run.specs.inner.{content_in, content_length, copied, copies, cord_in, cords, cords_of, counted, device_in, does, drop}
-pub use Rattle.cord_run.specs.inner.{edited_text, end_at, end_of_run, exit_in, extended_over, extensible_in, extensible_length, extent_in}
-pub use Rattle.cord_run.specs.inner.{extent_with, false, fetched, file_made, fits_i64, form_view, function_source, get_or, gets, goal_of}
-pub use Rattle.cord_run.specs.inner.{grown_over, has_failed, held_at, held_over, holding_of, holding_with, in_i64, is_among, joined_over}
-pub use Rattle.cord_run.specs.inner.{jump, keeps, known, lacks, length, length_in, length_of, length_or_stop, length_with, lengths_in}
-pub use Rattle.cord_run.specs.inner.{lengths_of, longer_text, made_length, made_text, map, measured, measured_members, member}
-pub use Rattle.cord_run.specs.inner.{members_extent, members_seen, middle_cords, middle_text, min, name, named, names_in, names_of, nat_lt}
-pub use Rattle.cord_run.specs.inner.{nearest, negsuc, nothing, number_in, number_or_stop, number_value, opened, opened_in, operand_in}
-pub use Rattle.cord_run.specs.inner.{operation_line, operation_shape, origins, origins_of, part_of, parts_of, plain, plain_of, plan_end}
-pub use Rattle.cord_run.specs.inner.{plan_rules, plan_trace, point_at, point_of, pos, raised, reason_in, refusal_of, repeated, replicate}
-pub use Rattle.cord_run.specs.inner.{run, slice_get, spliced_len, spot_growing, spot_of, start_extent, start_holding, statement_at}
-pub use Rattle.cord_run.specs.inner.{statement_of, stop_of_control, stop_of_cord, stop_of_failure, stop_of_print, sub, suc, table_in, take}
-pub use Rattle.cord_run.specs.inner.{text, text_in, text_len, text_over, text_place, texts_to_build, texts_to_measure, true, value_in}
-pub use Rattle.cord_run.specs.inner.{values, where_of, with_value, within, work_left, world_of, zero, ℕ, ℤ, ⊤}
-pub use Rattle.cord_run.specs.inner.Steps.{Steps}
+pub use Rattle.cord_run.specs.inner.{edited_text, end_at, end_of_run, exit_in, extended_over, extensible_in, extent_in, extent_with, false}
+pub use Rattle.cord_run.specs.inner.{file_made, fits_i64, function_source, get_or, gets, goal_of, grown_over, has_failed, held_at}
+pub use Rattle.cord_run.specs.inner.{held_over, holding_of, holding_with, in_i64, is_among, joined_over, jump, keeps, known, lacks, length}
+pub use Rattle.cord_run.specs.inner.{length_in, length_of, lengths_in, lengths_of, longer_text, made_length, made_text, map, measured}
+pub use Rattle.cord_run.specs.inner.{measured_members, member, members_extent, members_seen, middle_cords, middle_text, min, name, named}
+pub use Rattle.cord_run.specs.inner.{names_in, names_of, nat_lt, nearest, negsuc, nothing, number_in, number_value, opened, opened_in}
+pub use Rattle.cord_run.specs.inner.{operand_in, operation_line, operation_shape, or_stop, origins, origins_of, part_of, parts_of, plain}
+pub use Rattle.cord_run.specs.inner.{plain_of, plan_end, plan_rules, plan_trace, point_at, point_of, pos, raised, reason_in, refusal_of}
+pub use Rattle.cord_run.specs.inner.{repeated, replicate, run, slice_get, spliced_len, spot_growing, spot_of, start_extent, start_holding}
+pub use Rattle.cord_run.specs.inner.{statement_at, statement_of, stop_of_control, stop_of_cord, stop_of_print, sub, suc, table_in, take}
+pub use Rattle.cord_run.specs.inner.{text, text_in, text_len, text_over, texts_to_build, texts_to_measure, true, value_in, values, where_of}
+pub use Rattle.cord_run.specs.inner.{with_value, within, work_left, world_of, zero, ℕ, ℤ, ⊤}

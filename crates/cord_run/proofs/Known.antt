@@ -1,12 +1,11 @@
 -- Lengths that are known without being computed.
 use Rattle.std.specs.Prelude.{◌≡◌, ◌+◌, ◌-◌, ◌^◌, ◌&&◌, ◌∷◌, ◌++◌, if◌then◌else◌}
-use Rattle.cord_run.proofs.Common.{ℕ, suc, Bool, true, false, List, [], Result, Ok, refl, length, map, sym, ap, subst, ◌∙◌, arith, Some}
-use Rattle.cord_run.proofs.Common.{min, not, slice_get, bytes_eq, bytes_eq-Decides, MAX_LEN, Number, Numeral, Named, FaultKind, and_then}
-use Rattle.cord_run.proofs.Common.{as_length, Expr, Exprs, name, run, cat, sub, nothing, member, append, lacks, names, names_of}
-use Rattle.cord_run.proofs.Common.{number_names, Made, Joined, Operation, Measure, measured_copies, measured_part, Shared, members_of}
-use Rattle.cord_run.proofs.Common.{shared_view, Long, Entry, Reading, ByLength, file_made, HasContent, content_in, content_length}
-use Rattle.cord_run.proofs.Common.{length_in, operand_in, extent_in, members_extent, EndsInName, IsExtent, IsKnownAt, IsKnownOf, Measures}
-use Rattle.cord_run.proofs.Common.{StaysKnown, passes}
+use Rattle.cord_run.proofs.Common.{Bool, ByLength, Entry, Expr, Exprs, FaultKind, HasContent, IsExtent, IsKnownAt, IsKnownOf, Joined, List}
+use Rattle.cord_run.proofs.Common.{Long, MAX_LEN, Made, Measure, Named, Number, Numeral, Ok, Operation, Reading, Result, Shared, Some}
+use Rattle.cord_run.proofs.Common.{StaysKnown, [], and_then, ap, append, arith, as_length, bytes_eq, bytes_eq-Decides, cat, content_in}
+use Rattle.cord_run.proofs.Common.{content_length, extent_in, false, file_made, lacks, length, length_in, map, measured_copies}
+use Rattle.cord_run.proofs.Common.{measured_part, member, members_extent, members_of, min, name, names, names_of, not, nothing}
+use Rattle.cord_run.proofs.Common.{number_names, operand_in, passes, refl, run, shared_view, slice_get, sub, subst, suc, sym, true, ℕ, ◌∙◌}
 use Rattle.cord_plan.specs.Extending.{Extends, IsLonger, joined_at, joined_by}
 use Rattle.cord_run.specs.declared.targets.files.Reading.TheVariants.{Eager, Lazy}
 use Rattle.cord_run.proofs.MemberRanges.{added, extent_both}
@@ -80,6 +79,13 @@ last_is : (d : Expr) (es : Exprs) (e : Expr) → last_or d (append es (member e 
 last_is d nothing e = refl
 last_is d (member f es) e = last_is f es e
 
+-- members whose length an operation computes together, and members of which the last is this name
+abbrev Computes : Exprs → Operation → Type 0
+Computes es o = (line : ℕ) × (x : List ℕ) × (o ≡ Measure line x (Joined (cat es)))
+
+abbrev EndsIn : Exprs → List ℕ → Type 0
+EndsIn es x = (others : Exprs) × (es ≡ append others (member (name x) nothing))
+
 module _ (entries : List Entry) where
   one_more : (es all : Exprs) (e : Expr) (z : List ℕ) (len : ℕ) → all ≡ append es (member e nothing) → e ≡ name z →
       extent_in entries (cat es) ≡ Ok len → extent_in entries (cat all) ≡ as_length MAX_LEN (min (len + length_in entries z) (2 ^ 64 - 1))
@@ -97,22 +103,23 @@ module _ (entries : List Entry) where
       ∙ sym (counted_length (min (len + more) (2 ^ 64 - 1)) (Ok (p.middle + (more + 0))) (ap (λ (n : ℕ). Ok n) capped))
 
   longer_known : (line : ℕ) (x : List ℕ) (made : Made) (next : Operation) (all : Exprs) (z : List ℕ) →
-      StaysKnown entries (Measure line x made) → IsLonger (joined_by (Measure line x made)) (joined_by next) → Measures all next →
-      EndsInName all z → IsKnownOf entries next (min (length_in entries x + length_in entries z) (2 ^ 64 - 1))
-  longer_known line x (Joined (cat es)) (Measure after y (Joined (cat others))) all z stays longer is ends =
-      let last : last_or (name z) others ≡ name z =
-      ap (λ (ms : Exprs). last_or (name z) ms) (is ∙ ends.is) ∙ last_is (name z) ends.others (name z) in
-      let same : longer.1.0 ≡ name z =
-      sym (ap (λ (ms : Exprs). last_or (name z) ms) longer.1.1 ∙ last_is (name z) es longer.1.0) ∙ last in
-      one_more es others longer.1.0 z (length_in entries x) longer.1.1 same (stays longer.0)
-  longer_known line x (Joined (cat es)) next all z stays longer is ends = absurd is
+      StaysKnown entries (Measure line x made) → IsLonger (joined_by (Measure line x made)) (joined_by next) →
+      Computes all next → EndsIn all z → IsKnownOf entries next (min (length_in entries x + length_in entries z) (2 ^ 64 - 1))
+  longer_known line x (Joined (cat es)) next all z stays longer is ends =
+      let more : IsLonger (Some (x, es)) (Some (is.1, all)) = subst (λ (o : Operation). IsLonger (Some (x, es)) (joined_by o)) is.2 longer in
+      let last : last_or (name z) all ≡ name z =
+      ap (λ (ms : Exprs). last_or (name z) ms) ends.1 ∙ last_is (name z) ends.0 (name z) in
+      let same : more.1.0 ≡ name z =
+      sym (ap (λ (ms : Exprs). last_or (name z) ms) more.1.1 ∙ last_is (name z) es more.1.0) ∙ last in
+      subst (λ (o : Operation). IsKnownOf entries o (min (length_in entries x + length_in entries z) (2 ^ 64 - 1))) (sym is.2)
+      (one_more es all more.1.0 z (length_in entries x) more.1.1 same (stays more.0))
   longer_known line x made next all z stays longer is ends = absurd longer
 
   -- after an operation that stays known comes one that joins a name more
   pub next_known : (operations : List Operation) (place next len : ℕ) (last after : Operation) (line : ℕ) (x : List ℕ) (made : Made)
       (all : Exprs) (z : List ℕ) → next ≡ place + 1 → Extends operations next → slice_get operations place ≡ Some last →
-      slice_get operations next ≡ Some after → last ≡ Measure line x made → StaysKnown entries last → Measures all after →
-      EndsInName all z → len ≡ min (length_in entries x + length_in entries z) (2 ^ 64 - 1) → IsKnownAt entries operations next len
+      slice_get operations next ≡ Some after → last ≡ Measure line x made → StaysKnown entries last →
+      Computes all after → EndsIn all z → len ≡ min (length_in entries x + length_in entries z) (2 ^ 64 - 1) → IsKnownAt entries operations next len
   next_known operations place next len last after line x made all z later extends here there is stays measures ends sum = λ o found.
       let follows : next ≡ suc place = omega (arith, later) in
       let longer : IsLonger (joined_at (slice_get operations place)) (joined_at (slice_get operations (suc place))) =
@@ -144,11 +151,10 @@ ends_in (k ∷ l ∷ rest) m e =
 
 pub last_named : (all prefix : Exprs) (rest : List Shared) (m : Shared) (x : List ℕ) →
     all ≡ append prefix (members_of (map shared_view rest)) → slice_get rest (length rest - 1) ≡ Some m → shared_view m ≡ name x →
-    EndsInName all x
+    EndsIn all x
 last_named all prefix rest m x halves last named =
-    let suffix = ends_in rest m last in
-    record {
-      others = append prefix suffix.0;
-      is = halves ∙ ap (λ (es : Exprs). append prefix es) suffix.1 ∙ append_twice prefix suffix.0 (member (shared_view m) nothing)
-          ∙ ap (λ (e : Expr). append (append prefix suffix.0) (member e nothing)) named;
-    }
+    let suffix = ends_in rest m last in (
+      append prefix suffix.0,
+      halves ∙ ap (λ (es : Exprs). append prefix es) suffix.1 ∙ append_twice prefix suffix.0 (member (shared_view m) nothing)
+          ∙ ap (λ (e : Expr). append (append prefix suffix.0) (member e nothing)) named,
+    )

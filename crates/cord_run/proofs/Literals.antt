@@ -1,13 +1,13 @@
 -- Literals, starts of functions, cords of names and of extensible cords, and prints.
 use Rattle.std.specs.Prelude.{◌≡◌, ◌≤◌, ◌+◌, ◌++◌, ◌≢◌, ◌<◌, ◌∷◌}
-use Rattle.cord_run.proofs.Common.{ℕ, List, [], length, take, drop, sym, ap, subst, ◌∙◌, inl, arith, Option, MAX_LEN, digit_at}
-use Rattle.cord_run.proofs.Common.{byte_value_at, length-text_of, Lengths, Node, Cell, AreHeldIn, lengths_of, IsCord, IsSourceRange}
-use Rattle.cord_run.proofs.Common.{bytes_of_cells, IsCordOf, IsGrownBy, lengths_in, table_in, Function, Digits, Bytes, IsStartOf}
-use Rattle.cord_run.proofs.Common.{IsCordOfText, function_source, Ok, refl, None, bytes_of, CordFitsIn, IsSameText, Entry, IsExtended}
-use Rattle.cord_run.proofs.Common.{IsTextOver, content_in, cord_in, extensible_in, ExtensibleFits, IsOver, extended_over, map, Result, Err}
-use Rattle.cord_run.proofs.Common.{Some, length-map, Table, known, byte_at, bytes-text, Piece, Argument, FaultKind, fault_of, format_text}
-use Rattle.cord_run.proofs.Common.{piece_argument, unless_refused, and_then, length_above, length_of, within, is_within, IsFaultOver}
-use Rattle.cord_run.proofs.Common.{IsReportedOver, argument_in, stop_of_print, plain_of}
+use Rattle.cord_run.proofs.Common.{AreHeldIn, Argument, Bytes, Cell, CordFitsIn, Digits, Entry, Err, ExtensibleFits, FaultKind, Function}
+use Rattle.cord_run.proofs.Common.{IsCord, IsCordOf, IsCordOfText, IsExtended, IsFaultOver, IsGrownBy, IsOver, IsSameText, IsSourceRange}
+use Rattle.cord_run.proofs.Common.{IsStartOf, IsTextOver, Lengths, List, MAX_LEN, Node, None, Ok, Option, Piece, Result, Some, Table, []}
+use Rattle.cord_run.proofs.Common.{and_then, ap, argument_in, arith, byte_at, byte_value_at, bytes-text, bytes_of, bytes_of_cells}
+use Rattle.cord_run.proofs.Common.{content_in, cord_in, digit_at, drop, extended_over, extensible_in, fault_of, format_text}
+use Rattle.cord_run.proofs.Common.{function_source, inl, is_within, known, length, length-map, length-text_of, length_above, length_of}
+use Rattle.cord_run.proofs.Common.{lengths_in, lengths_of, map, piece_argument, plain_of, refl, stop_of_print, subst, sym, table_in, take}
+use Rattle.cord_run.proofs.Common.{unless_refused, within, ℕ, ◌∙◌}
 use Rattle.cord_io.specs.FunctionTexts.{text_of}
 use Rattle.cord_io.proofs.FunctionRanges.{range-text_of}
 use Rattle.cord_run.proofs.Lengths.{content_text, cord_fits, operand_value}
@@ -191,10 +191,11 @@ module _ (entries : List Entry) (format : List Piece) (list : List Argument) whe
 
     -- its length alone
     pub printed_length : (len : ℕ) → IsPrintable format (arguments_of all) → len ≡ length (printed known format (arguments_of all)) →
-        len ≤ MAX_LEN → IsReportedOver entries (λ s. and_then (format_text s format list) (λ text. within MAX_LEN text)) len
-    printed_length len printable is short = record {
-      short = short;
-      reported = λ t over.
+        len ≤ MAX_LEN → (len ≤ MAX_LEN) × ((t : Table) → IsOver (lengths_of t) entries →
+        length_of (and_then (format_text (plain_of t entries) format list) (λ x. within MAX_LEN x)) ≡ Ok len)
+    printed_length len printable is short = (
+      short,
+      λ t over.
           let meant : List ℕ = printed (λ b. b) format (map (λ a. piece_argument (plain_of t entries) a) list) in
           let long : len ≡ length meant =
           is ∙ ap (λ (some : List Arg). length (printed known format (arguments_of some))) same
@@ -202,8 +203,8 @@ module _ (entries : List Entry) (format : List Piece) (list : List Argument) whe
           ap (λ (r : Result (List ℕ) FaultKind). length_of (and_then r (λ text. within MAX_LEN text)))
           (accepted t over (subst (λ (some : List Arg). first_refusal 0 format (arguments_of some) ≡ None) same printable.none_refused))
           ∙ ap (λ (r : Result (List ℕ) FaultKind). length_of r) (is_within MAX_LEN meant (subst (λ (n : ℕ). n ≤ MAX_LEN) long short))
-          ∙ ap (λ (n : ℕ). Ok n) (sym long);
-    }
+          ∙ ap (λ (n : ℕ). Ok n) (sym long),
+    )
 
     -- why there is none
     pub unprinted : (e : PrintError) → IsRefusedFor MAX_LEN format (arguments_of all) e →

@@ -5,8 +5,8 @@ use Rattle.cord_run.proofs.Common.{Table, lengths_of, FaultKind, and_then, Expr,
 use Rattle.cord_run.proofs.Common.{text_in, passes, MAX_LEN, Entry, counted, extent_in, members_extent, IsOver, holding_of, plain_of}
 use Rattle.cord_run.proofs.Common.{Origin, origins, origins_of, joined_over, subst, append-nil, inl, inr, ⊎_elim, Option, Node, InTurn}
 use Rattle.cord_run.proofs.Common.{IsPieceFrom, AddsAtMostOne, AddsInTurn, Bool, false, take, drop, length-drop, nat_le, leb-true}
-use Rattle.cord_run.proofs.Common.{leb-false, take_min, Lengths, all_bytes, AllFitIn, Wanted, AddsExpression, AddsMembers, AddsRange}
-use Rattle.cord_run.proofs.Common.{IsAfter, IsPast}
+use Rattle.cord_run.proofs.Common.{leb-false, take_min, Lengths, all_bytes, AllFitIn, Wanted, AddsExpression, AddsFew, AddsMembers, AddsRange}
+use Rattle.cord_run.proofs.Common.{Adds, IsAfter, IsPast}
 use Rattle.cord_run.proofs.Lengths.{text_length, texts_split}
 use Rattle.cord_node.proofs.Ranges.{range_left, range_right, range_both}
 
@@ -182,7 +182,7 @@ turns_joined entries (o ∷ os) others (p ∷ ps) more h k =
 pub one_in_turn : (entries : List Entry) (o : Origin) (old new : List (Option Node)) → AddsAtMostOne (IsPieceFrom entries o) old new →
     AddsInTurn entries (o ∷ []) old new
 one_in_turn entries o old new = ⊎_elim (λ same. record { added = []; is = same ∙ sym (append-nil old); each = tt })
-    (λ one. record { added = one.piece ∷ []; is = one.is; each = inl (one.holds, tt) })
+    (λ one. record { added = one.0 ∷ []; is = one.1; each = inl (one.2, tt) })
 
 -- a walk over members: pieces of those that it has passed, to which pieces of those that are left can be added
 pub record TurnsSoFar (entries : List Entry) (es : Exprs) (old : List (Option Node)) (left_over : Exprs)
@@ -286,110 +286,7 @@ pub record Remains (entries : List Entry) (t : Table) (left_over : Exprs) (left 
   pub there : all_texts (holding_of t entries) (cords_of left_over) ≡ true
   pub whole : all_bytes t now ++ take left.count (drop left.skip rest) ≡ goal
 
--- how far the walk is: these members are left, and this is wanted of them
-pub record SoFar (entries : List Entry) (es : Exprs) (wanted : Wanted) (old : List (Option Node)) (left_over : Exprs) (left : Wanted)
-    (now : List (Option Node)) : Type 0 where
-  pub fits : (lengths : Lengths) → IsOver lengths entries → AllFitIn lengths old → AllFitIn lengths now
-  pub bytes : (t : Table) → IsOver (lengths_of t) entries → all_texts (holding_of t entries) (cords_of es) ≡ true → (text : List ℕ) →
-      joined_over entries es t ≡ Ok text → Remains entries t left_over left now
-      (all_bytes t old ++ take wanted.count (drop wanted.skip text))
-  pub turns : TurnsSoFar entries es old left_over now
-
--- at the start
-pub starts : (entries : List Entry) (es : Exprs) (wanted : Wanted) (old : List (Option Node)) → SoFar entries es wanted old es wanted old
-starts entries es wanted old = record {
-  fits = λ lengths over all. all;
-  bytes = λ t over there text is. record { rest = text; joined = is; there = there; whole = refl };
-  turns = turns_start entries es old;
-}
-
--- at the end, where nothing more is added
-ends : (entries : List Entry) (es : Exprs) (wanted : Wanted) (old : List (Option Node)) (left_over : Exprs) (left : Wanted)
-    (now : List (Option Node)) → ((t : Table) (rest : List ℕ) → joined_over entries left_over t ≡ Ok rest →
-    take left.count (drop left.skip rest) ≡ []) → SoFar entries es wanted old left_over left now → AddsMembers entries es wanted old now
-ends entries es wanted old left_over left now none s = record {
-  fits = s.fits;
-  bytes = λ t over there text is.
-      let r = s.bytes t over there text is in
-      sym (append-nil (all_bytes t now)) ∙ ap (λ (u : List ℕ). all_bytes t now ++ u) (sym (none t r.rest r.joined)) ∙ r.whole;
-  in_turn = turns_end entries es old left_over now s.turns;
-}
-
--- since nothing more is wanted
-pub ends_early : (entries : List Entry) (es : Exprs) (wanted : Wanted) (old : List (Option Node)) (left_over : Exprs) (left : Wanted)
-    (now : List (Option Node)) → left.count ≡ 0 → SoFar entries es wanted old left_over left now → AddsMembers entries es wanted old now
-ends_early entries es wanted old left_over left now zero s = ends entries es wanted old left_over left now
-    (λ t rest is. ap (λ (n : ℕ). take n (drop left.skip rest)) zero) s
-
--- since no member is left
-pub ends_last : (entries : List Entry) (es : Exprs) (wanted : Wanted) (old : List (Option Node)) (left : Wanted)
-    (now : List (Option Node)) → SoFar entries es wanted old nothing left now → AddsMembers entries es wanted old now
-ends_last entries es wanted old left now s =
-    ends entries es wanted old nothing left now (λ t rest is. let none : [] ≡ rest = cc in
-    nothing_taken rest left.skip left.count (subst (λ (xs : List ℕ). min left.count (length xs - left.skip) ≡ 0) none (omega arith))) s
-
--- and those that are left are added
-pub ends_added : (entries : List Entry) (es : Exprs) (wanted : Wanted) (old : List (Option Node)) (left_over : Exprs) (left : Wanted)
-    (now next : List (Option Node)) → SoFar entries es wanted old left_over left now → AddsMembers entries left_over left now next →
-    AddsMembers entries es wanted old next
-ends_added entries es wanted old left_over left now next s part = record {
-  fits = λ lengths over all. part.fits lengths over (s.fits lengths over all);
-  bytes = λ t over there text is.
-      let r = s.bytes t over there text is in
-      part.bytes t over r.there r.rest r.joined ∙ r.whole;
-  in_turn = turns_added entries es old left_over now next s.turns part.in_turn;
-}
-
--- what is in front of the others is added
-passed : (entries : List Entry) (es : Exprs) (wanted : Wanted) (old : List (Option Node)) (all others : Exprs)
-    (needed : List (List ℕ)) (from : List Origin) (first : Table → Result (List ℕ) FaultKind) (extent : Result ℕ FaultKind) →
-    IsPrefix entries all others needed first extent → origins_of all ≡ from ++ origins_of others → (left after : Wanted)
-    (now next : List (Option Node)) → SoFar entries es wanted old all left now → AddsRange entries needed from first left now next →
-    IsAfter extent left after → SoFar entries es wanted old others after next
-passed entries es wanted old all others needed from first extent prefix turns left after now next s part past = record {
-  fits = λ lengths over fit. part.fits lengths over (s.fits lengths over fit);
-  bytes = λ t over there text is.
-      let r = s.bytes t over there text is in
-      let p = parts_of entries all others needed first extent prefix t over r.rest r.joined r.there in
-      let at : IsPast (length p.first) left after = subst (λ (q : Result ℕ FaultKind). IsAfter q left after) p.extent_is past in
-      let split : take left.count (drop left.skip r.rest) ≡ take left.count (drop left.skip p.first)
-      ++ take after.count (drop after.skip p.second) =
-      ap (λ (u : List ℕ). take left.count (drop left.skip u)) (sym p.whole)
-      ∙ range_over p.first p.second left.skip left.count
-      ∙ (λ i. take left.count (drop left.skip p.first) ++ take (sym at.count i) (drop (sym at.skip i) p.second)) in
-      record {
-        rest = p.second;
-        joined = p.second_is;
-        there = p.second_there;
-        whole = ap (λ (u : List ℕ). u ++ take after.count (drop after.skip p.second)) (part.bytes t over p.first_there p.first p.first_is)
-            ∙ append_assoc (all_bytes t now) (take left.count (drop left.skip p.first)) (take after.count (drop after.skip p.second))
-            ∙ ap (λ (u : List ℕ). all_bytes t now ++ u) (sym split)
-            ∙ r.whole;
-      };
-  turns = turns_go_on entries es old from all others now next turns s.turns part.in_turn;
-}
-
--- a member more
-pub goes_on : (entries : List Entry) (es : Exprs) (wanted : Wanted) (old : List (Option Node)) (e : Expr) (others : Exprs)
-    (left after : Wanted) (now next : List (Option Node)) → SoFar entries es wanted old (member e others) left now →
-    AddsExpression entries e left now next → IsAfter (extent_in entries e) left after → SoFar entries es wanted old others after next
-goes_on entries es wanted old e others left after now next s part past = passed entries es wanted old (member e others) others (cords e)
-    (origins e) (λ t. text_in MAX_LEN (plain_of t entries) e) (extent_in entries e) (member_prefix entries e others) refl left after now
-    next
-    s part past
-
--- those in front, and then the others
-pub both_added : (entries : List Entry) (es others : Exprs) (wanted left : Wanted) (old now next : List (Option Node)) →
-    AddsMembers entries es wanted old now → IsAfter (members_extent entries es) wanted left → AddsMembers entries others left now next →
-    AddsMembers entries (append es others) wanted old next
-both_added entries es others wanted left old now next first past second =
-    let all = append es others in
-    ends_added entries all wanted old others left now next
-    (passed entries all wanted old all others (cords_of es) (origins_of es) (λ t. joined_over entries es t) (members_extent entries es)
-    (members_prefix entries es others) (origins_both es others) wanted left old now (starts entries all wanted old) first past) second
-
--- ---- what is wanted after the members
--- after one length and another
+-- what is wanted after one length and another
 after_both : (r q : Result ℕ FaultKind) (wanted left after : Wanted) → IsAfter r wanted left → IsAfter q left after →
     IsAfter (added r q) wanted after
 after_both (Err kind) q wanted left after past h = tt
@@ -399,36 +296,123 @@ after_both (Ok len) (Ok more) wanted left after past h = record {
   count = omega (arith, past.skip, past.count, h.count);
 }
 
--- what is wanted after those that are left is wanted after all
-abbrev pub WantedSoFar : List Entry → Exprs → Wanted → Exprs → Wanted → Type 0
-WantedSoFar entries es wanted left_over left = (last : Wanted) → IsAfter (members_extent entries left_over) left last →
-    IsAfter (members_extent entries es) wanted last
+-- how far the walk is: these members are left, and this is wanted of them; what is wanted after them is wanted after all
+pub record SoFar (entries : List Entry) (es : Exprs) (wanted : Wanted) (old : List (Option Node)) (left_over : Exprs) (left : Wanted)
+    (now : List (Option Node)) : Type 0 where
+  pub fits : (lengths : Lengths) → IsOver lengths entries → AllFitIn lengths old → AllFitIn lengths now
+  pub bytes : (t : Table) → IsOver (lengths_of t) entries → all_texts (holding_of t entries) (cords_of es) ≡ true → (text : List ℕ) →
+      joined_over entries es t ≡ Ok text → Remains entries t left_over left now
+      (all_bytes t old ++ take wanted.count (drop wanted.skip text))
+  pub turns : TurnsSoFar entries es old left_over now
+  pub past : (after : Wanted) → IsAfter (members_extent entries left_over) left after → IsAfter (members_extent entries es) wanted after
+  pub few : AddsFew wanted left old now
 
--- a member more
-pub wanted_goes_on : (entries : List Entry) (es : Exprs) (wanted : Wanted) (e : Expr) (others : Exprs) (left after : Wanted) →
-    WantedSoFar entries es wanted (member e others) left → IsAfter (extent_in entries e) left after →
-    WantedSoFar entries es wanted others after
-wanted_goes_on entries es wanted e others left after s past last h =
-    s last (after_both (extent_in entries e) (members_extent entries others) left after last past h)
+-- at the start
+pub starts : (entries : List Entry) (es : Exprs) (wanted : Wanted) (old : List (Option Node)) → SoFar entries es wanted old es wanted old
+starts entries es wanted old = record {
+  fits = λ lengths over all. all;
+  bytes = λ t over there text is. record { rest = text; joined = is; there = there; whole = refl };
+  turns = turns_start entries es old;
+  past = λ after h. h;
+  few = omega arith;
+}
 
--- after those in front and the others
-pub wanted_after_both : (entries : List Entry) (es others : Exprs) (wanted left after : Wanted) →
-    IsAfter (members_extent entries es) wanted left → IsAfter (members_extent entries others) left after →
-    IsAfter (members_extent entries (append es others)) wanted after
-wanted_after_both entries es others wanted left after first second =
-    subst (λ (r : Result ℕ FaultKind). IsAfter r wanted after) (sym (extent_both entries es others))
-    (after_both (members_extent entries es) (members_extent entries others) wanted left after first second)
+module _ (entries : List Entry) (es : Exprs) (wanted : Wanted) (old : List (Option Node)) where
+  -- at the end, where nothing more is added
+  ends : (left_over : Exprs) (left : Wanted) (now : List (Option Node)) → ((t : Table) (rest : List ℕ) →
+      joined_over entries left_over t ≡ Ok rest → take left.count (drop left.skip rest) ≡ []) →
+      IsAfter (members_extent entries left_over) left left → SoFar entries es wanted old left_over left now →
+      AddsMembers entries es wanted left old now
+  ends left_over left now none same s = record {
+    added = record {
+      fits = s.fits;
+      bytes = λ t over there text is.
+          let r = s.bytes t over there text is in
+          sym (append-nil (all_bytes t now)) ∙ ap (λ (u : List ℕ). all_bytes t now ++ u) (sym (none t r.rest r.joined)) ∙ r.whole;
+      in_turn = turns_end entries es old left_over now s.turns;
+    };
+    past = s.past left same;
+    few = s.few;
+  }
 
--- where nothing more is wanted, nothing is after all
-pub wanted_ends_early : (entries : List Entry) (es : Exprs) (wanted : Wanted) (left_over : Exprs) (left : Wanted) → left.skip ≡ 0 →
-    left.count ≡ 0 → WantedSoFar entries es wanted left_over left → IsAfter (members_extent entries es) wanted left
-wanted_ends_early entries es wanted left_over left skip count s = s left (by_extent (members_extent entries left_over))
-  where
-    by_extent : (r : Result ℕ FaultKind) → IsAfter r left left
-    by_extent (Err kind) = tt
-    by_extent (Ok len) = record { skip = omega (arith, skip); count = omega (arith, count) }
+  -- since nothing more is wanted
+  pub ends_early : (left_over : Exprs) (left : Wanted) (now : List (Option Node)) → (left.skip ≡ 0) × (left.count ≡ 0) →
+      SoFar entries es wanted old left_over left now → AddsMembers entries es wanted left old now
+  ends_early left_over left now zero = ends left_over left now (λ t rest is. ap (λ (n : ℕ). take n (drop left.skip rest)) zero.1)
+      (by_extent (members_extent entries left_over))
+    where
+      by_extent : (r : Result ℕ FaultKind) → IsAfter r left left
+      by_extent (Err kind) = tt
+      by_extent (Ok len) = record { skip = omega (arith, zero.0); count = omega (arith, zero.1) }
 
--- where no member is left
-pub wanted_ends : (entries : List Entry) (es : Exprs) (wanted left : Wanted) → WantedSoFar entries es wanted nothing left →
-    IsAfter (members_extent entries es) wanted left
-wanted_ends entries es wanted left s = s left (record { skip = omega arith; count = omega arith })
+  -- since no member is left
+  pub ends_last : (left : Wanted) (now : List (Option Node)) → SoFar entries es wanted old nothing left now →
+      AddsMembers entries es wanted left old now
+  ends_last left now = ends nothing left now (λ t rest is. let none : [] ≡ rest = cc in
+      nothing_taken rest left.skip left.count (subst (λ (xs : List ℕ). min left.count (length xs - left.skip) ≡ 0) none (omega arith)))
+      (record { skip = omega arith; count = omega arith })
+
+  -- and those that are left are added
+  ends_added : (left_over : Exprs) (left after : Wanted) (now next : List (Option Node)) → SoFar entries es wanted old left_over left now →
+      AddsMembers entries left_over left after now next → AddsMembers entries es wanted after old next
+  ends_added left_over left after now next s part = record {
+    added = record {
+      fits = λ lengths over all. part.added.fits lengths over (s.fits lengths over all);
+      bytes = λ t over there text is.
+          let r = s.bytes t over there text is in
+          part.added.bytes t over r.there r.rest r.joined ∙ r.whole;
+      in_turn = turns_added entries es old left_over now next s.turns part.added.in_turn;
+    };
+    past = s.past after part.past;
+    few = omega (arith, s.few, part.few);
+  }
+
+  -- what is in front of the others is added
+  passed : (all others : Exprs) (needed : List (List ℕ)) (from : List Origin) (first : Table → Result (List ℕ) FaultKind)
+      (extent : Result ℕ FaultKind) → IsPrefix entries all others needed first extent → origins_of all ≡ from ++ origins_of others →
+      members_extent entries all ≡ added extent (members_extent entries others) → (left after : Wanted) (now next : List (Option Node)) →
+      SoFar entries es wanted old all left now → Adds (AddsRange entries needed from first left now next) extent left after now next →
+      SoFar entries es wanted old others after next
+  passed all others needed from first extent prefix turns sum left after now next s part = record {
+    fits = λ lengths over fit. part.added.fits lengths over (s.fits lengths over fit);
+    bytes = λ t over there text is.
+        let r = s.bytes t over there text is in
+        let p = parts_of entries all others needed first extent prefix t over r.rest r.joined r.there in
+        let at : IsPast (length p.first) left after = subst (λ (q : Result ℕ FaultKind). IsAfter q left after) p.extent_is part.past in
+        let split : take left.count (drop left.skip r.rest) ≡ take left.count (drop left.skip p.first)
+        ++ take after.count (drop after.skip p.second) =
+        ap (λ (u : List ℕ). take left.count (drop left.skip u)) (sym p.whole)
+        ∙ range_over p.first p.second left.skip left.count
+        ∙ (λ i. take left.count (drop left.skip p.first) ++ take (sym at.count i) (drop (sym at.skip i) p.second)) in
+        record {
+          rest = p.second;
+          joined = p.second_is;
+          there = p.second_there;
+          whole = ap (λ (u : List ℕ). u ++ take after.count (drop after.skip p.second)) (part.added.bytes t over p.first_there p.first p.first_is)
+              ∙ append_assoc (all_bytes t now) (take left.count (drop left.skip p.first)) (take after.count (drop after.skip p.second))
+              ∙ ap (λ (u : List ℕ). all_bytes t now ++ u) (sym split)
+              ∙ r.whole;
+        };
+    turns = turns_go_on entries es old from all others now next turns s.turns part.added.in_turn;
+    past = λ last h. s.past last (subst (λ (r : Result ℕ FaultKind). IsAfter r left last) (sym sum)
+        (after_both extent (members_extent entries others) left after last part.past h));
+    few = omega (arith, s.few, part.few);
+  }
+
+  -- a member more
+  pub goes_on : (e : Expr) (others : Exprs) (left after : Wanted) (now next : List (Option Node)) →
+      SoFar entries es wanted old (member e others) left now → AddsExpression entries e left after now next →
+      SoFar entries es wanted old others after next
+  goes_on e others = passed (member e others) others (cords e) (origins e) (λ t. text_in MAX_LEN (plain_of t entries) e) (extent_in entries e)
+      (member_prefix entries e others) refl refl
+
+-- those in front, and then the others
+pub both_added : (entries : List Entry) (es others : Exprs) (wanted left after : Wanted) (old now next : List (Option Node)) →
+    AddsMembers entries es wanted left old now → AddsMembers entries others left after now next →
+    AddsMembers entries (append es others) wanted after old next
+both_added entries es others wanted left after old now next first second =
+    let all = append es others in
+    ends_added entries all wanted old others left after now next
+    (passed entries all wanted old all others (cords_of es) (origins_of es) (λ t. joined_over entries es t) (members_extent entries es)
+    (members_prefix entries es others) (origins_both es others) (extent_both entries es others) wanted left old now
+    (starts entries all wanted old) first) second

@@ -4,7 +4,7 @@ use Rattle.cord_run.proofs.Common.{ℕ, zero, suc, true, List, [], length, take,
 use Rattle.cord_run.proofs.Common.{append-nil, arith, Option, take_all, Table, Lengths, HasLengths, MAX_LEN, CordError, Node, bytes_of}
 use Rattle.cord_run.proofs.Common.{all_bytes, CordFitsIn, AllFitIn, FailureCounts, CountsFaults, IsPrefixOf, Takes, FaultKind, Expr}
 use Rattle.cord_run.proofs.Common.{all_texts, cords, text_in, Stop, Entry, IsOver, holding_of, plain_of, CountsStops, PutsText, Wrote}
-use Rattle.cord_run.proofs.Common.{stop_of_failure, AreWhole, IsUnbuilt}
+use Rattle.cord_run.proofs.Common.{stop_of_cord, Some, AreWhole, IsUnbuilt}
 use Rattle.cord_io.specs.declared.faults.CordError.TheVariants.{NoMemory, TooLong, ReadFailed, WriteFailed}
 use Rattle.cord_io.specs.declared.writing.Sink as sinks
 use Rattle.cord_iter.proofs.Takes.{appends_both, prefix_join, prefix_more}
@@ -73,16 +73,16 @@ module _ (entries : List Entry) (e : Expr) (ls : Lengths) (over : IsOver ls entr
   wrote_whole ps whole h = (all_bytes t ps, whole.bytes t (over_reported ls t reported entries over) there, h)
 
   -- that was put in part
-  pub wrote_part : (ps : List (Option Node)) (error : CordError) → AreWhole entries e ps → Takes (IsPrefixOf (all_bytes t ps)) a b →
-      Wrote meant a b (Err (stop_of_failure error))
-  wrote_part ps NoMemory whole h = (all_bytes t ps, whole.bytes t (over_reported ls t reported entries over) there, h)
-  wrote_part ps TooLong whole h = (all_bytes t ps, whole.bytes t (over_reported ls t reported entries over) there, h)
-  wrote_part ps ReadFailed whole h = (all_bytes t ps, whole.bytes t (over_reported ls t reported entries over) there, h)
-  wrote_part ps WriteFailed whole h = (all_bytes t ps, whole.bytes t (over_reported ls t reported entries over) there, h)
+  pub wrote_part : (ps : List (Option Node)) (error : CordError) (n m : FailureCounts) → CountsFaults {T = Unit {0}} n m (Err error) →
+      AreWhole entries e ps → Takes (IsPrefixOf (all_bytes t ps)) a b → Wrote meant a b (Err (stop_of_cord error))
+  wrote_part ps ReadFailed n m faults whole h = (all_bytes t ps, whole.bytes t (over_reported ls t reported entries over) there, h)
+  wrote_part ps WriteFailed n m faults whole h = (all_bytes t ps, whole.bytes t (over_reported ls t reported entries over) there, h)
+  wrote_part ps NoMemory n m faults whole h = absurd faults
+  wrote_part ps TooLong n m faults whole h = absurd faults
 
 -- a failure of a device was counted as such
 pub stop_counts : (error : CordError) (n m : FailureCounts) → CountsFaults {T = Unit {0}} n m (Err error) →
-    CountsStops n m (Err (stop_of_failure error))
+    CountsStops n m (Err (stop_of_cord error))
 stop_counts ReadFailed n m h = h
 stop_counts WriteFailed n m h = h
 stop_counts _ n m h = absurd h
@@ -96,19 +96,15 @@ unbuilt_counts entries e _ n m h source sink = (source, sink)
 
 -- ---- bytes that were handed over as the text of an expression
 module _ {S : Type 0} (s : sinks.Ghosts S) (entries : List Entry) (e : Expr) (old new : S) where
-  pub short_wrote : (r : Result (Unit {0}) Stop) → PutsText s entries e old new r → (t : Table) →
+  pub short_wrote : (r : Result (Unit {0}) Stop) → PutsText s entries e old new (Some r) → (t : Table) →
       all_texts (holding_of t entries) (cords e) ≡ true → Wrote (text_in MAX_LEN (plain_of t entries) e) (s.taken old) (s.taken new) r
-  short_wrote (Ok x) h t there = (h.0, h.1 t there, h.2.0)
-  short_wrote (Err stops.WriteFailed) h t there = (h.0, h.1 t there, h.2.0)
-  short_wrote _ h t there = absurd h.2
+  short_wrote (Ok x) h t there = (h.0, h.1 t there, h.2.0.ok.0)
+  short_wrote (Err stop) h t there =
+      subst (λ (k : Stop). Wrote (text_in MAX_LEN (plain_of t entries) e) (s.taken old) (s.taken new) (Err k)) (sym h.2.1)
+      (h.0, h.1 t there, h.2.0.err.0)
 
-  pub short_counts : (r : Result (Unit {0}) Stop) → PutsText s entries e old new r → (n : ℕ) →
+  pub short_counts : (r : Result (Unit {0}) Stop) → PutsText s entries e old new (Some r) → (n : ℕ) →
       CountsStops (record { source = n; sink = s.failures old }) (record { source = n; sink = s.failures new }) r
-  short_counts (Ok x) h n = (refl, h.2.1)
-  short_counts (Err stops.WriteFailed) h n = (refl, h.2.1)
-  short_counts _ h n = absurd h.2
-
-  pub short_finished : (r : Result (Unit {0}) Stop) → PutsText s entries e old new r → s.finished new ≡ s.finished old
-  short_finished (Ok x) h = h.2.2
-  short_finished (Err stops.WriteFailed) h = h.2.2
-  short_finished _ h = absurd h.2
+  short_counts (Ok x) h n = (refl, h.2.0.ok.1)
+  short_counts (Err stop) h n = subst (λ (k : Stop). CountsStops (record { source = n; sink = s.failures old })
+      (record { source = n; sink = s.failures new }) (Err k)) (sym h.2.1) (refl, h.2.0.err.1)

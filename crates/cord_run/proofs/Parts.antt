@@ -3,12 +3,13 @@ use Rattle.std.specs.Prelude.{◌≡◌, ◌∷◌, ◌++◌, ◌+◌, ◌≤◌
 use Rattle.cord_run.proofs.Common.{ℕ, true, List, [], length, take, drop, Result, Ok, Err, refl, sym, ap, subst, ◌∙◌, arith, Option}
 use Rattle.cord_run.proofs.Common.{take_all, Table, MAX_LEN, Node, lengths_of, PartsFrom, all_bytes, all_parts, parts_of, AllFitIn, IsCord}
 use Rattle.cord_run.proofs.Common.{IsAllOf, FaultKind, Expr, all_texts, cords, length_of, text_in, Entry, extent_in, IsOver, holding_of}
-use Rattle.cord_run.proofs.Common.{plain_of, AddsExpression, AddsInTurn, InTurn, origins, AreWhole, IsBuilt, ℤ, replicate, inl, append-nil}
+use Rattle.cord_run.proofs.Common.{Wanted, plain_of, AddsExpression, AddsInTurn, InTurn, origins, AreWhole, Builds, IsBuilt, ℤ, replicate, inl, append-nil}
 use Rattle.cord_run.proofs.Common.{append_assoc, length-append, Lengths, CordError, Part, PartsFrom-join, PartsFrom-self, bytes_of}
 use Rattle.cord_run.proofs.Common.{text_len, CordFits, CordFitsIn, IsCatOf, IsSubstring, HasText, IsRefusal, length-bytes, Number, TooLong}
 use Rattle.cord_run.proofs.Common.{number_value, and_then, as_index, as_byte, as_length, name, run, cat, sub, member, nothing, copies}
 use Rattle.cord_run.proofs.Common.{measured_copies, part_of, within, Stop, stop_of_cord, content_in, cord_in, operand_in, IsUnbuilt, Origin}
 use Rattle.cord_run.proofs.Common.{named, copied, IsCutOf, IsPieceFrom, stop_by, is_within, same_text}
+use Rattle.std.specs.Prelude.{IsErrAnd}
 use Rattle.cord_run.proofs.Lengths.{text_reported, Both, cord_fits, content_text, length_passed, operand_value, texts_split}
 use Rattle.cord_io.specs.declared.faults.CordError.TheVariants as errors
 use Rattle.cord_run.specs.declared.stops.Stop.TheVariants as stops
@@ -46,13 +47,13 @@ module _ (entries : List Entry) (e : Expr) where
 
   -- all its bytes
   pub whole_range : (len : ℕ) (old pieces : List (Option Node)) → old ≡ [] → extent_in entries e ≡ Ok len →
-      AddsExpression entries e (record { skip = 0; count = len }) old pieces → AreWhole entries e pieces
+      {after : Wanted} → AddsExpression entries e (record { skip = 0; count = len }) after old pieces → AreWhole entries e pieces
   whole_range len old pieces none extent part = record {
-    fits = λ lengths over. part.fits lengths over (subst (λ (ps : List (Option Node)). AllFitIn lengths ps) (sym none) tt);
+    fits = λ lengths over. part.added.fits lengths over (subst (λ (ps : List (Option Node)). AllFitIn lengths ps) (sym none) tt);
     bytes = λ t over there.
         let k = known (text_in MAX_LEN (plain_of t entries) e) len (sym extent ∙ text_reported t entries over e there) in
         let all : all_bytes t pieces ≡ k.text =
-        part.bytes t over there k.text k.is
+        part.added.bytes t over there k.text k.is
         ∙ ap (λ (ps : List (Option Node)). all_bytes t ps ++ take len (drop 0 k.text)) none
         ∙ take_all len k.text (omega (arith, k.long)) in
         k.is ∙ ap (λ (u : List ℕ). Ok u) (sym all);
@@ -83,6 +84,12 @@ module _ (entries : List Entry) (e : Expr) where
       all_texts (holding_of t entries) (cords e) ≡ true → text_in MAX_LEN (plain_of t entries) e ≡ Err kind
   whole_faulty kind extent t over there = faulty (text_in MAX_LEN (plain_of t entries) e) kind
       (extent ∙ text_reported t entries over e there)
+
+-- it is what a `?` hands on
+pub unbuilt : (entries : List Entry) (e : Expr) (stop : Stop) (r : Result (Option Node) Stop) → IsErrAnd r (λ x. x ≡ stop) →
+    IsUnbuilt entries e stop → Builds entries e r
+unbuilt entries e stop (Ok cord) is h = absurd is
+unbuilt entries e stop (Err other) is h = record { built = tt; refused = subst (IsUnbuilt entries e) (sym is) h }
 
 -- ---- one part
 module _ (entries : List Entry) where

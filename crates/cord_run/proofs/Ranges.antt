@@ -7,9 +7,8 @@ use Rattle.cord_run.proofs.Common.{take-take, Table, Lengths, MAX_LEN, Node, len
 use Rattle.cord_run.proofs.Common.{all_bytes, all_len, AllFitIn, IsSubstring, HasText, Number, FaultKind, number_value, and_then, as_index}
 use Rattle.cord_run.proofs.Common.{as_byte, as_length, Expr, name, run, cat, sub, Exprs, held_text, within, copies, part_of}
 use Rattle.cord_run.proofs.Common.{measured_copies, text_in, passes, fits_within, cat_joined, Wanted, Entry, extent_in, members_extent}
-use Rattle.cord_run.proofs.Common.{content_in, cord_in, operand_in, holding_of, plain_of, AddsAtMostOne, AreCopies, IsCutOf, named, copied}
-use Rattle.cord_run.proofs.Common.{AddsCordRange, AddsCopies, AddsRun, AddsExpression, AddsMembers, AddsFew, IsAfter, IsInnerWanted}
-use Rattle.cord_run.proofs.Common.{IsOutside, IsPast}
+use Rattle.cord_run.proofs.Common.{content_in, cord_in, length_in, operand_in, holding_of, plain_of, named, copied, PartsFrom, parts_of, inl, inr}
+use Rattle.cord_run.proofs.Common.{IsCord, IsCordOfText, Adds, AddsCordRange, AddsCopies, AddsRun, AddsExpression, AddsMembers, AddsFew, IsAfter, IsPast}
 use Rattle.cord_run.proofs.MemberRanges.{nothing_taken, one_in_turn}
 use Rattle.cord_run.proofs.Lengths.{cord_fits, content_text, operand_value, length_passed}
 
@@ -31,10 +30,11 @@ all_len_more (x ∷ old) c = let rest = all_len_more old c in omega (arith, rest
 module _ (cord : Option Node) (wanted : Wanted) where
   -- what is wanted of a cord
   pub part_added : (part : Option Node) (old new : List (Option Node)) → IsSubstring wanted.skip wanted.count cord part →
-      new ≡ old ++ part ∷ [] → AddsCordRange cord wanted old new
-  part_added part old new is pushed = subst (AddsCordRange cord wanted old) (sym pushed) (record {
+      PartsFrom (parts_of cord) (parts_of part) → new ≡ old ++ part ∷ [] → AddsCordRange cord wanted old new
+  part_added part old new is shared pushed = subst (AddsCordRange cord wanted old) (sym pushed) (record {
     fits = λ lengths one all. all_fit_more lengths old part all (is.fits lengths one);
     bytes = λ t one. all_bytes_more t old part ∙ ap (λ (u : List ℕ). all_bytes t old ++ u) (is.bytes t one);
+    in_turn = inr (part, refl, record { start = wanted.skip; count = wanted.count; range = is; shared = shared });
   })
 
   -- nothing is
@@ -44,6 +44,7 @@ module _ (cord : Option Node) (wanted : Wanted) where
     fits = λ lengths one all. all;
     bytes = λ t one. sym (append-nil (all_bytes t old)) ∙ ap (λ (u : List ℕ). all_bytes t old ++ u)
         (sym (nothing_taken (bytes_of t cord) wanted.skip wanted.count (none t one)));
+    in_turn = inl refl;
   }
 
 -- one piece more, of the bytes that are taken
@@ -55,6 +56,14 @@ few_more wanted after len old new piece past long pushed =
     omega (arith, more, long, left)
 
 -- copies of a byte
+pub copies_text : (b count : ℕ) (cord : Option Node) → count ≤ MAX_LEN → HasText (replicate count b) cord → IsCord cord →
+    IsCordOfText (replicate count b) cord
+copies_text b count cord short has sound = record {
+  sound = sound;
+  short = subst (λ (n : ℕ). n ≤ MAX_LEN) (sym (length-replicate count b)) short;
+  whole = has;
+}
+
 pub copies_added : (z : ℤ) (b count : ℕ) (made : Option Node) (old new : List (Option Node)) → as_byte z ≡ Ok b →
     HasText (replicate count b) made → text_len made ≡ count → new ≡ old ++ made ∷ [] → AddsCopies z count old new
 copies_added z b count made old new is text len pushed = subst (AddsCopies z count old) (sym pushed) (record {
@@ -62,22 +71,27 @@ copies_added z b count made old new is text len pushed = subst (AddsCopies z cou
   bytes = λ t a same. all_bytes_more t old made ∙ ap (λ (u : List ℕ). all_bytes t old ++ u)
       (text.bytes t ∙ ap (λ (x : ℕ). replicate count x) (same_byte a same));
   len = all_len_more old made ∙ ap (λ (n : ℕ). all_len old + n) len;
+  in_turn = inr (made, refl, record { value = b; count = count; is = is; text = text });
 })
   where
     same_byte : (a : ℕ) → as_byte z ≡ Ok a → b ≡ a
     same_byte a same = cc
 
 -- ---- a name
-pub name_added : (entries : List Entry) (x : List ℕ) (wanted : Wanted) (old new : List (Option Node)) →
-    AddsCordRange (cord_in (content_in entries x)) wanted old new →
-    AddsAtMostOne (IsCutOf (cord_in (content_in entries x))) old new → AddsExpression entries (name x) wanted old new
-name_added entries x wanted old new part turn = record {
-  fits = λ lengths over all. part.fits lengths (cord_fits lengths (content_in entries x) (over.contents x)) all;
-  bytes = λ t over there whole is.
-      let same : held_text ((holding_of t entries).held x) ≡ whole = cc in
-      part.bytes t (cord_fits (lengths_of t) (content_in entries x) (over.contents x))
-      ∙ ap (λ (u : List ℕ). all_bytes t old ++ take wanted.count (drop wanted.skip u)) (sym (content_text t (content_in entries x)) ∙ same);
-  in_turn = one_in_turn entries (named x) old new turn;
+pub name_added : (entries : List Entry) (x : List ℕ) (wanted after : Wanted) (old new : List (Option Node)) →
+    Adds (AddsCordRange (cord_in (content_in entries x)) wanted old new) (Ok (length_in entries x)) wanted after old new →
+    AddsExpression entries (name x) wanted after old new
+name_added entries x wanted after old new adds = record {
+  added = record {
+    fits = λ lengths over all. adds.added.fits lengths (cord_fits lengths (content_in entries x) (over.contents x)) all;
+    bytes = λ t over there whole is.
+        let same : held_text ((holding_of t entries).held x) ≡ whole = cc in
+        adds.added.bytes t (cord_fits (lengths_of t) (content_in entries x) (over.contents x))
+        ∙ ap (λ (u : List ℕ). all_bytes t old ++ take wanted.count (drop wanted.skip u)) (sym (content_text t (content_in entries x)) ∙ same);
+    in_turn = one_in_turn entries (named x) old new adds.added.in_turn;
+  };
+  past = adds.past;
+  few = adds.few;
 }
 
 -- ---- copies
@@ -124,36 +138,42 @@ module _ (z w : ℤ) (wanted : Wanted) (old : List (Option Node)) where
         (some ∙ ap (λ (k : ℕ). min wanted.count (k - wanted.skip)) same)
         ∙ range_of_copies wanted.skip wanted.count made.count made.byte
         ∙ ap (λ (u : List ℕ). take wanted.count (drop wanted.skip u)) made.same);
+    in_turn = part.in_turn;
   }
 
-pub run_added : (entries : List Entry) (c n : Number) (wanted : Wanted) (old new : List (Option Node)) →
-    AddsRun (operand_in entries c) (operand_in entries n) wanted old new →
-    AddsAtMostOne (AreCopies (operand_in entries c)) old new → AddsExpression entries (run c n) wanted old new
-run_added entries c n wanted old new part turn = record {
-  fits = λ lengths over all. part.fits lengths all;
-  bytes = λ t over there whole is. part.bytes t whole ((λ i. copies MAX_LEN (operand_value t entries c i) (operand_value t entries n i))
-      ∙ is);
-  in_turn = one_in_turn entries (copied c) old new turn;
+pub run_added : (entries : List Entry) (c n : Number) (wanted after : Wanted) (old new : List (Option Node)) →
+    Adds (AddsRun (operand_in entries c) (operand_in entries n) wanted old new)
+    (measured_copies MAX_LEN (operand_in entries c) (operand_in entries n)) wanted after old new →
+    AddsExpression entries (run c n) wanted after old new
+run_added entries c n wanted after old new adds = record {
+  added = record {
+    fits = λ lengths over all. adds.added.fits lengths all;
+    bytes = λ t over there whole is. adds.added.bytes t whole
+        ((λ i. copies MAX_LEN (operand_value t entries c i) (operand_value t entries n i)) ∙ is);
+    in_turn = one_in_turn entries (copied c) old new adds.added.in_turn;
+  };
+  past = adds.past;
+  few = adds.few;
 }
 
 -- ---- a `cat`
-pub cat_added : (entries : List Entry) (es : Exprs) (wanted : Wanted) (old new : List (Option Node)) →
-    AddsMembers entries es wanted old new → AddsExpression entries (cat es) wanted old new
-cat_added entries es wanted old new part = record {
-  fits = part.fits;
-  bytes = λ t over there whole is. part.bytes t over there whole (cat_joined MAX_LEN (plain_of t entries) es whole is).joined;
-  in_turn = part.in_turn;
-}
-
 -- what is wanted after a length that is let pass
 past_checked : (wanted after : Wanted) (n : ℕ) (r : Result ℕ FaultKind) → as_length MAX_LEN n ≡ r → IsPast n wanted after →
     IsAfter r wanted after
 past_checked wanted after n (Err kind) e h = tt
 past_checked wanted after n (Ok k) e h = subst (λ (m : ℕ). IsPast m wanted after) (length_passed n k e).0 h
 
-pub cat_past : (entries : List Entry) (es : Exprs) (wanted after : Wanted) → IsAfter (members_extent entries es) wanted after →
-    IsAfter (extent_in entries (cat es)) wanted after
-cat_past entries es wanted after h = by_members (members_extent entries es) h
+pub cat_added : (entries : List Entry) (es : Exprs) (wanted after : Wanted) (old new : List (Option Node)) →
+    AddsMembers entries es wanted after old new → AddsExpression entries (cat es) wanted after old new
+cat_added entries es wanted after old new adds = record {
+  added = record {
+    fits = adds.added.fits;
+    bytes = λ t over there whole is. adds.added.bytes t over there whole (cat_joined MAX_LEN (plain_of t entries) es whole is).joined;
+    in_turn = adds.added.in_turn;
+  };
+  past = by_members (members_extent entries es) adds.past;
+  few = adds.few;
+}
   where
     by_members : (r : Result ℕ FaultKind) → IsAfter r wanted after → IsAfter (and_then r (λ n. as_length MAX_LEN n)) wanted after
     by_members (Err kind) h = tt
@@ -216,34 +236,21 @@ part_known u z w whole h =
 
 module _ (entries : List Entry) (e : Expr) (i n : Number) (start most : ℕ) (wanted inner : Wanted)
     (start_is : IfOk (as_index (operand_in entries i)) (λ k. start ≡ k)) (most_is : IfOk (as_index (operand_in entries n)) (λ k. most ≡ k))
-    (inside : IsInnerWanted start most wanted inner) where
-  pub sub_added : (old new : List (Option Node)) → AddsExpression entries e inner old new →
-      AddsExpression entries (sub e i n) wanted old new
-  sub_added old new part = record {
-    fits = part.fits;
-    bytes = λ t over there whole is.
-        let q = passes (text_in MAX_LEN (plain_of t entries) e)
-        (λ u. part_of MAX_LEN u (number_value (plain_of t entries) i) (number_value (plain_of t entries) n)) whole is in
-        let p = part_known q.middle (operand_in entries i) (operand_in entries n) whole
-        ((λ j. part_of MAX_LEN q.middle (operand_value t entries i j) (operand_value t entries n j)) ∙ q.next) in
-        let at : start ≡ p.first = IfOk-at_ok (λ k. start ≡ k) p.start_is start_is in
-        let up_to : most ≡ p.most = IfOk-at_ok (λ k. most ≡ k) p.count_is most_is in
-        part.bytes t over there q.middle q.first
-        ∙ ap (λ (u : List ℕ). all_bytes t old ++ u) ((λ j. take (inside.count j) (drop (inside.skip j) q.middle))
-        ∙ range_within q.middle start most wanted.skip wanted.count
-        ∙ (λ j. take wanted.count (drop wanted.skip (take (up_to j) (drop (at j) q.middle))))
-        ∙ ap (λ (u : List ℕ). take wanted.count (drop wanted.skip u)) p.same);
-    in_turn = part.in_turn;
-  }
-
-  module _ (rest after : Wanted) (outside : IsOutside most wanted inner rest after) where
+    (inside : inner ≡ record { skip = start + min wanted.skip most; count = min wanted.count (most - wanted.skip) }) where
+  module _ (rest after : Wanted) (outside : after ≡ record {
+    skip = wanted.skip - (min wanted.skip most - rest.skip);
+    count = wanted.count - (inner.count - rest.count);
+  }) where
     part_past : (len : ℕ) → IsPast len inner rest → IsPast (min most (len - start)) wanted after
-    part_past len past = record {
-      skip = omega (arith, inside.skip, past.skip, outside.skip);
-      count = omega (arith, inside.skip, inside.count, past.count, outside.count);
-    }
+    part_past len past =
+        let skip = λ (w : Wanted). w.skip in
+        let count = λ (w : Wanted). w.count in
+        record {
+          skip = omega (arith, ap skip inside, past.skip, ap skip outside);
+          count = omega (arith, ap skip inside, ap count inside, past.count, ap count outside);
+        }
 
-    pub sub_past : IsAfter (extent_in entries e) inner rest → IsAfter (extent_in entries (sub e i n)) wanted after
+    sub_past : IsAfter (extent_in entries e) inner rest → IsAfter (extent_in entries (sub e i n)) wanted after
     sub_past h = by_checks (extent_in entries e) (as_index (operand_in entries i)) (as_index (operand_in entries n)) h start_is most_is
       where
         by_checks : (r ri rn : Result ℕ FaultKind) → IsAfter r inner rest → IfOk ri (λ k. start ≡ k) → IfOk rn (λ k. most ≡ k) →
@@ -255,8 +262,25 @@ module _ (entries : List Entry) (e : Expr) (i n : Number) (start most : ℕ) (wa
             past_checked wanted after (min m (len - a)) (as_length MAX_LEN (min m (len - a))) refl
             (subst (λ (x : ℕ). IsPast x wanted after) (λ j. min (up_to j) (len - at j)) (part_past len past))
 
--- ---- results
--- what follows from both of what an Ok call gives
-pub still_ok_both : {A E P Q R : Type 0} (r : Result A E) → (P → Q → R) → IfOk r (λ _. P) → IfOk r (λ _. Q) → IfOk r (λ _. R)
-still_ok_both (Ok x) f p q = f p q
-still_ok_both (Err e) f p q = tt
+    pub sub_added : (old new : List (Option Node)) → AddsExpression entries e inner rest old new →
+        AddsExpression entries (sub e i n) wanted after old new
+    sub_added old new adds = record {
+      added = record {
+        fits = adds.added.fits;
+        bytes = λ t over there whole is.
+            let q = passes (text_in MAX_LEN (plain_of t entries) e)
+            (λ u. part_of MAX_LEN u (number_value (plain_of t entries) i) (number_value (plain_of t entries) n)) whole is in
+            let p = part_known q.middle (operand_in entries i) (operand_in entries n) whole
+            ((λ j. part_of MAX_LEN q.middle (operand_value t entries i j) (operand_value t entries n j)) ∙ q.next) in
+            let at : start ≡ p.first = IfOk-at_ok (λ k. start ≡ k) p.start_is start_is in
+            let up_to : most ≡ p.most = IfOk-at_ok (λ k. most ≡ k) p.count_is most_is in
+            adds.added.bytes t over there q.middle q.first
+            ∙ ap (λ (u : List ℕ). all_bytes t old ++ u) ((λ j. take (inside j).count (drop (inside j).skip q.middle))
+            ∙ range_within q.middle start most wanted.skip wanted.count
+            ∙ (λ j. take wanted.count (drop wanted.skip (take (up_to j) (drop (at j) q.middle))))
+            ∙ ap (λ (u : List ℕ). take wanted.count (drop wanted.skip u)) p.same);
+        in_turn = adds.added.in_turn;
+      };
+      past = sub_past adds.past;
+      few = omega (arith, adds.few, ap (λ (w : Wanted). w.count) inside, ap (λ (w : Wanted). w.count) outside);
+    }

@@ -8,7 +8,7 @@ mod short_texts;
 pub(crate) mod slices;
 
 ghost use Rattle.std.specs.Prelude.{◌≡◌, IfErr, IfOk, Ok};
-ghost use Rattle.cord_run.specs.inner.{expr_view, extent_in, InTurn, origins, AreWhole, IsBuilt, IsUnbuilt};
+ghost use Rattle.cord_run.specs.inner.{expr_view, extent_in, InTurn, origins, AreWhole, Builds, IsUnbuilt};
 
 use crate::expressions::joins::join_all;
 use crate::expressions::lengths::length_of;
@@ -22,8 +22,7 @@ use std::alloc::{AllocError, Global};
 
 /// The cord of an expression. Refused with its fault, or with `NoMemory`.
 pub(crate) fn build(alloc: Global, expression: &Expr, store: &Store) -> Result<Cord, Stop>
-    ensures built { IfOk result (IsBuilt store.now.entries.items (expr_view expression.now)) }
-    ensures refused { IfErr result (IsUnbuilt store.now.entries.items (expr_view expression.now)) }
+    ensures { Builds store.now.entries.items (expr_view expression.now) result }
 {
     match expression {
         Expr::Cat(members) => match pair_of(members) {
@@ -38,8 +37,7 @@ pub(crate) fn build(alloc: Global, expression: &Expr, store: &Store) -> Result<C
 
 /// The same, of cords of its parts that are joined.
 pub(crate) fn build_of_pieces(alloc: Global, expression: &Expr, store: &Store) -> Result<Cord, Stop>
-    ensures built { IfOk result (IsBuilt store.now.entries.items (expr_view expression.now)) }
-    ensures refused { IfErr result (IsUnbuilt store.now.entries.items (expr_view expression.now)) }
+    ensures { Builds store.now.entries.items (expr_view expression.now) result }
 {
     let pieces = pieces_of(alloc, expression, store)?;
     // The length was checked, so only memory can be wanting.
@@ -52,9 +50,8 @@ pub(crate) fn build_of_pieces(alloc: Global, expression: &Expr, store: &Store) -
 /// Cords of the text of an expression, in order: each is a range of the cord of one of its names, or copies of a byte.
 /// Refused with its fault, or with `NoMemory`.
 pub(crate) fn pieces_of(alloc: Global, expression: &Expr, store: &Store) -> Result<Vec<Cord>, Stop>
-    ensures whole { IfOk result (λ pieces. AreWhole store.now.entries.items (expr_view expression.now) pieces.items) }
-    ensures in_turn { IfOk result (λ pieces. InTurn store.now.entries.items
-        (origins (expr_view expression.now)) pieces.items) }
+    ensures whole { IfOk result (λ pieces. AreWhole store.now.entries.items (expr_view expression.now) pieces.items ×
+        InTurn store.now.entries.items (origins (expr_view expression.now)) pieces.items) }
     ensures refused { IfErr result (IsUnbuilt store.now.entries.items (expr_view expression.now)) }
 {
     match length_of(expression, store) {
@@ -71,9 +68,8 @@ fn pieces_within(
     len: u64,
 ) -> Result<Vec<Cord>, AllocError>
     requires { extent_in store.now.entries.items (expr_view expression.now) ≡ Ok len }
-    ensures whole { IfOk result (λ pieces. AreWhole store.now.entries.items (expr_view expression.now) pieces.items) }
-    ensures in_turn { IfOk result (λ pieces. InTurn store.now.entries.items
-        (origins (expr_view expression.now)) pieces.items) }
+    ensures { IfOk result (λ pieces. AreWhole store.now.entries.items (expr_view expression.now) pieces.items ×
+        InTurn store.now.entries.items (origins (expr_view expression.now)) pieces.items) }
 {
     let mut pieces = Vec::new(alloc);
     if len == 0 {

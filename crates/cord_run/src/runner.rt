@@ -92,8 +92,8 @@ fn run_by<F: Files, S: Sink>(
     sink: &mut S,
 ) -> (End, F)
     ghost way: { Way }
-    requires chosen { IfOk made (λ plan. IsPlanBy way read.now (map operation_view plan)) }
-    requires means { IfOk made (λ plan. IsPlanOf read.now (map operation_view plan)) }
+    requires planned { IfOk made (λ plan. IsPlanBy way read.now (map operation_view plan) ×
+        IsPlanOf read.now (map operation_view plan)) }
     requires files_count { F.failures files < 2 ^ 64 - 1 }
     requires sink_count { S.failures sink.old < 2 ^ 64 - 1 }
     ensures run { (script : List ℕ) → Reads script read.now →

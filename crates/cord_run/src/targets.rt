@@ -4,14 +4,14 @@ mod files;
 mod literals;
 mod prints;
 
-ghost use Rattle.std.specs.Prelude.{◌≡◌, ◌≢◌, Err, IfErr, IfOk, IfSome, OnErr};
+ghost use Rattle.std.specs.Prelude.{◌≡◌, ◌≢◌, ℕ, Err, IfErr, IfOk, IfSome, OnErr};
+ghost use Rattle.std.specs.Result.{MatchResult};
 ghost use Rattle.cord_plan.specs.Planned as plan;
-ghost use Rattle.cord_run.specs.inner.{MAX_LEN, FileSystem, count_after, lengths_in, table_in, Grows, device_in};
-ghost use Rattle.cord_run.specs.inner.{opened_in, does, expr_view, made_view, IsLength, IsLengthOfNames, IsMade};
-ghost use Rattle.cord_run.specs.inner.{IsMadeOfNames, IsUnmade, IsUnmadeOfNames, IsUnmeasured, IsUnmeasuredOfNames};
-ghost use Rattle.cord_run.specs.inner.{TakesNoMemory, has_failed, length_or_stop, IsFileMade, FailsBy, FailsIn};
-ghost use Rattle.cord_run.specs.inner.{HasContent, IsOver, SameEntries, extent_in, holding_of, IsExtent, IsKnownLength};
-ghost use Rattle.cord_run.specs.inner.{StaysKnown, CountsReadStop, Gives, NoMoreConsistent};
+ghost use Rattle.cord_run.specs.inner.{lengths_in, device_in, opened_in, expr_view, made_view, Asks, IsLength};
+ghost use Rattle.cord_run.specs.inner.{IsLengthOfNames, IsMade, IsMadeOfNames, IsUnmade, IsUnmadeOfNames, IsUnmeasured};
+ghost use Rattle.cord_run.specs.inner.{IsUnmeasuredOfNames, TakesNoMemory, or_stop, IsFileMade, FailsBy, HasContent};
+ghost use Rattle.cord_run.specs.inner.{IsOver, SameEntries, extent_in, IsExtent, IsKnownLength, Serves, StaysKnown};
+ghost use Rattle.cord_run.specs.inner.{world_of};
 
 use crate::checks::as_length;
 use crate::expressions::build;
@@ -41,14 +41,9 @@ pub(crate) fn give_cord<F: Files>(
     made: &Made,
 ) -> Result<(), Stop>
     requires over { IsOver (lengths_in (opened_in sources.old)) store.old.entries.items }
-    ensures over { IfOk result (λ _. IsOver (lengths_in (opened_in sources.new)) store.new.entries.items) }
-    ensures earlier { NoMoreConsistent ⟦<F as Files>⟧ (device_in sources.old) (device_in sources.new) }
-    ensures gives { (file_system : FileSystem) → F.consistent (device_in sources.new) file_system → Gives
-        (does MAX_LEN file_system (plan.Build 0 target.now (made_view made.now))
-        (holding_of (table_in (opened_in sources.old) file_system) store.old.entries.items))
-        (holding_of (table_in (opened_in sources.new) file_system) store.new.entries.items) result }
-    ensures fails { IfErr result (FailsIn (plan.Build 0 target.now (made_view made.now))) }
-    ensures counts { CountsReadStop (F.failures (device_in sources.old)) (F.failures (device_in sources.new)) result }
+    ensures { (line : ℕ) → Serves ⟦<F as Files>⟧ (plan.Build line target.now (made_view made.now))
+        (world_of (device_in sources.old) (opened_in sources.old) store.old.entries.items)
+        (world_of (device_in sources.new) (opened_in sources.new) store.new.entries.items) result }
 {
     match edit_of(target, made, store) {
         Some(edit) => edit_in_place(alloc, store, target, made, edit),
@@ -73,14 +68,9 @@ pub(crate) fn give_length<F: Files>(
     requires known { IfSome known (IsKnownLength store.old.entries.items (made_view made.now)) }
     ensures stays { IfOk result (λ _. StaysKnown store.new.entries.items
         (plan.Measure 0 target.now (made_view made.now))) }
-    ensures over { IfOk result (λ _. IsOver (lengths_in (opened_in sources.new)) store.new.entries.items) }
-    ensures earlier { NoMoreConsistent ⟦<F as Files>⟧ (device_in sources.old) (device_in sources.new) }
-    ensures gives { (file_system : FileSystem) → F.consistent (device_in sources.new) file_system → Gives
-        (does MAX_LEN file_system (plan.Measure 0 target.now (made_view made.now))
-        (holding_of (table_in (opened_in sources.old) file_system) store.old.entries.items))
-        (holding_of (table_in (opened_in sources.new) file_system) store.new.entries.items) result }
-    ensures fails { IfErr result (FailsIn (plan.Measure 0 target.now (made_view made.now))) }
-    ensures counts { CountsReadStop (F.failures (device_in sources.old)) (F.failures (device_in sources.new)) result }
+    ensures serves { (line : ℕ) → Serves ⟦<F as Files>⟧ (plan.Measure line target.now (made_view made.now))
+        (world_of (device_in sources.old) (opened_in sources.old) store.old.entries.items)
+        (world_of (device_in sources.new) (opened_in sources.new) store.new.entries.items) result }
 {
     let len = measure(alloc, store, sources, made, known)?;
     give_long(store, target, len)
@@ -88,8 +78,8 @@ pub(crate) fn give_length<F: Files>(
 
 // Gives a name what was made for it.
 fn give(store: &mut Store, target: &Name, content: Content) -> Result<(), Stop>
-    ensures has { IfOk result (λ _. HasContent target.now content store.old.entries.items store.new.entries.items) }
-    ensures refused { IfErr result (λ stop. stop ≡ Stop.NoMemory) }
+    ensures { MatchResult result (λ _. HasContent target.now content store.old.entries.items store.new.entries.items)
+        (λ stop. stop ≡ Stop.NoMemory) }
 {
     store.assign(target, content)?;
     Ok(())
@@ -98,9 +88,8 @@ fn give(store: &mut Store, target: &Name, content: Content) -> Result<(), Stop>
 // Gives a name a length alone.
 #[inline(always)]
 fn give_long(store: &mut Store, target: &Name, len: u64) -> Result<(), Stop>
-    ensures has { IfOk result (λ _. HasContent target.now (Content.Long len) store.old.entries.items
-        store.new.entries.items) }
-    ensures refused { IfErr result (λ stop. stop ≡ Stop.NoMemory) }
+    ensures { MatchResult result (λ _. HasContent target.now (Content.Long len) store.old.entries.items
+        store.new.entries.items) (λ stop. stop ≡ Stop.NoMemory) }
 {
     store.assign_length(target, len)?;
     Ok(())
@@ -114,16 +103,13 @@ fn make<F: Files>(
     made: &Made,
 ) -> Result<Cord, Stop>
     requires over { IsOver (lengths_in (opened_in sources.old)) store.old.entries.items }
-    ensures built { IfOk result (IsMade (F.consistent (device_in sources.new)) (opened_in sources.old)
-        (opened_in sources.new) store.old.entries.items (made_view made.now)) }
-    ensures refused { IfErr result (IsUnmade (F.consistent (device_in sources.new))
-        (opened_in sources.old) store.old.entries.items (made_view made.now)) }
+    ensures asked { Asks ⟦<F as Files>⟧ (device_in sources.old) (device_in sources.new) (opened_in sources.old)
+        (opened_in sources.new) (IsMade (F.consistent (device_in sources.new)) (opened_in sources.old)
+        (opened_in sources.new) store.old.entries.items (made_view made.now))
+        (IsUnmade (F.consistent (device_in sources.new)) (opened_in sources.old) store.old.entries.items
+        (made_view made.now)) result }
     ensures same { IfOk result (λ _. SameEntries store.old.entries.items store.new.entries.items) }
-    ensures earlier { NoMoreConsistent ⟦<F as Files>⟧ (device_in sources.old) (device_in sources.new) }
-    ensures grows { Grows (opened_in sources.old) (opened_in sources.new) }
     ensures fails { IfErr result (FailsBy (IsFileMade (made_view made.now)) ⊥) }
-    ensures counts { F.failures (device_in sources.new)
-        ≡ count_after (has_failed result) (F.failures (device_in sources.old)) }
 {
     match file_of(made) {
         Some((path, reading)) => file_cord(alloc, sources, path, reading),
@@ -164,15 +150,12 @@ fn measure<F: Files>(
     requires over { IsOver (lengths_in (opened_in sources.old)) store.now.entries.items }
     requires known { IfSome known (IsKnownLength store.now.entries.items (made_view made.now)) }
     ensures extent { IfOk result (IsExtent store.now.entries.items (made_view made.now)) }
-    ensures reported { IfOk result (IsLength (F.consistent (device_in sources.new))
-        (opened_in sources.old) store.now.entries.items (made_view made.now)) }
-    ensures refused { IfErr result (IsUnmeasured (F.consistent (device_in sources.new))
-        (opened_in sources.old) store.now.entries.items (made_view made.now)) }
-    ensures earlier { NoMoreConsistent ⟦<F as Files>⟧ (device_in sources.old) (device_in sources.new) }
-    ensures grows { Grows (opened_in sources.old) (opened_in sources.new) }
+    ensures asked { Asks ⟦<F as Files>⟧ (device_in sources.old) (device_in sources.new) (opened_in sources.old)
+        (opened_in sources.new) (IsLength (F.consistent (device_in sources.new)) (opened_in sources.old)
+        store.now.entries.items (made_view made.now))
+        (IsUnmeasured (F.consistent (device_in sources.new)) (opened_in sources.old) store.now.entries.items
+        (made_view made.now)) result }
     ensures fails { IfErr result (FailsBy (IsFileMade (made_view made.now)) ⊥) }
-    ensures counts { F.failures (device_in sources.new)
-        ≡ count_after (has_failed result) (F.failures (device_in sources.old)) }
     ensures unopened { OnErr result (opened_in sources.new ≡ opened_in sources.old) }
     ensures unbuilt { TakesNoMemory (made_view made.now) → result ≢ Err Stop.NoMemory }
 {
@@ -225,7 +208,7 @@ fn joined_length(expression: &Expr, known: Option<u64>, store: &Store) -> Result
 // A length or a fault, as a run has it.
 #[inline(always)]
 fn length_or_stop(length: Result<u64, FaultKind>) -> Result<u64, Stop>
-    ensures stops { result ≡ length_or_stop length }
+    ensures stops { result ≡ or_stop length }
     ensures unbuilt { result ≢ Err Stop.NoMemory }
 {
     match length {

@@ -1,9 +1,10 @@
 // Expressions that are put.
-ghost use Rattle.std.specs.Prelude.{◌≡◌, true, IfNone, IfSome};
+ghost use Rattle.std.specs.Prelude.{◌≡◌, true};
+ghost use Rattle.cord_io.specs.Frames.{LeavesSource};
 ghost use Rattle.cord_iter.specs.Output.{CountsFaults, failures_of};
 ghost use Rattle.cord_run.specs.inner.{all_bytes, AllFitIn, MAX_LEN, all_texts, cords, text_in, expr_view, IsOver};
 ghost use Rattle.cord_run.specs.inner.{holding_of, plain_of, CountsStops, Puts, PutsBytes, PutsText, Wrote};
-ghost use Rattle.cord_run.specs.inner.{stop_of_failure, FileSystem, IsSameSource};
+ghost use Rattle.cord_run.specs.inner.{FileSystem};
 
 use crate::expressions::pieces_of;
 use crate::expressions::short_texts::gather;
@@ -37,16 +38,14 @@ pub(crate) fn write<R: Source, S: Sink>(
     ensures counts { CountsStops (failures_of ⟦<R as Source>⟧ ⟦<S as Sink>⟧ source.old sink.old)
         (failures_of ⟦<R as Source>⟧ ⟦<S as Sink>⟧ source.new sink.new) result }
     ensures finished { S.finished sink.new ≡ S.finished sink.old }
-    ensures source { IsSameSource ⟦<R as Source>⟧ source.old source.new }
+    ensures source { LeavesSource ⟦<R as Source>⟧ source.old source.new }
 {
     match put_short(expression, store, sink) {
         Some(put) => put,
         None => {
             let pieces = pieces_of(alloc, expression, store)?;
-            match put_pieces(&pieces, source, sink) {
-                Ok(()) => Ok(()),
-                Err(error) => Err(stop_of_failure(error)),
-            }
+            put_pieces(&pieces, source, sink)?;
+            Ok(())
         }
     }
 }
@@ -55,9 +54,7 @@ pub(crate) fn write<R: Source, S: Sink>(
 // neither: then the sink is left alone.
 #[inline(always)]
 fn put_short<S: Sink>(expression: &Expr, store: &Store, sink: &mut S) -> Option<Result<(), Stop>>
-    ensures put { IfSome result
-        (PutsText ⟦<S as Sink>⟧ store.now.entries.items (expr_view expression.now) sink.old sink.new) }
-    ensures left { IfNone result (sink.new ≡ sink.old) }
+    ensures { PutsText ⟦<S as Sink>⟧ store.now.entries.items (expr_view expression.now) sink.old sink.new result }
 {
     match slice_of(expression, store) {
         Some(slice) => Some(put_bytes(slice, sink)),
@@ -67,9 +64,7 @@ fn put_short<S: Sink>(expression: &Expr, store: &Store, sink: &mut S) -> Option<
 
 // The same of short ones side by side alone.
 fn put_gathered<S: Sink>(expression: &Expr, store: &Store, sink: &mut S) -> Option<Result<(), Stop>>
-    ensures put { IfSome result
-        (PutsText ⟦<S as Sink>⟧ store.now.entries.items (expr_view expression.now) sink.old sink.new) }
-    ensures left { IfNone result (sink.new ≡ sink.old) }
+    ensures { PutsText ⟦<S as Sink>⟧ store.now.entries.items (expr_view expression.now) sink.old sink.new result }
 {
     let mut text = ArrayVec::new();
     if !gather(expression, store, &mut text) {
@@ -88,16 +83,6 @@ fn put_bytes<S: Sink>(bytes: &[u8], sink: &mut S) -> Result<(), Stop>
     }
 }
 
-// What a failure of a device is to a run.
-fn stop_of_failure(error: CordError) -> Stop
-    ensures { result ≡ stop_of_failure error }
-{
-    match error {
-        CordError::ReadFailed => Stop::ReadFailed,
-        _ => Stop::WriteFailed,
-    }
-}
-
 // Hands a sink the texts of cords, in order.
 fn put_pieces<R: Source, S: Sink>(
     pieces: &[Cord],
@@ -110,7 +95,7 @@ fn put_pieces<R: Source, S: Sink>(
     ensures faults { CountsFaults (failures_of ⟦<R as Source>⟧ ⟦<S as Sink>⟧ source.old sink.old)
         (failures_of ⟦<R as Source>⟧ ⟦<S as Sink>⟧ source.new sink.new) result }
     ensures finished { S.finished sink.new ≡ S.finished sink.old }
-    ensures source { IsSameSource ⟦<R as Source>⟧ source.old source.new }
+    ensures source { LeavesSource ⟦<R as Source>⟧ source.old source.new }
 {
     for piece in pieces {
         cord_iter::put(piece, source, sink)?;

@@ -1,7 +1,7 @@
 // Expressions of one part or of two: their cords are made without a list of pieces.
-ghost use Rattle.std.specs.Prelude.{◌≡◌, IfErr, IfOk, IfSome};
+ghost use Rattle.std.specs.Prelude.{◌≡◌, IfSome};
 ghost use Rattle.cord_plan.specs.Exprs as plain;
-ghost use Rattle.cord_run.specs.inner.{expr_view, members_view, IsBuilt, IsUnbuilt};
+ghost use Rattle.cord_run.specs.inner.{expr_view, members_view, Builds};
 
 use crate::checks::as_index;
 use crate::expressions::build_of_pieces;
@@ -60,10 +60,8 @@ pub(crate) fn build_pair(
     right: &Expr,
     store: &Store,
 ) -> Result<Cord, Stop>
-    ensures built { IfOk result (IsBuilt store.now.entries.items
-        (plain.cat (plain.member (expr_view left.now) (plain.member (expr_view right.now) plain.nothing)))) }
-    ensures refused { IfErr result (IsUnbuilt store.now.entries.items
-        (plain.cat (plain.member (expr_view left.now) (plain.member (expr_view right.now) plain.nothing)))) }
+    ensures { Builds store.now.entries.items
+        (plain.cat (plain.member (expr_view left.now) (plain.member (expr_view right.now) plain.nothing))) result }
 {
     let prefix = build_part(alloc, left, store)?;
     let suffix = build_part(alloc, right, store)?;
@@ -72,8 +70,7 @@ pub(crate) fn build_pair(
 
 /// The cord of an expression, which is best one part. Refused with its fault, or with `NoMemory`.
 pub(crate) fn build_part(alloc: Global, expression: &Expr, store: &Store) -> Result<Cord, Stop>
-    ensures built { IfOk result (IsBuilt store.now.entries.items (expr_view expression.now)) }
-    ensures refused { IfErr result (IsUnbuilt store.now.entries.items (expr_view expression.now)) }
+    ensures { Builds store.now.entries.items (expr_view expression.now) result }
 {
     match expression {
         Expr::Name(name) => build_name(alloc, name, store),
@@ -92,16 +89,14 @@ pub(crate) fn build_part(alloc: Global, expression: &Expr, store: &Store) -> Res
 
 // The cord of a name.
 fn build_name(alloc: Global, name: &Name, store: &Store) -> Result<Cord, Stop>
-    ensures built { IfOk result (IsBuilt store.now.entries.items (plain.name name.now)) }
-    ensures refused { IfErr result (IsUnbuilt store.now.entries.items (plain.name name.now)) }
+    ensures { Builds store.now.entries.items (plain.name name.now) result }
 {
     Ok(shared(alloc, store, name)?)
 }
 
 // The cord of copies of a byte.
 fn build_run(alloc: Global, byte: &Number, count: &Number, store: &Store) -> Result<Cord, Stop>
-    ensures built { IfOk result (IsBuilt store.now.entries.items (plain.run byte.now count.now)) }
-    ensures refused { IfErr result (IsUnbuilt store.now.entries.items (plain.run byte.now count.now)) }
+    ensures { Builds store.now.entries.items (plain.run byte.now count.now) result }
 {
     let copies = copies_asked(store.value_of(byte), store.value_of(count))?;
     Ok(copies_of(alloc, copies.byte, copies.count)?)
@@ -115,10 +110,7 @@ fn build_range(
     count: &Number,
     store: &Store,
 ) -> Result<Cord, Stop>
-    ensures built { IfOk result
-        (IsBuilt store.now.entries.items (plain.sub (plain.name name.now) start.now count.now)) }
-    ensures refused { IfErr result
-        (IsUnbuilt store.now.entries.items (plain.sub (plain.name name.now) start.now count.now)) }
+    ensures { Builds store.now.entries.items (plain.sub (plain.name name.now) start.now count.now) result }
 {
     let start = as_index(store.value_of(start))?;
     let count = as_index(store.value_of(count))?;

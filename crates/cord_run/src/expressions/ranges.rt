@@ -3,10 +3,9 @@
 // it is cut from.
 ghost use Rattle.std.specs.Prelude.{◌≡◌, ◌+◌, ◌-◌, ◌<◌, ◌≤◌, ◌^◌, ℤ, min, replicate, true, IfOk, Ok};
 ghost use Rattle.cord_meaning.specs.State as meant;
-ghost use Rattle.cord_run.specs.inner.{IsCord, text_len, HasText, measured_copies, expr_view, members_view, extent_in};
-ghost use Rattle.cord_run.specs.inner.{members_extent, members_seen, content_in, cord_in, length_in, operand_in};
-ghost use Rattle.cord_run.specs.inner.{AddsCopies, AddsExpression, AddsMembers, AddsCordRange, AddsRun, AddsFew};
-ghost use Rattle.cord_run.specs.inner.{IsAfter, IsInnerWanted, IsOutside, IsPast, AddsAtMostOne, AreCopies, IsCutOf};
+ghost use Rattle.cord_run.specs.inner.{text_len, measured_copies, expr_view, members_view, IsCordOfText};
+ghost use Rattle.cord_run.specs.inner.{members_seen, content_in, cord_in, length_in, operand_in};
+ghost use Rattle.cord_run.specs.inner.{Adds, AddsCopies, AddsExpression, AddsMembers, AddsCordRange, AddsRun, IsPast};
 
 use crate::checks::as_index;
 use crate::expressions::lengths::copies_asked;
@@ -31,8 +30,7 @@ pub(crate) struct Wanted {
 impl Wanted {
     // Whether nothing is.
     fn is_nothing(self) -> bool
-        ensures skip { result ≡ true → self.skip ≡ 0 }
-        ensures count { result ≡ true → self.count ≡ 0 }
+        ensures { result ≡ true → (self.skip ≡ 0) × (self.count ≡ 0) }
     {
         self.skip == 0 && self.count == 0
     }
@@ -57,7 +55,10 @@ impl Wanted {
     // What is wanted of a text, where this is wanted of at most so many bytes of it from a place on.
     fn inside(self, start: u64, most: u64) -> Wanted
         requires { start + most < 2 ^ 64 }
-        ensures { IsInnerWanted start most self result }
+        ensures { result ≡ record {
+          skip = start + min self.skip most;
+          count = min self.count (most - self.skip);
+        } }
     {
         Wanted {
             skip: start + self.skip.min(most),
@@ -67,7 +68,10 @@ impl Wanted {
 
     // What is wanted after those bytes, where the rest is wanted after the text.
     fn outside(self, most: u64, inner: Wanted, rest: Wanted) -> Wanted
-        ensures { IsOutside most self inner rest result }
+        ensures { result ≡ record {
+          skip = self.skip - (min self.skip most - rest.skip);
+          count = self.count - (inner.count - rest.count);
+        } }
     {
         let passed = self.skip.min(most).saturating_sub(rest.skip);
         let taken = inner.count.saturating_sub(rest.count);
@@ -87,10 +91,8 @@ pub(crate) fn add_range(
     wanted: Wanted,
     pieces: &mut Vec<Cord>,
 ) -> Result<Wanted, AllocError>
-    ensures added { IfOk result (λ _. AddsExpression store.now.entries.items
-        (expr_view expression.now) wanted pieces.old.items pieces.new.items) }
-    ensures past { IfOk result (IsAfter (extent_in store.now.entries.items (expr_view expression.now)) wanted) }
-    ensures few { IfOk result (λ after. AddsFew wanted after pieces.old.items pieces.new.items) }
+    ensures { IfOk result (λ after. AddsExpression store.now.entries.items (expr_view expression.now) wanted after
+        pieces.old.items pieces.new.items) }
 {
     match expression {
         Expr::Name(name) => add_name(alloc, name, store, wanted, pieces),
@@ -118,10 +120,8 @@ fn add_members(
     wanted: Wanted,
     pieces: &mut Vec<Cord>,
 ) -> Result<Wanted, AllocError>
-    ensures added { IfOk result (λ _. AddsMembers store.now.entries.items
-        (members_view members.now) wanted pieces.old.items pieces.new.items) }
-    ensures past { IfOk result (IsAfter (members_extent store.now.entries.items (members_view members.now)) wanted) }
-    ensures few { IfOk result (λ after. AddsFew wanted after pieces.old.items pieces.new.items) }
+    ensures { IfOk result (λ after. AddsMembers store.now.entries.items (members_view members.now) wanted after
+        pieces.old.items pieces.new.items) }
 {
     let (prefix, rest) = members.halves();
     match prefix {
@@ -142,10 +142,8 @@ fn add_all(
     wanted: Wanted,
     pieces: &mut Vec<Cord>,
 ) -> Result<Wanted, AllocError>
-    ensures added { IfOk result (λ _. AddsMembers store.now.entries.items
-        (members_seen members.now) wanted pieces.old.items pieces.new.items) }
-    ensures past { IfOk result (IsAfter (members_extent store.now.entries.items (members_seen members.now)) wanted) }
-    ensures few { IfOk result (λ after. AddsFew wanted after pieces.old.items pieces.new.items) }
+    ensures { IfOk result (λ after. AddsMembers store.now.entries.items (members_seen members.now) wanted after
+        pieces.old.items pieces.new.items) }
 {
     let mut left = wanted;
     for member in members {
@@ -177,12 +175,9 @@ fn add_name(
     wanted: Wanted,
     pieces: &mut Vec<Cord>,
 ) -> Result<Wanted, AllocError>
-    ensures added { IfOk result (λ _. AddsCordRange (cord_in (content_in store.now.entries.items name.now)) wanted
-        pieces.old.items pieces.new.items) }
-    ensures in_turn { IfOk result (λ _. AddsAtMostOne (IsCutOf (cord_in (content_in store.now.entries.items name.now)))
-        pieces.old.items pieces.new.items) }
-    ensures past { IfOk result (IsPast (length_in store.now.entries.items name.now) wanted) }
-    ensures few { IfOk result (λ after. AddsFew wanted after pieces.old.items pieces.new.items) }
+    ensures { IfOk result (λ after. Adds
+        (AddsCordRange (cord_in (content_in store.now.entries.items name.now)) wanted pieces.old.items pieces.new.items)
+        (Ok (length_in store.now.entries.items name.now)) wanted after pieces.old.items pieces.new.items) }
 {
     match store.cord_of(name) {
         None => Ok(wanted.after(store.length_of(name))),
@@ -197,10 +192,8 @@ fn add_cord_range(
     wanted: Wanted,
     pieces: &mut Vec<Cord>,
 ) -> Result<Wanted, AllocError>
-    ensures added { IfOk result (λ _. AddsCordRange cord.now wanted pieces.old.items pieces.new.items) }
-    ensures in_turn { IfOk result (λ _. AddsAtMostOne (IsCutOf cord.now) pieces.old.items pieces.new.items) }
-    ensures past { IfOk result (IsPast (text_len cord.now) wanted) }
-    ensures few { IfOk result (λ after. AddsFew wanted after pieces.old.items pieces.new.items) }
+    ensures { IfOk result (λ after. Adds (AddsCordRange cord.now wanted pieces.old.items pieces.new.items)
+        (Ok (text_len cord.now)) wanted after pieces.old.items pieces.new.items) }
 {
     let len = cord.len();
     let after = wanted.after(len);
@@ -223,14 +216,10 @@ fn add_run(
     wanted: Wanted,
     pieces: &mut Vec<Cord>,
 ) -> Result<Wanted, AllocError>
-    ensures added { IfOk result (λ _. AddsRun (operand_in store.now.entries.items byte.now)
-        (operand_in store.now.entries.items count.now) wanted pieces.old.items pieces.new.items) }
-    ensures in_turn { IfOk result (λ _. AddsAtMostOne (AreCopies (operand_in store.now.entries.items byte.now))
-        pieces.old.items pieces.new.items) }
-    ensures past { IfOk result
-        (IsAfter (measured_copies MAX_LEN (operand_in store.now.entries.items byte.now)
-        (operand_in store.now.entries.items count.now)) wanted) }
-    ensures few { IfOk result (λ after. AddsFew wanted after pieces.old.items pieces.new.items) }
+    ensures { IfOk result (λ after. Adds (AddsRun (operand_in store.now.entries.items byte.now)
+        (operand_in store.now.entries.items count.now) wanted pieces.old.items pieces.new.items)
+        (measured_copies MAX_LEN (operand_in store.now.entries.items byte.now)
+        (operand_in store.now.entries.items count.now)) wanted after pieces.old.items pieces.new.items) }
 {
     let copies = match copies_asked(store.value_of(byte), store.value_of(count)) {
         Ok(copies) => copies,
@@ -248,10 +237,8 @@ fn add_run(
 // Adds copies of a byte.
 fn add_copies(alloc: Global, byte: u8, count: u64, pieces: &mut Vec<Cord>) -> Result<(), AllocError>
     requires short { count ≤ MAX_LEN }
-    ensures added { IfOk result (λ _. (asked : ℤ) → meant.as_byte asked ≡ Ok byte →
+    ensures { IfOk result (λ _. (asked : ℤ) → meant.as_byte asked ≡ Ok byte →
         AddsCopies asked count pieces.old.items pieces.new.items) }
-    ensures in_turn { IfOk result (λ _. (asked : ℤ) → meant.as_byte asked ≡ Ok byte →
-        AddsAtMostOne (AreCopies asked) pieces.old.items pieces.new.items) }
 {
     let copies = copies_of(alloc, byte, count)?;
     pieces.push(copies)?;
@@ -261,9 +248,8 @@ fn add_copies(alloc: Global, byte: u8, count: u64, pieces: &mut Vec<Cord>) -> Re
 /// So many copies of a byte: one leaf of a few, which joins a short leaf beside it, and one run of more.
 pub(crate) fn copies_of(alloc: Global, byte: u8, count: u64) -> Result<Cord, AllocError>
     requires short { count ≤ MAX_LEN }
-    ensures over { IfOk result (HasText (replicate count byte)) }
+    ensures made { IfOk result (IsCordOfText (replicate count byte)) }
     ensures len { IfOk result (λ cord. text_len cord ≡ count) }
-    ensures sound { IfOk result IsCord }
 {
     if count > FEW {
         return Cord::chars(alloc, byte, count).map_err(|_| AllocError);

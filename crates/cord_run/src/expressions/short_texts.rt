@@ -30,8 +30,8 @@ pub(crate) fn gather(
 // The same of members, joined.
 fn gather_members(members: &Members, store: &Store, text: &mut ArrayVec<u8, MOST_GATHERED>) -> bool
     requires { text.old.items ≡ [] }
-    ensures texts { result ≡ true → AreTextsIn store.now.entries.items (members_view members.now) text.new.items }
-    ensures short { result ≡ true → length text.new.items ≤ MOST_GATHERED }
+    ensures { result ≡ true → AreTextsIn store.now.entries.items (members_view members.now) text.new.items ×
+        (length text.new.items ≤ MOST_GATHERED) }
 {
     let (prefix, rest) = members.halves();
     match prefix {
@@ -43,9 +43,10 @@ fn gather_members(members: &Members, store: &Store, text: &mut ArrayVec<u8, MOST
 // Gathers the text of all these expressions after what was gathered.
 fn gather_all(members: &[Rc<Expr>], store: &Store, text: &mut ArrayVec<u8, MOST_GATHERED>) -> bool
     requires { length text.old.items ≤ MOST_GATHERED }
-    ensures texts { result ≡ true → (earlier : Exprs) → AreTextsIn store.now.entries.items earlier text.old.items →
-        AreTextsIn store.now.entries.items (append earlier (members_seen members.now)) text.new.items }
-    ensures short { result ≡ true → length text.new.items ≤ MOST_GATHERED }
+    ensures { result ≡ true →
+        ((earlier : Exprs) → AreTextsIn store.now.entries.items earlier text.old.items →
+        AreTextsIn store.now.entries.items (append earlier (members_seen members.now)) text.new.items) ×
+        (length text.new.items ≤ MOST_GATHERED) }
 {
     for member in members {
         let Some(slice) = slice_of(member.as_ref(), store) else {

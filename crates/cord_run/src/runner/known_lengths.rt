@@ -1,6 +1,7 @@
 // Lengths that follow from those of the operations before.
-ghost use Rattle.std.specs.Prelude.{◌≡◌, ◌-◌, ◌^◌, ◌<◌, IfSome, Some, map, slice_get};
-ghost use Rattle.cord_run.specs.inner.{members_view, operation_view, EndsInName, IsKnownAt, Measures, StaysKnown};
+ghost use Rattle.std.specs.Prelude.{◌≡◌, ◌-◌, ◌^◌, ◌<◌, ℕ, List, IfSome, Some, map, slice_get};
+ghost use Rattle.cord_run.specs.inner.{append, cat, member, members_view, name, nothing, operation_view, Exprs, IsKnownAt};
+ghost use Rattle.cord_run.specs.inner.{Joined, Measure, StaysKnown};
 
 use crate::store::Store;
 use cord_plan::{Expr, Made, Members, Operation, Plan};
@@ -34,7 +35,8 @@ pub(crate) fn known_after(
 
 // The members whose length an operation computes together.
 fn measured_members(operation: &Operation) -> Option<&Members>
-    ensures { IfSome result (λ members. Measures (members_view members.now) (operation_view operation.now)) }
+    ensures { IfSome result (λ members. (line : ℕ) × (x : List ℕ) ×
+        (operation_view operation.now ≡ Measure line x (Joined (cat (members_view members.now))))) }
 {
     match operation {
         Operation::Measure {
@@ -47,7 +49,8 @@ fn measured_members(operation: &Operation) -> Option<&Members>
 
 // The last of these members, where it is a name.
 fn last_name(members: &Members) -> Option<&Name>
-    ensures { IfSome result (λ name. EndsInName (members_view members.now) name.now) }
+    ensures { IfSome result (λ last. (others : Exprs) ×
+        (members_view members.now ≡ append others (member (name last.now) nothing))) }
 {
     let (_, rest) = members.halves();
     match rest.last()?.as_ref() {

@@ -1,8 +1,9 @@
 // Statements that begin extensible cords, and let them grow.
-ghost use Rattle.std.specs.Prelude.{◌≡◌, ℕ, [], IfErr, IfOk, Some};
+ghost use Rattle.std.specs.Prelude.{◌≡◌, ◌∷◌, ℕ, [], Err, None, Some};
+ghost use Rattle.std.specs.Result.{MatchResult};
 ghost use Rattle.cord_meaning.specs.State as meant;
 ghost use Rattle.cord_syntax.specs.declared.families.Family.TheVariants as families;
-ghost use Rattle.cord_run.specs.inner.{Table, lengths_of, statement_of, Becomes, GrowsByByte, IsTakenOut, longer_text};
+ghost use Rattle.cord_run.specs.inner.{Table, lengths_of, statement_of, Becomes, cells_or_none, extensible_in, longer_text};
 ghost use Rattle.cord_run.specs.inner.{refusal_of, text_over, HasExtensible, IsOver, MeansOver, StaysOver};
 ghost use Rattle.cord_run.specs.inner.{CountsReadStop};
 
@@ -47,7 +48,9 @@ pub(crate) fn serve_growth(alloc: Global, store: &mut Store, growth: Growth<'_>)
 #[inline(always)]
 fn grow_by_number(alloc: Global, store: &mut Store, name: &Name, byte: i64) -> Result<(), Stop>
     ensures over { StaysOver store.old.entries.items store.new.entries.items result }
-    ensures becomes { GrowsByByte name.now (meant.as_byte byte) store.old.entries.items store.new.entries.items result }
+    ensures becomes { MatchResult (meant.as_byte byte) (λ b. Becomes name.now
+        (longer_text store.old.entries.items name.now (b ∷ [])) store.old.entries.items store.new.entries.items result)
+        (λ kind. result ≡ Err (Stop.Fault kind)) }
 {
     match as_byte(byte) {
         Ok(byte) => grow_by_bytes(alloc, store, name, &[byte]),
@@ -103,8 +106,8 @@ fn refusal(error: CordError) -> Stop
 
 // The extensible cord of a name, taken out of its entry: an empty one where it was not begun.
 fn taken(alloc: Global, store: &mut Store, name: &Name) -> Result<ExtCord, Stop>
-    ensures taken { IfOk result (λ e. IsTakenOut name.now store.old.entries.items store.new.entries.items e.text) }
-    ensures refused { IfErr result (λ stop. stop ≡ Stop.NoMemory) }
+    ensures { MatchResult result (λ e. (e.text ≡ cells_or_none (extensible_in store.old.entries.items name.now)) ×
+        HasExtensible name.now None store.old.entries.items store.new.entries.items) (λ stop. stop ≡ Stop.NoMemory) }
 {
     match store.take_extensible(name) {
         Some(extensible) => Ok(extensible),
@@ -114,9 +117,8 @@ fn taken(alloc: Global, store: &mut Store, name: &Name) -> Result<ExtCord, Stop>
 
 // Gives a name its extensible cord.
 fn give(store: &mut Store, name: &Name, extensible: ExtCord) -> Result<(), Stop>
-    ensures has { IfOk result (λ _. HasExtensible name.now (Some extensible.text) store.old.entries.items
-        store.new.entries.items) }
-    ensures refused { IfErr result (λ stop. stop ≡ Stop.NoMemory) }
+    ensures { MatchResult result (λ _. HasExtensible name.now (Some extensible.text) store.old.entries.items
+        store.new.entries.items) (λ stop. stop ≡ Stop.NoMemory) }
 {
     store.assign_extensible(name, extensible)?;
     Ok(())

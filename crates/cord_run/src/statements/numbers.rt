@@ -5,8 +5,8 @@ ghost use Rattle.cord_syntax.specs.Targets.{target_of};
 ghost use Rattle.cord_syntax.specs.declared.families.Family.TheVariants as families;
 ghost use Rattle.cord_syntax.specs.declared.statements.Statement.TheVariants as statements;
 ghost use Rattle.cord_run.specs.inner.{FileSystem, Table, MAX_LEN, lengths_of, statement_of, Statement, CountsFinding};
-ghost use Rattle.cord_run.specs.inner.{FindsOver, HasReadForNumber, in_i64, number_or_stop, content_in, cord_in};
-ghost use Rattle.cord_run.specs.inner.{HasNumber, IsOver, length_in, MeansOver, StaysOver, IsSameSource};
+ghost use Rattle.cord_run.specs.inner.{FindsOver, HasReadForNumber, in_i64, or_stop, content_in, cord_in};
+ghost use Rattle.cord_run.specs.inner.{HasNumber, IsOver, length_in, MeansOver, StaysOver};
 ghost use Rattle.cord_run.specs.inner.{CountsReadStop};
 
 use crate::statements::searches::{
@@ -98,7 +98,7 @@ fn give_computed(
 ) -> Result<(), Stop>
     ensures over { StaysOver store.old.entries.items store.new.entries.items result }
     ensures means { (t : Table) (l : Statement) →
-        FindsOver t l store.old.entries.items (number_or_stop number) → target_of l ≡ Some target.now →
+        FindsOver t l store.old.entries.items (or_stop number) → target_of l ≡ Some target.now →
         MeansOver t l store.old.entries.items store.new.entries.items result }
     ensures counts { (n : ℕ) → CountsReadStop n n result }
 {

@@ -1,11 +1,11 @@
 // The numbers that statements find in cords. Each checks its numbers in order, before it reads.
-ghost use Rattle.std.specs.Prelude.{◌≡◌, ◌<◌, ◌≤◌, IfErr, IfOk, IfSome, Ok, is_err};
-ghost use Rattle.cord_core.specs.Texts.{order};
+ghost use Rattle.std.specs.Prelude.{◌≡◌, ◌<◌, ◌≤◌, IfOk, IfSome, Ok, drop, is_err, pos, take};
+ghost use Rattle.cord_core.specs.Texts.{first, order};
+ghost use Rattle.cord_io.specs.Frames.{LeavesSource};
 ghost use Rattle.cord_meaning.specs.State as meant;
 ghost use Rattle.cord_meaning.specs.Statements as statements;
-ghost use Rattle.cord_run.specs.inner.{bytes_of, text_len, CordFitsIn, MAX_LEN, IsSameSource, byte_place, fetched};
-ghost use Rattle.cord_run.specs.inner.{Finds, HasReadForNumber, nearest, ranges_order, Refuses, text_place, FileSystem};
-ghost use Rattle.cord_run.specs.inner.{count_after};
+ghost use Rattle.cord_run.specs.inner.{and_then, bytes_of, text_len, CordFitsIn, MAX_LEN, byte_place, Checks};
+ghost use Rattle.cord_run.specs.inner.{count_after, Finds, HasReadForNumber, nearest, FileSystem};
 
 use crate::checks::{as_byte, as_index};
 use crate::stops::Stop;
@@ -26,7 +26,8 @@ pub(crate) enum Direction {
 pub(crate) fn fetched<R: Source>(cord: &Cord, index: i64, source: &mut R) -> Result<i64, Stop>
     requires fits { CordFitsIn (R.lengths source.old) cord.now }
     ensures found { (file_system : FileSystem) → R.consistent source.new file_system →
-        Finds (fetched (bytes_of (R.table source.old file_system) cord.now) index) result }
+        Finds (and_then (meant.as_index index) (λ i. and_then
+        (statements.byte_of_text (bytes_of (R.table source.old file_system) cord.now) i) (λ b. Ok (pos b)))) result }
     ensures read { HasReadForNumber ⟦<R as Source>⟧ source.old source.new result }
 {
     let index = checked_index(index)?;
@@ -67,8 +68,10 @@ pub(crate) fn ranges_compared<R: Source>(
     requires left_fits { CordFitsIn (R.lengths source.old) left.now }
     requires right_fits { CordFitsIn (R.lengths source.old) right.now }
     ensures found { (file_system : FileSystem) → R.consistent source.new file_system →
-        Finds (ranges_order (bytes_of (R.table source.old file_system) left.now) left_start
-        (bytes_of (R.table source.old file_system) right.now) right_start count) result }
+        Finds (and_then (meant.as_index left_start) (λ i. and_then (meant.as_index right_start) (λ j.
+        and_then (meant.as_index count) (λ k. Ok (order
+        (take k (drop i (bytes_of (R.table source.old file_system) left.now)))
+        (take k (drop j (bytes_of (R.table source.old file_system) right.now)))))))) result }
     ensures read { HasReadForNumber ⟦<R as Source>⟧ source.old source.new result }
 {
     let left_index = checked_index(left_start)?;
@@ -90,8 +93,9 @@ pub(crate) fn text_found<R: Source>(
     requires fits { CordFitsIn (R.lengths source.old) cord.now }
     requires pattern_fits { CordFitsIn (R.lengths source.old) pattern.now }
     ensures found { (file_system : FileSystem) → R.consistent source.new file_system →
-        Finds (text_place (bytes_of (R.table source.old file_system) cord.now) start
-        (bytes_of (R.table source.old file_system) pattern.now)) result }
+        Finds (and_then (meant.as_index start) (λ i. Ok (statements.place_number (first
+        (bytes_of (R.table source.old file_system) cord.now) i
+        (bytes_of (R.table source.old file_system) pattern.now))))) result }
     ensures read { HasReadForNumber ⟦<R as Source>⟧ source.old source.new result }
 {
     let index = checked_index(start)?;
@@ -140,7 +144,7 @@ fn nearest<R: Source>(
     ensures nearest { (file_system : FileSystem) → R.consistent source.new file_system →
         IfOk result (λ place. place ≡ nearest direction (bytes_of (R.table source.old file_system) cord.now) index byte) }
     ensures count { R.failures source.new ≡ count_after (is_err result) (R.failures source.old) }
-    ensures same { IsSameSource ⟦<R as Source>⟧ source.old source.new }
+    ensures same { LeavesSource ⟦<R as Source>⟧ source.old source.new }
 {
     match direction {
         Direction::Forward => cord_search::chr(cord, index, byte, source),
@@ -161,16 +165,14 @@ fn place_number(place: Option<u64>, len: u64) -> i64
 
 // A number in the place of a byte.
 fn checked_byte(value: i64) -> Result<u8, Stop>
-    ensures byte { IfOk result (λ b. meant.as_byte value ≡ Ok b) }
-    ensures refused { IfErr result (Refuses (meant.as_byte value)) }
+    ensures { Checks (meant.as_byte value) result }
 {
     Ok(as_byte(value)?)
 }
 
 // A number in the place of an index or a count.
 fn checked_index(value: i64) -> Result<u64, Stop>
-    ensures index { IfOk result (λ i. meant.as_index value ≡ Ok i) }
-    ensures refused { IfErr result (Refuses (meant.as_index value)) }
+    ensures { Checks (meant.as_index value) result }
 {
     Ok(as_index(value)?)
 }

@@ -1,6 +1,6 @@
 // Cords of what names hold.
-ghost use Rattle.std.specs.Prelude.{◌≡◌, IfOk, Ok};
-ghost use Rattle.cord_run.specs.inner.{IsCord, IsExtended, IsTextOver, extensible_length, SameEntries, cells_in};
+ghost use Rattle.std.specs.Prelude.{◌≡◌, IfOk, Ok, length};
+ghost use Rattle.cord_run.specs.inner.{IsCord, IsExtended, IsTextOver, cells_or_none, SameEntries, cells_in};
 ghost use Rattle.cord_run.specs.inner.{content_in, cord_in, extensible_in};
 
 use crate::store::Store;
@@ -54,7 +54,7 @@ impl Store {
 
     /// The length of the extensible cord of a name: 0 where it was not begun.
     pub(crate) fn extended_length(&self, name: &Name) -> u64
-        ensures { result ≡ extensible_length (extensible_in self.now.entries.items name.now) }
+        ensures { result ≡ length (cells_or_none (extensible_in self.now.entries.items name.now)) }
     {
         match self.place(name) {
             None => 0,

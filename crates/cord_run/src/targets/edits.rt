@@ -2,7 +2,9 @@
 // it is held.
 ghost use Rattle.std.specs.Prelude.{◌≡◌, IfErr, IfOk, IfSome, IsErr};
 ghost use Rattle.cord_run.specs.inner.{made_view, IsUnmadeOfNames, Edited, IsEdit, IsMiddle, IsNoMiddle, IsReplaced};
-ghost use Rattle.cord_run.specs.inner.{form_view};
+ghost use Rattle.cord_plan.specs.Edits.{edit_view};
+ghost use Rattle.cord_plan.specs.Planned as plan;
+ghost use Rattle.cord_plan.specs.declared.edits.Edit.TheVariants as edits;
 
 use crate::expressions::parts::build_part;
 use crate::stops::Stop;
@@ -51,7 +53,7 @@ pub(crate) fn edit_of<'a>(target: &Name, made: &'a Made, store: &Store) -> Optio
 
 // What is joined, where it has the form of an edit in the middle.
 fn form_of<'a>(target: &Name, made: &'a Made) -> Option<Replacement<'a>>
-    ensures { IfSome result (λ form. made_view made.now ≡ form_view target.now form) }
+    ensures { IfSome result (λ form. made_view made.now ≡ plan.Joined (edit_view target.now (edits.Replace form))) }
 {
     match made.edit_of(target) {
         Some(cord_plan::Edit::Replace(form)) => Some(form),

@@ -1,7 +1,7 @@
 // Cords and lengths of files.
-ghost use Rattle.std.specs.Prelude.{◌≡◌, IfErr, IfNone, IfOk, IfSome, OnErr};
-ghost use Rattle.cord_run.specs.inner.{count_after, Grows, device_in, opened_in, made_view, IsFileMade, file_made};
-ghost use Rattle.cord_run.specs.inner.{IsFileAt, IsLengthAt, IsNoFileAt, has_failed, NoMoreConsistent};
+ghost use Rattle.std.specs.Prelude.{◌≡◌, List, IfNone, IfSome, OnErr};
+ghost use Rattle.cord_run.specs.inner.{device_in, opened_in, made_view, Asks, Entry, IsFileMade, IsLength, IsMade};
+ghost use Rattle.cord_run.specs.inner.{IsUnmade, IsUnmeasured, OfFile, Opened, file_made};
 
 use crate::stops::Stop;
 use cord_core::Cord;
@@ -48,12 +48,10 @@ pub(crate) fn file_cord<F: Files>(
     path: &Path,
     reading: Reading,
 ) -> Result<Cord, Stop>
-    ensures made { IfOk result (IsFileAt (F.consistent (device_in sources.new)) (opened_in sources.new) path.now) }
-    ensures refused { IfErr result (IsNoFileAt (F.consistent (device_in sources.new)) path.now) }
-    ensures earlier { NoMoreConsistent ⟦<F as Files>⟧ (device_in sources.old) (device_in sources.new) }
-    ensures grows { Grows (opened_in sources.old) (opened_in sources.new) }
-    ensures counts { F.failures (device_in sources.new)
-        ≡ count_after (has_failed result) (F.failures (device_in sources.old)) }
+    ensures { (old : Opened) (entries : List Entry) → Asks ⟦<F as Files>⟧ (device_in sources.old)
+        (device_in sources.new) (opened_in sources.old) (opened_in sources.new)
+        (IsMade (F.consistent (device_in sources.new)) old (opened_in sources.new) entries (file_made reading path.now))
+        (IsUnmade (F.consistent (device_in sources.new)) old entries (file_made reading path.now)) result }
 {
     match reading {
         Reading::ByLength => Ok(sources.from_file(alloc, path.as_str())?),
@@ -69,12 +67,10 @@ pub(crate) fn opened_length<F: Files>(
     sources: &mut Sources<F>,
     path: &Path,
 ) -> Result<u64, Stop>
-    ensures reported { IfOk result (IsLengthAt (F.consistent (device_in sources.new)) path.now) }
-    ensures refused { IfErr result (IsNoFileAt (F.consistent (device_in sources.new)) path.now) }
-    ensures earlier { NoMoreConsistent ⟦<F as Files>⟧ (device_in sources.old) (device_in sources.new) }
-    ensures grows { Grows (opened_in sources.old) (opened_in sources.new) }
-    ensures counts { F.failures (device_in sources.new)
-        ≡ count_after (has_failed result) (F.failures (device_in sources.old)) }
+    ensures asked { (old : Opened) (entries : List Entry) → Asks ⟦<F as Files>⟧ (device_in sources.old)
+        (device_in sources.new) (opened_in sources.old) (opened_in sources.new)
+        (IsLength (F.consistent (device_in sources.new)) old entries (OfFile path.now))
+        (IsUnmeasured (F.consistent (device_in sources.new)) old entries (OfFile path.now)) result }
     ensures unopened { OnErr result (opened_in sources.new ≡ opened_in sources.old) }
 {
     let (_, len) = sources.open(alloc, path.as_str())?;

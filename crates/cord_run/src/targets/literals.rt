@@ -1,6 +1,6 @@
 // Cords of literals and of functions.
-ghost use Rattle.std.specs.Prelude.{◌≡◌, ◌<◌, ◌≤◌, Err, IfErr, IfOk, length};
-ghost use Rattle.cord_run.specs.inner.{IsRefusal, IsStopBy, IsStartAsked, IsStartOf, IsCordOfText, function_source};
+ghost use Rattle.std.specs.Prelude.{◌≡◌, ◌<◌, ◌≤◌, ℕ, Err, IfErr, IfOk, Ok, length};
+ghost use Rattle.cord_run.specs.inner.{IsRefusal, IsStopBy, IsStartOf, IsCordOfText, function_source};
 ghost use Rattle.cord_run.specs.inner.{start_extent};
 
 use crate::checks::{as_index, as_length};
@@ -44,7 +44,7 @@ fn gathered(alloc: Global, text: &[u8]) -> Result<Cord, CordError>
 /// The cord of as many first bytes of a function as a number asks for. Refused with the number's fault, or with
 /// `NoMemory`.
 pub(crate) fn start(alloc: Global, function: Function, count: i64) -> Result<Cord, Stop>
-    ensures made { IfOk result (IsStartAsked function count) }
+    ensures made { IfOk result (λ cord. (n : ℕ) × (start_extent count ≡ Ok n) × IsStartOf function n cord) }
     ensures refused { IfErr result (IsStopBy (λ kind. start_extent count ≡ Err kind)) }
 {
     match start_length(count) {

@@ -1,7 +1,8 @@
 // Prints of what names hold.
-ghost use Rattle.std.specs.Prelude.{◌≡◌, IfErr, IfOk, map};
+ghost use Rattle.std.specs.Prelude.{◌≡◌, ◌≤◌, IfErr, IfOk, Ok, map};
 ghost use Rattle.cord_meaning.specs.Formats.{format_text};
-ghost use Rattle.cord_run.specs.inner.{within, and_then, IsFaultOver, IsTextOver, IsReportedOver, argument_in};
+ghost use Rattle.cord_run.specs.inner.{within, and_then, length_of, lengths_of, plain_of, IsFaultOver, IsOver, IsTextOver};
+ghost use Rattle.cord_run.specs.inner.{Table, argument_in};
 
 use crate::stops::Stop;
 use crate::store::Store;
@@ -35,8 +36,9 @@ pub(crate) fn print_length(
     format: &Format,
     arguments: &[Argument],
 ) -> Result<u64, Stop>
-    ensures reported { IfOk result (IsReportedOver store.now.entries.items
-        (λ s. and_then (format_text s format.now arguments.now) (λ t. within MAX_LEN t))) }
+    ensures reported { IfOk result (λ len. (len ≤ MAX_LEN) × ((t : Table) →
+        IsOver (lengths_of t) store.now.entries.items → length_of (and_then
+        (format_text (plain_of t store.now.entries.items) format.now arguments.now) (λ x. within MAX_LEN x)) ≡ Ok len)) }
     ensures refused { IfErr result (IsFaultOver store.now.entries.items
         (λ s. and_then (format_text s format.now arguments.now) (λ t. within MAX_LEN t))) }
 {

@@ -4,8 +4,8 @@ use Rattle.cord_run.proofs.Numbers.{handed}
 use Rattle.cord_run.proofs.Parts.{run_built}
 use Rattle.cord_run.proofs.expressions.parts.build_run.Goals as goal
 
-pub returns-clause-built : goal.returns-clause-built
-returns-clause-built c =
+pub returns : goal.returns
+returns c =
     let entries = c.args.store.now.entries.items in
     let copies = c.in_ok-copies.copies in
     let byte = handed c.value_of.result (search rules) c.value_of.ensures in
@@ -13,5 +13,8 @@ returns-clause-built c =
     let asked : as_byte (operand_in entries c.args.byte.now) ≡ Ok copies.byte = sym (λ i. as_byte (byte i)) ∙ c.in_ok-copies.ensures.byte in
     let reported : measured_copies MAX_LEN (operand_in entries c.args.byte.now) (operand_in entries c.args.count.now) ≡ Ok copies.count =
     sym (λ i. measured_copies MAX_LEN (byte i) (count i)) ∙ c.in_ok-copies.ensures.count in
-    run_built entries c.args.byte.now c.args.count.now copies.byte copies.count c.in_ok-copies_of.field-0 asked reported c.in_ok-copies_of.ensures.over
-    c.in_ok-copies_of.ensures.sound
+    record {
+      built = run_built entries c.args.byte.now c.args.count.now copies.byte copies.count c.in_ok-copies_of.field-0 asked reported
+          c.in_ok-copies_of.ensures.made.whole c.in_ok-copies_of.ensures.made.sound;
+      refused = tt;
+    }

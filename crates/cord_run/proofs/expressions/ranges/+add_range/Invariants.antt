@@ -1,7 +1,7 @@
 use Rattle.std.specs.Prelude.{◌+◌}
-use Rattle.cord_run.proofs.Common.{drop, expr_view, members_view, members_seen, AddsFew}
+use Rattle.cord_run.proofs.Common.{drop, expr_view, members_view, members_seen}
 use Rattle.cord_run.proofs.ShortTexts.{weight, weights}
-use Rattle.cord_run.proofs.MemberRanges.{SoFar, WantedSoFar}
+use Rattle.cord_run.proofs.MemberRanges.{SoFar}
 use Rattle.cord_run.proofs.expressions.ranges.+add_range.Given as goal
 
 abbrev pub decreases-add_range : goal.decreases-add_range
@@ -14,9 +14,5 @@ abbrev pub decreases-add_all : goal.decreases-add_all
 decreases-add_all l = weights (members_seen l.members.now)
 
 abbrev pub invariant-add_all-loop-member : goal.invariant-add_all-loop-member
-invariant-add_all-loop-member l = record {
-  added : SoFar l.store.entries.items (members_seen l.members) l.fn.wanted l.initial.pieces.items
-      (members_seen (drop l.member-index l.members)) l.left l.pieces.items;
-  past : WantedSoFar l.store.entries.items (members_seen l.members) l.fn.wanted (members_seen (drop l.member-index l.members)) l.left;
-  few : AddsFew l.fn.wanted l.left l.initial.pieces.items l.pieces.items;
-}
+invariant-add_all-loop-member l = SoFar l.store.entries.items (members_seen l.members) l.fn.wanted l.initial.pieces.items
+    (members_seen (drop l.member-index l.members)) l.left l.pieces.items

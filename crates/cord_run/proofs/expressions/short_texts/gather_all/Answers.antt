@@ -22,7 +22,9 @@ loop-member-preserved c =
       short = short;
     }
 
-pub returns-clause-texts : goal.returns-clause-texts
-returns-clause-texts c =
-    λ done. gathered_all c.args.store.now.entries.items c.args.text.now.items c.args.members.now c.loop-member.member-index
-    c.loop-member.text.items c.loop-member-test.false c.loop-member.invariant.gathered
+pub returns : goal.returns
+returns c = λ done. (
+  gathered_all c.args.store.now.entries.items c.args.text.now.items c.args.members.now c.loop-member.member-index c.loop-member.text.items
+      c.loop-member-test.false c.loop-member.invariant.gathered,
+  c.loop-member.invariant.short,
+)

@@ -21,7 +21,7 @@ returns-in-Ok-clause-found g c = λ file_system agrees.
     (sym (handed c.place_number.result (search rules) refl))
     (byte_placed (g.R.Source.lengths c.args.source.now) c.args.cord.now c.len-len.ensures.sound c.requires.fits c.args.start
     c.in_ok-index.index checked c.args.direction c.args.byte c.in_ok-wanted.wanted good table
-    (g.met.R.Source.lengths_of_table c.args.source.now file_system (c.in-Ok.ensures.same.2 file_system agrees)) within c.in-Ok.place
+    (g.met.R.Source.lengths_of_table c.args.source.now file_system (c.in-Ok.ensures.same.earlier file_system agrees)) within c.in-Ok.place
     c.place_number.result (λ within. c.place_number.ensures
     (subst (λ (n : ℕ). IfSome c.in-Ok.place (λ p. p ≤ n)) (sym c.len-len.ensures.stored) within))
     (c.in-Ok.ensures.nearest file_system agrees))
