@@ -25,5 +25,6 @@ pub mod Numbers
 pub mod Extensibles
 pub mod Windows
 pub mod Appends
+pub mod Actions
 pub mod ShortTexts
 pub mod Paths

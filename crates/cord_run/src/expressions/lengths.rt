@@ -3,8 +3,8 @@ ghost use Rattle.std.specs.Prelude.{◌≡◌, ◌≤◌, ◌+◌, Err, IfErr, I
 ghost use Rattle.cord_meaning.specs.State as meant;
 ghost use Rattle.cord_plan.specs.Exprs as plain;
 ghost use Rattle.cord_plan.specs.Values.{measured_copies, measured_part};
-ghost use Rattle.cord_run.specs.inner.{expr_view, members_view, length_in, counted, extent_beside, extent_in};
-ghost use Rattle.cord_run.specs.inner.{length_beside, members_extent, members_seen};
+ghost use Rattle.cord_run.specs.inner.{expr_view, members_view, length_in, counted, extent_in, members_extent};
+ghost use Rattle.cord_run.specs.inner.{members_seen};
 
 use crate::checks::{as_byte, as_index, as_length};
 use crate::expressions::parts::{pair_of, range_parts};
@@ -20,43 +20,34 @@ use std::rc::Rc;
 pub(crate) fn measured(expression: &Expr, store: &Store) -> Result<u64, FaultKind>
     ensures { result ≡ extent_in store.now.entries.items (expr_view expression.now) }
 {
-    match length_of_few(expression, None, store) {
+    match length_of_few(expression, store) {
         Some(length) => length,
         None => length_of(expression, store),
     }
 }
 
-/// The length of one part or of two, or their fault, where a name may have another length than the store knows.
+// The length of one part or of two, or their fault.
 #[inline(always)]
-pub(crate) fn length_of_few(
-    expression: &Expr,
-    other: Option<Named<'_>>,
-    store: &Store,
-) -> Option<Result<u64, FaultKind>>
-    ensures { IfSome result (λ length. length ≡ extent_beside store.now.entries.items other.entry (expr_view expression.now)) }
+fn length_of_few(expression: &Expr, store: &Store) -> Option<Result<u64, FaultKind>>
+    ensures { IfSome result (λ length. length ≡ extent_in store.now.entries.items (expr_view expression.now)) }
 {
     match expression {
         Expr::Cat(members) => {
             let (first, last) = pair_of(members)?;
-            length_of_pair(first, last, other, store)
+            length_of_pair(first, last, store)
         }
-        _ => length_of_part(expression, other, store),
+        _ => length_of_part(expression, store),
     }
 }
 
 // The length of two parts, joined.
 #[inline(always)]
-fn length_of_pair(
-    first: &Expr,
-    last: &Expr,
-    other: Option<Named<'_>>,
-    store: &Store,
-) -> Option<Result<u64, FaultKind>>
-    ensures { IfSome result (λ length. length ≡ extent_beside store.now.entries.items other.entry
+fn length_of_pair(first: &Expr, last: &Expr, store: &Store) -> Option<Result<u64, FaultKind>>
+    ensures { IfSome result (λ length. length ≡ extent_in store.now.entries.items
         (plain.cat (plain.member (expr_view first.now) (plain.member (expr_view last.now) plain.nothing)))) }
 {
-    let first = length_of_part(first, other, store)?;
-    let last = length_of_part(last, other, store)?;
+    let first = length_of_part(first, store)?;
+    let last = length_of_part(last, store)?;
     Some(length_together(first, last))
 }
 
@@ -75,35 +66,20 @@ fn length_together(
 
 // The length of one part.
 #[inline(always)]
-fn length_of_part(
-    expression: &Expr,
-    other: Option<Named<'_>>,
-    store: &Store,
-) -> Option<Result<u64, FaultKind>>
-    ensures { IfSome result (λ length. length ≡ extent_beside store.now.entries.items other.entry (expr_view expression.now)) }
+fn length_of_part(expression: &Expr, store: &Store) -> Option<Result<u64, FaultKind>>
+    ensures { IfSome result (λ length. length ≡ extent_in store.now.entries.items (expr_view expression.now)) }
 {
     match expression {
-        Expr::Name(name) => Some(Ok(length_beside(name, other, store))),
+        Expr::Name(name) => Some(Ok(store.length_of(name))),
         Expr::Run { byte, count } => Some(length_of_run(
             store.value_of(byte),
             store.value_of(count),
         )),
         _ => {
             let (name, start, count) = range_parts(expression)?;
-            let len = length_beside(name, other, store);
+            let len = store.length_of(name);
             Some(length_of_range(len, store.value_of(start), store.value_of(count)))
         }
-    }
-}
-
-// The length of a name, where one may have another length than the store knows.
-#[inline(always)]
-fn length_beside(name: &Name, other: Option<Named<'_>>, store: &Store) -> u64
-    ensures { result ≡ length_beside store.now.entries.items other.entry name.now }
-{
-    match other {
-        Some(other) if name.is(other.name) => other.len,
-        _ => store.length_of(name),
     }
 }
 
@@ -169,11 +145,11 @@ fn length_after(before: u64, members: &[Rc<Expr>], store: &Store) -> Result<u64,
     Ok(total)
 }
 
-/// A name, and the length known of it.
+// A name, and the length known of it.
 #[derive(Clone, Copy)]
-pub(crate) struct Named<'a> {
-    pub(crate) name: &'a Name,
-    pub(crate) len: u64,
+struct Named<'a> {
+    name: &'a Name,
+    len: u64,
 }
 
 // A name with its length, which isn't looked for where the last name was the same one.
