@@ -9,10 +9,10 @@ ghost use Rattle.std.specs.Prelude.{Err, None, Some, IfErr, IsErr};
 ghost use Rattle.cord_core.specs.Cord.{text_len};
 ghost use Rattle.cord_core.specs.Refusals.{IsRefusal};
 ghost use Rattle.cord_run.specs.inner.Contents.{HasSplice, IsWholeContent, IsWholeAt, spliced_len};
-ghost use Rattle.cord_run.specs.inner.Contents.Entries.{are_distinct, cells_in, cells_or_none, content_in, content_length};
-ghost use Rattle.cord_run.specs.inner.Contents.Entries.{cord_in, extensible_in, length_in, names_in, number_in, operand_in};
-ghost use Rattle.cord_run.specs.inner.Contents.Entries.{Grew, HasContent, HasExtensible, HasNoEntry, HasNumber, IsEntryAt};
-ghost use Rattle.cord_run.specs.inner.Contents.Entries.{IsFirstEntry};
+ghost use Rattle.cord_run.specs.inner.Contents.Entries.{are_distinct, cells_in, cells_or_none, content_in};
+ghost use Rattle.cord_run.specs.inner.Contents.Entries.{content_length, cord_in, extensible_in, length_in, names_in};
+ghost use Rattle.cord_run.specs.inner.Contents.Entries.{number_in, operand_in, Grew, HasContent, HasExtensible};
+ghost use Rattle.cord_run.specs.inner.Contents.Entries.{HasNoEntry, HasNumber, IsEntryAt, IsFirstEntry};
 
 use crate::store::appends::append_at;
 use crate::store::contents::{set_content, set_extensible, set_length, set_number, splice_content};

@@ -1,7 +1,7 @@
 // Lengths that follow from those of the operations before.
 ghost use Rattle.std.specs.Prelude.{◌≡◌, ◌-◌, ◌^◌, ◌<◌, ℕ, List, IfSome, Some, map, slice_get};
-ghost use Rattle.cord_run.specs.inner.{append, cat, member, members_view, name, nothing, operation_view, Exprs, IsKnownAt};
-ghost use Rattle.cord_run.specs.inner.{Joined, Measure, StaysKnown};
+ghost use Rattle.cord_run.specs.inner.{append, cat, member, members_view, name, nothing, operation_view, Exprs};
+ghost use Rattle.cord_run.specs.inner.{IsKnownAt, Joined, Measure, StaysKnown};
 
 use crate::store::Store;
 use cord_plan::{Expr, Made, Members, Operation, Plan};

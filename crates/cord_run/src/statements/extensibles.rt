@@ -3,8 +3,8 @@ ghost use Rattle.std.specs.Prelude.{◌≡◌, ◌∷◌, ℕ, [], Err, None, So
 ghost use Rattle.std.specs.Result.{MatchResult};
 ghost use Rattle.cord_meaning.specs.State as meant;
 ghost use Rattle.cord_syntax.specs.declared.families.Family.TheVariants as families;
-ghost use Rattle.cord_run.specs.inner.{Table, lengths_of, statement_of, Becomes, cells_or_none, extensible_in, longer_text};
-ghost use Rattle.cord_run.specs.inner.{refusal_of, text_over, HasExtensible, IsOver, MeansOver, StaysOver};
+ghost use Rattle.cord_run.specs.inner.{Table, lengths_of, statement_of, Becomes, cells_or_none, extensible_in};
+ghost use Rattle.cord_run.specs.inner.{longer_text, refusal_of, text_over, HasExtensible, IsOver, MeansOver, StaysOver};
 ghost use Rattle.cord_run.specs.inner.{CountsReadStop};
 
 use crate::checks::as_byte;

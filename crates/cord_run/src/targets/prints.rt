@@ -1,8 +1,8 @@
 // Prints of what names hold.
 ghost use Rattle.std.specs.Prelude.{◌≡◌, ◌≤◌, IfErr, IfOk, Ok, map};
 ghost use Rattle.cord_meaning.specs.Formats.{format_text};
-ghost use Rattle.cord_run.specs.inner.{within, and_then, length_of, lengths_of, plain_of, IsFaultOver, IsOver, IsTextOver};
-ghost use Rattle.cord_run.specs.inner.{Table, argument_in};
+ghost use Rattle.cord_run.specs.inner.{within, and_then, length_of, lengths_of, plain_of, IsFaultOver, IsOver};
+ghost use Rattle.cord_run.specs.inner.{IsTextOver, Table, argument_in};
 
 use crate::stops::Stop;
 use crate::store::Store;
