@@ -1,9 +1,9 @@
 -- The names that most proofs of this crate cite, passed on from one place. Declares nothing.
-pub use Rattle.std.proofs.Common.{ap, append-nil, append_assoc, arith, eq-eqb, eqb-true, inl, inr, length-append, lit<, lit≤, refl, rules}
+pub use Rattle.std.proofs.Common.{ap, append-nil, append_assoc, arith, eq-eqb, eqb-true, inl, inr, length-append, lit≤, refl, rules}
 pub use Rattle.std.proofs.Common.{subst, sym, ◌∙◌}
 pub use Rattle.std.proofs.lemmas.Bool.{and_from, and_parts, cond-false, cond-true, eqb-false, false_from_ne_true, le-leb}
 pub use Rattle.std.proofs.lemmas.Bool.{leb-true, lt-leb, ltb-false, ltb-true, ne_eqb, or_from, or_left, or_right}
-pub use Rattle.std.proofs.lemmas.List.{drop_more, map-append, take-append-drop, take-replicate, take_all, take_more}
+pub use Rattle.std.proofs.lemmas.List.{drop_all, drop_more, length-map, map-append, nil_from_length, take-append-drop, take-replicate, take_all, take_more}
 pub use Rattle.std.proofs.lemmas.List.Elements.{All-cons, All-head, All-nil, All-tail}
 pub use Rattle.std.proofs.lemmas.Option.{same_Some, slice_get_read}
 pub use Rattle.std.proofs.lemmas.Result.{IfErr-weaker, IfOk-at_ok, IfOk-weaker, err_from_is_err_and}
@@ -47,9 +47,9 @@ pub use Rattle.cord_script.specs.Words.{StartsWith}
 pub use Rattle.cord_script.specs.declared.TheConstants.{MAX_BLOCKS, MAX_LINES, MAX_NAMES, MAX_PARTS, MAX_PATHS, MAX_SCRIPT, MAX_TEXT}
 pub use Rattle.cord_script.specs.declared.TheConstants.{MIN_PARTS}
 pub use Rattle.cord_script.specs.declared.kinds.Kind.{Kind}
-pub use Rattle.cord_script.specs.declared.refusals.RefusalKind.TheVariants.{BadEscape, BadFormat, BadName, BadNumber, ElseAlone, EndAlone}
+pub use Rattle.cord_script.specs.declared.refusals.RefusalKind.TheVariants.{BadEscape, BadFormat, BadName, BadNumber}
 pub use Rattle.cord_script.specs.declared.refusals.RefusalKind.TheVariants.{LiteralTooLong, MissingEnd, MissingIfEnd, NoMemory, TooBig}
-pub use Rattle.cord_script.specs.declared.refusals.RefusalKind.TheVariants.{TooDeep, TooMany, UnknownName, UnknownStatement, Unterminated}
+pub use Rattle.cord_script.specs.declared.refusals.RefusalKind.TheVariants.{TooDeep, TooMany, UnknownStatement, Unterminated}
 pub use Rattle.cord_script.specs.declared.refusals.RefusalKind.TheVariants.{WrongCount, WrongKind}
 pub use Rattle.cord_script.specs.declared.verbs.FixedVerb.{FixedVerb}
 pub use Rattle.cord_script.specs.declared.words.Word.TheVariants.{Plain, Quoted}

@@ -8,11 +8,6 @@ use Rattle.cord_script.proofs.Common.{take_all, Nowhere, Passes, IsFirstByte, is
 pub parts : (n : ℕ) (xs : List ℕ) → xs ≡ take n xs ++ drop n xs
 parts n xs = sym (take-append-drop n xs)
 
--- nothing is left after all bytes
-pub drop_whole : (xs : List ℕ) → drop (length xs) xs ≡ []
-drop_whole [] = refl
-drop_whole (x ∷ xs) = drop_whole xs
-
 -- no bytes are no lines
 pub split_nil : (lines : List (List ℕ)) → IsSplit [] lines → lines ≡ []
 split_nil [] h = refl

@@ -1,7 +1,7 @@
 -- Words say one statement, and then have no error.
 use Rattle.std.specs.Prelude.{◌≡◌, ◌≤◌, ◌+◌, ◌∷◌, ◌==◌, if◌then◌else◌}
 use Rattle.cord_script.proofs.Common.{Some, None, ℕ, suc, List, [], Bool, true, refl, sym, ◌∙◌, ap, subst, length, arith, eq-eqb, Option}
-use Rattle.cord_script.proofs.Common.{map, codes, le-leb, bytes_eq, Piece, OneFormat, BadIsNoFormat, MAX_BLOCKS, MIN_PARTS, MAX_PARTS, Want}
+use Rattle.cord_script.proofs.Common.{map, length-map, codes, le-leb, bytes_eq, Piece, OneFormat, BadIsNoFormat, MAX_BLOCKS, MIN_PARTS, MAX_PARTS, Want}
 use Rattle.cord_script.proofs.Common.{Argument, Word, Plain, Quoted, Statement, Let, File, Eager, Lazy, Chars, Nul, FromFn, Cat, Catn, Catc}
 use Rattle.cord_script.proofs.Common.{Substr, Balance, EcToCord, Sprintf, Len, Fetch, Cmp, Ncmp, Str, Chr, Rchr, Assign, Add, Sub, EcInit}
 use Rattle.cord_script.proofs.Common.{EcPut, EcCat, EcStr, Put, Repeat, If, Else, End, RefusalKind, WrongCount, TooDeep, line_of, Grammar}
@@ -31,14 +31,10 @@ pub record IsRightForm (others : List Word) (s : Statement) : Type 0 where
   pub count : is_count form.shape (length others) ≡ true
   pub words : first_pair misfit (map want_of (terms_of s)) others ≡ None → words_error form.shape formats others ≡ None
 
-as_many : (ts : List Term) → length (map want_of ts) ≡ length ts
-as_many [] = refl
-as_many (t ∷ ts) = let r = as_many ts in omega arith
-
 right_words : (others : List Word) (s : Statement) → form_of (word_of s)
     ≡ Some (record { shape = Words (map want_of (terms_of s)); effect = effect_of s }) → AreTerms others (terms_of s) → IsRightForm others s
 right_words others s is h =
-    let number : length others ≡ length (map want_of (terms_of s)) = terms_count others (terms_of s) h ∙ sym (as_many (terms_of s)) in
+    let number : length others ≡ length (map want_of (terms_of s)) = terms_count others (terms_of s) h ∙ sym (length-map (terms_of s) want_of) in
     record {
       form = record { shape = Words (map want_of (terms_of s)); effect = effect_of s };
       is = is;

@@ -182,11 +182,6 @@ pub leaves_open : (b rest : List ℕ) (n at : ℕ) (scope : Scope) (ss : List St
     n ≤ MAX_LINES + 1 → rest ≡ [] → HasReadLines b rest n scope ss → IsInnermostOpen scope.blocks at kind → FirstErrorBy whole b at kind
 leaves_open b rest n at scope ss kind small few e r h = open_by b rest n at scope ss kind scope.blocks small few e r refl h
 
--- nothing is left
-pub no_bytes : (xs : List ℕ) → length xs ≡ 0 → xs ≡ []
-no_bytes [] e = refl
-no_bytes (x ∷ xs) e = absurd (omega arith)
-
 -- one more statement with a number
 pub numbered_push : (ss : List Statement) (s : Statement) → All (λ x. 1 ≤ line_of x) ss → 1 ≤ line_of s →
     All (λ x. 1 ≤ line_of x) (ss ++ s ∷ [])

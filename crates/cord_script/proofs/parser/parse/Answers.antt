@@ -1,5 +1,5 @@
-use Rattle.cord_script.proofs.Common.{length, arith, inl, refl, sym, subst, eqb-true, Reads, scope_of}
-use Rattle.cord_script.proofs.Readings.{reads_line, stops, read_whole, leaves_open, no_bytes, numbered_line, reached, left_found}
+use Rattle.cord_script.proofs.Common.{length, nil_from_length, arith, inl, refl, sym, subst, eqb-true, Reads, scope_of}
+use Rattle.cord_script.proofs.Readings.{reads_line, stops, read_whole, leaves_open, numbered_line, reached, left_found}
 use Rattle.cord_script.proofs.parser.parse.Goals as goal
 
 pub returns-then-size-gt-MAX_SCRIPT-clause-first_error : goal.returns-then-size-gt-MAX_SCRIPT-clause-first_error
@@ -33,7 +33,7 @@ returns-in-Some-clause-first_error c = λ n.
     leaves_open c.args.script.now c.lines.rest.now c.lines.number c.in-Some.refusal.line (scope_of c.lines.context)
     c.lines.statements.items
     c.in-Some.refusal.kind (omega arith) c.lines.invariant.few
-    (no_bytes c.lines.rest.now (eqb-true (length c.lines.rest.now) 0 (sym c.lines-test.ensures))) c.lines.invariant.read
+    (nil_from_length c.lines.rest.now (eqb-true (length c.lines.rest.now) 0 (sym c.lines-test.ensures))) c.lines.invariant.read
     c.in-Some.ensures
 
 pub returns-in-Some-clause-no_memory : goal.returns-in-Some-clause-no_memory
@@ -43,5 +43,5 @@ pub returns-clause-reads : goal.returns-clause-reads
 returns-clause-reads c =
     subst (Reads c.args.script.now) (sym c.of.ensures)
     (read_whole c.args.script.now c.lines.rest.now c.lines.number (scope_of c.lines.context) c.lines.statements.items (omega arith)
-    c.lines.invariant.few (no_bytes c.lines.rest.now (eqb-true (length c.lines.rest.now) 0 (sym c.lines-test.ensures)))
+    c.lines.invariant.few (nil_from_length c.lines.rest.now (eqb-true (length c.lines.rest.now) 0 (sym c.lines-test.ensures)))
     c.lines.invariant.read c.in_default-open_error.ensures)
