@@ -2,10 +2,11 @@
 use Rattle.std.specs.Prelude.{◌≡◌, ◌∷◌, ◌++◌}
 use Rattle.cord_script.proofs.Common.{Some, None, append_assoc, ◌∙◌, ℕ, List, [], refl, sym, ap, subst, All-head, Verb, Plain, Statement}
 use Rattle.cord_script.proofs.Common.{line_of, IsPlainByte, IsIdle, HasWord, block_error, Form, effect_of, terms_of, Scope, FitsBlocks}
-use Rattle.cord_script.proofs.Common.{after, paths_after, blocks_after, LineView, SaysLine, left_after, AddsStatement, verb_word}
+use Rattle.cord_script.proofs.Common.{after, paths_after, blocks_after, LineView, left_after, TakesLine, verb_word}
 use Rattle.cord_script.proofs.Common.{Says, whole, verb_effect}
 use Rattle.cord_script.specs.Forms.{form_of}
 use Rattle.cord_script.proofs.Allowed.{block_right}
+use Rattle.cord_script.proofs.LineReading.{SaysLine}
 use Rattle.cord_script.proofs.Unique.{Begins}
 use Rattle.cord_script.proofs.Found.{not_idle}
 use Rattle.cord_script.proofs.OneStatement.{right_form}
@@ -55,7 +56,7 @@ leaves v n old new s h =
 -- a line that begins with the verb's word, before words that say a statement of the verb
 pub adds : (v : Verb) (n : ℕ) (line : List ℕ) (old new : LineView) (left : Scope) (s : Statement) (ss grown : List Statement) →
     HasWord line (Plain (verb_word v)) old.rest → block_error (verb_effect v) old.scope.blocks ≡ None → SaysLine v n old new s →
-    left ≡ left_after (verb_effect v) n new.name new.path old.scope → grown ≡ ss ++ s ∷ [] → AddsStatement n line old.scope left ss grown
+    left ≡ left_after (verb_effect v) n new.name new.path old.scope → grown ≡ ss ++ s ∷ [] → TakesLine n line old.scope left ss grown
 adds v n line old new left s ss grown first fits h is added =
     let right = right_form h.words s h.says h.suits in
     let says : Says whole n old.scope (Plain (verb_word v) ∷ h.words) s = record {
@@ -69,4 +70,4 @@ adds v n line old new left s ss grown first fits h is added =
       blocks = subst (λ e. FitsBlocks e old.scope.blocks) (sym h.effect) (block_right (verb_effect v) old.scope.blocks fits);
     } in
     let shows = word_shows (verb_word v) right.form line old.rest (ap form_of (sym h.word) ∙ right.is) first in
-    (s, (shows, Plain (verb_word v) ∷ h.words, (h.has.0, (old.rest, first, h.has.1), h.has.2), says, leaves v n old new s h ∙ sym is), added)
+    (Some s, (shows, Plain (verb_word v) ∷ h.words, (h.has.0, (old.rest, first, h.has.1), h.has.2), says, leaves v n old new s h ∙ sym is), added)

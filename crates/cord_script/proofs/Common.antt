@@ -59,11 +59,8 @@ pub use Rattle.cord_script.specs.inner.Common.{RefusalKind, Says, Scope, Some, S
 pub use Rattle.cord_script.specs.inner.Common.{after_all, blocks_after, codes, each, effect_of, filter, form_of, is_digit}
 pub use Rattle.cord_script.specs.inner.Common.{is_letter, is_name, kind_of, length, map, names_after, nat_le, not, number_after, option_map}
 pub use Rattle.cord_script.specs.inner.Common.{option_to_list, paths_after, slice_get, start, terms_of, true, whole, word_of, ℕ}
-pub use Rattle.cord_script.specs.inner.ContextViews.{IsInnermostOpen, scope_of}
-pub use Rattle.cord_script.specs.inner.LineReading.{GivesAll, GivesTerm, IsFresh, IsStatementBuilt, LineView, PassesWord, SaysLine}
-pub use Rattle.cord_script.specs.inner.LineReading.{left_after, names_with, paths_with}
-pub use Rattle.cord_script.specs.inner.Reading.{byte_of, digit_of, escape_of, hex_of, magnitude_from, unit_of}
-pub use Rattle.cord_script.specs.inner.Steps.{AddsStatement, HasWrong, TakesLine}
-pub use Rattle.cord_script.specs.inner.Tables.{AreFirst, AreNames, IsTable}
-pub use Rattle.cord_script.specs.inner.Verbal.{all_verbs, find_verb, verb_effect, verb_word, verbs_of}
+pub use Rattle.cord_script.specs.inner.LineReading.{GivesAll, GivesTerm, HasWrong, IsFresh, IsInnermostOpen, IsStatementBuilt, LineView}
+pub use Rattle.cord_script.specs.inner.LineReading.{PassesWord, TakesLine, left_after, names_with, paths_with, scope_of}
+pub use Rattle.cord_script.specs.inner.Reading.{byte_of, digit_of, escape_of, hex_of, magnitude_from, unit_of, AreFirst, AreNames, IsTable}
 pub use Rattle.cord_script.specs.inner.Reading.{HasNext, StartsNoBlank}
+pub use Rattle.cord_script.specs.inner.Verbal.{all_verbs, find_verb, verb_effect, verb_word, verbs_of}

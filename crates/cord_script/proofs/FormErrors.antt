@@ -8,7 +8,7 @@ use Rattle.cord_script.specs.declared.verbs.Verb.TheVariants as verbs
 use Rattle.cord_script.specs.declared.diagnosis.TheConstants.{JOINED, PRINTED}
 use Rattle.cord_script.specs.declared.kinds.Kind.TheVariants as kinds
 use Rattle.cord_script.specs.declared.kinds.Want.TheVariants as wants
-use Rattle.cord_script.specs.inner.Diagnosis.{wanted_error}
+use Rattle.cord_script.specs.inner.LineReading.{wanted_error}
 use Rattle.cord_script.proofs.Unique.{within}
 
 -- a pair that is right is passed

@@ -2,8 +2,8 @@
 use Rattle.std.specs.Prelude.{◌≡◌, ◌∷◌, ◌++◌}
 use Rattle.cord_script.proofs.Common.{◌∙◌, ℕ, List, [], refl, sym, ap, subst, map, map-append, All, Known, FixedVerb, Verb, Word, Statement}
 use Rattle.cord_script.proofs.Common.{IsBlank, StartsWith, Term, terms_of, Target, FilePath, IsTerm, AreTerms, IsAllowed, AreAllowed}
-use Rattle.cord_script.proofs.Common.{names_after, paths_after, LineView, IsFresh, PassesWord, GivesTerm, IsStatementBuilt, SaysLine}
-use Rattle.cord_script.proofs.Common.{names_with, paths_with, verb_word}
+use Rattle.cord_script.proofs.Common.{names_after, paths_after, LineView, IsFresh, PassesWord, GivesTerm, IsStatementBuilt, Suits}
+use Rattle.cord_script.proofs.Common.{names_with, paths_with, verb_word, verb_effect, word_of, effect_of, line_of, HasWords}
 use Rattle.cord_script.specs.declared.verbs.Verb.TheVariants as verbs
 use Rattle.cord_script.specs.inner.LineReading.{GivesAll}
 
@@ -99,6 +99,19 @@ words_given old new (t ∷ ts) h =
           ∙ ap (λ s. paths_after ts (paths_with s.paths h.0.path)) g.scope ∙ ap (paths_after ts) g.paths
           ∙ sym (paths_split t ts (paths_with old.scope.paths old.path));
     }
+
+-- the words of the rest of a line say a statement of the verb, and what they add is what the statement adds
+pub record SaysLine (verb : Verb) (n : ℕ) (old new : LineView) (s : Statement) : Type 0 where
+  pub words : List Word
+  pub has : HasWords old.rest words
+  pub says : AreTerms words (terms_of s)
+  pub allowed : AreAllowed old.scope (terms_of s)
+  pub names : names_with old.scope.names new.name ≡ names_after (terms_of s) old.scope.names
+  pub paths : paths_with old.scope.paths new.path ≡ paths_after (terms_of s) old.scope.paths
+  pub word : word_of s ≡ verb_word verb
+  pub effect : effect_of s ≡ verb_effect verb
+  pub line : line_of s ≡ n
+  pub suits : Suits s
 
 -- the statement of words of which none is left
 pub says_line : (v : Verb) (n : ℕ) (old new : LineView) (s : Statement) → IsFresh old → IsStatementBuilt v n old new s → All IsBlank new.rest →

@@ -1,8 +1,12 @@
 -- Lines of a script.
-use Rattle.std.specs.Prelude.{◌≡◌, ◌≢◌, ◌<◌, ◌+◌, ◌∷◌, ◌++◌, ◌==◌}
+use Rattle.std.specs.Prelude.{◌≡◌, ◌≢◌, ◌<◌, ◌+◌, ◌∷◌, ◌++◌, ◌==◌, slice_index}
 use Rattle.cord_script.proofs.Common.{inl, inr, ℕ, zero, suc, List, [], refl, sym, ◌∙◌, ap, subst, take, drop, length, arith, Bool, true}
 use Rattle.cord_script.proofs.Common.{false, Some, None, eq-eqb, eqb-true, eqb-false, All-nil, All-cons, All-head, All-tail, All, MatchBool, take-append-drop}
-use Rattle.cord_script.proofs.Common.{take_all, Nowhere, Passes, IsFirstByte, is_byte, IsSplit, IsBlank, IsIdle, StartsNoBlank}
+use Rattle.cord_script.proofs.Common.{take_all, Nowhere, Passes, IsFirstByte, is_byte, IsSplit, IsBlank, IsIdle, StartsNoBlank, Option}
+use Rattle.std.proofs.lemmas.Bool.{cases_Bool, cases_lt, false≢true}
+use Rattle.std.proofs.Math.Logic.{⊎_elim}
+use Rattle.memchr.proofs.lemmas.ValueLemmas.{IsFirstByte-value}
+use Rattle.memchr.specs.Find.{IsFirst, TakesFirst, first_of, places}
 
 -- a list in two parts
 pub parts : (n : ℕ) (xs : List ℕ) → xs ≡ take n xs ++ drop n xs
@@ -15,6 +19,37 @@ split_nil ([] ∷ lines) (n, inl h) = absurd (h.1 refl)
 split_nil ([] ∷ lines) (n, inr h) = cc
 split_nil ((c ∷ cs) ∷ lines) (n, inl h) = cc
 split_nil ((c ∷ cs) ∷ lines) (n, inr h) = cc
+
+-- what is taken of a list first
+first_is : (xs t : List ℕ) (r : Option ℕ) → TakesFirst xs r t → r ≡ first_of xs
+unfolding first_of
+first_is [] t None h = refl
+first_is (x ∷ xs) t None h = absurd (let clash : x ∷ xs ≡ [] = h.0 in cc)
+first_is [] t (Some y) h = cc
+first_is (x ∷ xs) t (Some y) h = let same : x ≡ y = cc in ap (λ k. Some k) (sym same)
+
+-- there is a first place up to n, or none
+module _ (test : ℕ → Bool) (b : List ℕ) where
+  longer : (n : ℕ) (r : Option ℕ) → IsFirst (Passes test b) 0 n r → (r : Option ℕ) × IsFirst (Passes test b) 0 (suc n) r
+  longer n (Some k) h = (Some k, (record { low = h.0.low; high = omega (arith, h.0.high); before = h.0.before }, h.1))
+  longer n None h = ⊎_elim
+      (λ p. (Some n, (record { low = omega arith; high = omega arith; before = h }, p)))
+      (λ no. (
+        None,
+        λ k low high p. ⊎_elim (λ lt. h k low lt p)
+            (λ ge. let same : k ≡ n = omega (arith, high, ge) in false≢true (sym no ∙ subst (Passes test b) same p)) (cases_lt k n),
+      ))
+      (cases_Bool (test (slice_index b n)))
+
+  first_there : (n : ℕ) → (r : Option ℕ) × IsFirst (Passes test b) 0 n r
+  first_there zero = (None, λ k low high. absurd (omega (arith, low, high)))
+  first_there (suc n) = longer n (first_there n).0 (first_there n).1
+
+  -- the first of the places is the first place
+  pub first_place : (r : Option ℕ) (t : List ℕ) → TakesFirst (places test b) r t → IsFirstByte test b r
+  first_place r t h =
+      let there = first_there (length b) in
+      subst (IsFirstByte test b) (IsFirstByte-value test b there.0 there.1 ∙ sym (first_is (places test b) t r h)) there.1
 
 -- the bytes up to a place, of which none is byte 10
 before_end : (b : List ℕ) (end : ℕ) → Nowhere (Passes (is_byte 10) b) 0 end → All (λ c. c ≢ 10) (take end b)

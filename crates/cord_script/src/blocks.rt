@@ -2,7 +2,7 @@
 ghost use Rattle.std.specs.Prelude.{◌≡◌, ◌∷◌, [], map, OnOk, MatchOption};
 ghost use Rattle.cord_script.specs.Script.{blocks_after, turned};
 ghost use Rattle.cord_script.specs.FirstErrors.{block_error, else_error};
-ghost use Rattle.cord_script.specs.inner.ContextViews.{block_of, IsInnermostOpen};
+ghost use Rattle.cord_script.specs.inner.LineReading.{block_of, IsInnermostOpen};
 ghost use Rattle.cord_script.specs.inner.Verbal.{verb_effect};
 
 use crate::verbs::{Control, FixedVerb, Verb};

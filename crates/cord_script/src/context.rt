@@ -1,8 +1,7 @@
 // What the lines before a line leave, and what a line adds to it.
 ghost use Rattle.std.specs.Prelude.{◌≡◌, true, ◌<◌, nat_lt, option_map, OnOk, length};
 ghost use Rattle.cord_script.specs.Script.{start, is_among, with_path};
-ghost use Rattle.cord_script.specs.inner.ContextViews.{scope_of};
-ghost use Rattle.cord_script.specs.inner.LineReading.{left_after};
+ghost use Rattle.cord_script.specs.inner.LineReading.{scope_of, left_after};
 ghost use Rattle.cord_script.specs.inner.Verbal.{verb_effect};
 
 use crate::added::Added;

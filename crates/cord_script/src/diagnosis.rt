@@ -7,9 +7,7 @@ ghost use Rattle.cord_script.specs.Forms.Shape.{Joined, Printed};
 ghost use Rattle.cord_script.specs.Forms.Effect.{Stays};
 ghost use Rattle.cord_script.specs.FirstErrors.{HasFormat, HasFormError, HasBadWords, format_wants};
 ghost use Rattle.cord_script.specs.Script.{whole};
-ghost use Rattle.cord_script.specs.inner.ContextViews.{scope_of};
-ghost use Rattle.cord_script.specs.inner.Diagnosis.{wanted_error};
-ghost use Rattle.cord_script.specs.inner.Steps.{HasWrong};
+ghost use Rattle.cord_script.specs.inner.LineReading.{scope_of, wanted_error, HasWrong};
 ghost use Rattle.cord_script.specs.inner.Verbal.{verb_word};
 
 use crate::context::Context;

@@ -2,8 +2,7 @@
 ghost use Rattle.std.specs.Prelude.{◌≡◌};
 ghost use Rattle.cord_script.specs.FirstErrors.{unless, misfit, first_pair, number_error, operand_error};
 ghost use Rattle.cord_script.specs.FirstErrors.{word_target_error, word_path_error, plain_number_misfit, names_error};
-ghost use Rattle.cord_script.specs.inner.ContextViews.{scope_of};
-ghost use Rattle.cord_script.specs.inner.Diagnosis.{pair_error, wanted_error};
+ghost use Rattle.cord_script.specs.inner.LineReading.{scope_of, pair_error, wanted_error};
 ghost use Rattle.cord_script.specs.inner.Verbal.{verb_effect};
 
 use crate::RefusalKind;

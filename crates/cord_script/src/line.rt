@@ -1,17 +1,14 @@
 // The statement of a line, and what it leaves.
-ghost use Rattle.std.specs.Prelude.{◌≡◌, true, false, IfSome, Ok, IfOk};
+ghost use Rattle.std.specs.Prelude.{◌≡◌, [], ◌∷◌, ◌++◌, true, false, IfSome, IfOk};
 ghost use Rattle.cord_script.specs.Words.{HasWord};
 ghost use Rattle.cord_script.specs.declared.words.Word.TheVariants.{Plain};
-ghost use Rattle.cord_script.specs.inner.ContextViews.{scope_of};
-ghost use Rattle.cord_script.specs.inner.LineReading.{IsFresh, SaysLine};
-ghost use Rattle.cord_script.specs.inner.Steps.{AddsStatement};
+ghost use Rattle.cord_script.specs.inner.LineReading.{scope_of, TakesLine};
 ghost use Rattle.cord_script.specs.inner.Verbal.{verb_word};
 
 use crate::Statement;
 use crate::blocks::block_error;
 use crate::context::Context;
 use crate::grammar::verb_of;
-use crate::no_statement::NoStatement;
 use crate::remaining_words::LineWords;
 use crate::statements::statement_of;
 use crate::verbs::Verb;
@@ -28,22 +25,19 @@ fn prefix_verb(line: &[u8]) -> Option<(Verb, &[u8])>
     Some((verb, rest))
 }
 
-// What was built, if it was built of all words.
+// Adds what was built, and tells whether it did, if it was built of all words.
 #[inline(always)]
-fn built_of_all<T: Drop>(is_done: bool, built: Result<T, NoStatement>) -> Result<T, NoStatement>
-    ensures { IfOk result (λ it. (is_done ≡ true) × (built ≡ Ok it)) }
+fn push_of_all<T: Drop>(items: &mut Vec<T>, is_done: bool, built: T) -> Result<bool, AllocError>
+    ensures adds { IfOk result (λ added. added ≡ true → (is_done ≡ true) ×
+        (items.new.items ≡ items.old.items ++ built ∷ [])) }
+    ensures keeps { IfOk result (λ added. added ≡ false → items.new.items ≡ items.old.items) }
 {
-    if is_done { built } else { Err(NoStatement) }
-}
-
-// The statement of a verb and of all words that are left in its line.
-#[inline(always)]
-fn whole_statement(verb: Verb, number: u32, words: &mut LineWords) -> Result<Statement, NoStatement>
-    requires { IsFresh words.old }
-    ensures { IfOk result (SaysLine verb number words.old words.new) }
-{
-    let built = statement_of(verb, number, words);
-    built_of_all(words.is_done(), built)
+    if is_done {
+        items.push(built)?;
+        Ok(true)
+    } else {
+        Ok(false)
+    }
 }
 
 /// Adds the statement of a line and what it leaves, and tells whether the line says one. Where it says none, or memory
@@ -56,7 +50,7 @@ pub fn take_statement(
     context: &mut Context,
     statements: &mut Vec<Statement>,
 ) -> Result<bool, AllocError>
-    ensures adds { IfOk result (λ taken. taken ≡ true → AddsStatement number line.now (scope_of context.old)
+    ensures adds { IfOk result (λ taken. taken ≡ true → TakesLine number line.now (scope_of context.old)
         (scope_of context.new) statements.old.items statements.new.items) }
     ensures keeps { IfOk result (λ taken. taken ≡ false → (scope_of context.new ≡ scope_of context.old) ×
         (statements.new.items ≡ statements.old.items)) }
@@ -68,11 +62,14 @@ pub fn take_statement(
         return Ok(false);
     }
     let mut words = LineWords::of(alloc, context, rest);
-    let Ok(statement) = whole_statement(verb, number, &mut words) else {
+    let Ok(statement) = statement_of(verb, number, &mut words) else {
         return Ok(false);
     };
+    let is_added = push_of_all(statements, words.is_done(), statement)?;
+    if !is_added {
+        return Ok(false);
+    }
     let added = words.into_added();
-    statements.push(statement)?;
     context.leave(verb, number, added)?;
     Ok(true)
 }

@@ -1,12 +1,12 @@
 // The parser.
 ghost use Rattle.std.specs.Prelude.{◌≡◌, ◌≢◌, ◌≤◌, ◌<◌, ◌+◌, [], ◌∷◌, ◌++◌, List, ℕ, All, IfOk, IfErr, OnOk, MatchBool};
 ghost use Rattle.std.specs.Prelude.{length};
+ghost use Rattle.memchr.specs.Find.{IsFirstByte, is_byte};
 ghost use Rattle.cord_script.specs.Words.{IsIdle, IsSplit};
 ghost use Rattle.cord_syntax.specs.Lines.{line_of};
 ghost use Rattle.cord_script.specs.Script.{Reads, ReadsUpTo, whole};
 ghost use Rattle.cord_script.specs.FirstErrors.{FirstError, HasBadLine};
-ghost use Rattle.cord_script.specs.inner.ContextViews.{scope_of};
-ghost use Rattle.cord_script.specs.inner.Steps.{TakesLine};
+ghost use Rattle.cord_script.specs.inner.LineReading.{scope_of, TakesLine};
 ghost use Rattle.cord_script.specs.declared.TheConstants.{MAX_LINES};
 
 use crate::blocks::open_error;
@@ -15,7 +15,7 @@ use crate::diagnosis::refusal_of;
 use crate::line::take_statement;
 use crate::words::{blanks, head, tail, uncons};
 use crate::{MAX_LINES, MAX_SCRIPT, Refusal, RefusalKind, Script, Statement};
-use memchr::memchr;
+use memchr::memchr_iter;
 use std::alloc::Global;
 
 // No statement stands on the line.
@@ -28,13 +28,21 @@ fn is_idle(line: &[u8]) -> bool
     }
 }
 
+// The place of the first byte 10, by what looks at the nearest bytes first, since most lines are short.
+#[inline(always)]
+fn first_end(bytes: &[u8]) -> Option<usize>
+    ensures { IsFirstByte (is_byte 10) bytes.now result }
+{
+    memchr_iter(b'\n', bytes).next()
+}
+
 // The first line, and what follows its byte 10.
 fn first_line(bytes: &[u8]) -> (&[u8], &[u8])
     requires { bytes.now ≢ [] }
     ensures first { (lines : List (List ℕ)) → IsSplit result.1.now lines → IsSplit bytes.now (result.0.now ∷ lines) }
     ensures shorter { length result.1.now < length bytes.now }
 {
-    match memchr(b'\n', bytes) {
+    match first_end(bytes) {
         Some(end) => (head(bytes, end), tail(bytes, end + 1)),
         None => (bytes, tail(bytes, bytes.len())),
     }

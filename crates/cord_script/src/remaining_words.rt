@@ -10,8 +10,7 @@ ghost use Rattle.cord_script.specs.Formats.{wants_of_pieces};
 ghost use Rattle.cord_script.specs.Forms.{argument_term, argument_want};
 ghost use Rattle.cord_script.specs.Forms.Term.{Target, Operand, Value, Literal, FilePath, Applies, Compares, Formats};
 ghost use Rattle.cord_script.specs.Script.{kind_of};
-ghost use Rattle.cord_script.specs.inner.ContextViews.{scope_of};
-ghost use Rattle.cord_script.specs.inner.LineReading.{IsFresh, PassesWord, GivesTerm, GivesAll};
+ghost use Rattle.cord_script.specs.inner.LineReading.{scope_of, IsFresh, PassesWord, GivesTerm, GivesAll};
 
 use crate::added::{Added, NewName};
 use crate::context::Context;
@@ -43,8 +42,7 @@ pub struct LineWords<'a> {
 
 impl<'a> Model for LineWords<'a> {
     ghost use Rattle.std.specs.Prelude.{option_map};
-    ghost use Rattle.cord_script.specs.inner.ContextViews.{scope_of};
-    ghost use Rattle.cord_script.specs.inner.LineReading.{LineView};
+    ghost use Rattle.cord_script.specs.inner.LineReading.{scope_of, LineView};
 
     ghost Value = { LineView };
 

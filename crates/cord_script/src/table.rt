@@ -40,7 +40,7 @@ pub struct Table {
 impl Model for Table {
     ghost use Rattle.std.specs.Prelude.{List};
     ghost use Rattle.cord_script.specs.declared.table.Known.{Known};
-    ghost use Rattle.cord_script.specs.inner.Tables.{IsTable};
+    ghost use Rattle.cord_script.specs.inner.Reading.{IsTable};
 
     ghost Value = { List Known };
 

@@ -1,6 +1,7 @@
--- The next word of a line, and what bytes of a word stand for, computed as the code does it.
-use Rattle.std.specs.Prelude.{◌<◌, ◌+◌, ◌*◌, ◌-◌, ◌^◌, ◌∷◌, ◌&&◌, ◌==◌, if◌then◌else◌}
-use Rattle.cord_script.specs.inner.Common.{ℕ, List, [], length, All, nat_le, Option, Some, None, is_digit, each, number_after, Word, IsBlank, HasWord}
+-- The next word of a line, what bytes of a word stand for, computed as the code does it, and what holds of a table of names.
+use Rattle.std.specs.Prelude.{◌<◌, ◌+◌, ◌*◌, ◌-◌, ◌^◌, ◌∷◌, ◌&&◌, ◌==◌, if◌then◌else◌, ◌≡◌}
+use Rattle.cord_script.specs.inner.Common.{ℕ, List, [], length, All, nat_le, Option, Some, None, is_digit, each, number_after, Word}
+use Rattle.cord_script.specs.inner.Common.{IsBlank, HasWord, true, slice_get, Known, is_name, kind_of}
 
 -- the value of a hexadecimal digit
 abbrev pub digit_of : ℕ → Option ℕ
@@ -45,3 +46,16 @@ HasNext line (Some (word, rest)) = HasWord line word rest × (length rest < leng
 abbrev pub StartsNoBlank : List ℕ → Type 0
 StartsNoBlank [] = Unit {0}
 StartsNoBlank (c ∷ rest) = ¬ IsBlank c
+
+-- each entry is the first with its name
+abbrev pub AreFirst : List Known → Type 0
+AreFirst names = (i : ℕ) (entry : Known) → slice_get names i ≡ Some entry → kind_of names entry.name ≡ Some entry.kind
+
+-- each entry's name is a name
+abbrev pub AreNames : List Known → Type 0
+AreNames [] = Unit {0}
+AreNames (entry ∷ names) = (is_name entry.name ≡ true) × AreNames names
+
+-- the names of a table
+abbrev pub IsTable : List Known → Type 0
+IsTable names = AreFirst names × AreNames names

@@ -1,6 +1,6 @@
 use Rattle.std.specs.Prelude.{◌≡◌}
 use Rattle.cord_script.proofs.Common.{length, first_pair, scope_of}
-use Rattle.cord_script.specs.inner.Diagnosis.{pair_error}
+use Rattle.cord_script.specs.inner.LineReading.{pair_error}
 use Rattle.cord_script.proofs.errors.earliest_error.Given as goal
 
 abbrev pub invariant-pairs : goal.invariant-pairs

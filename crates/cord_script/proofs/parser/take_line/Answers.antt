@@ -1,11 +1,9 @@
-use Rattle.cord_script.proofs.Common.{Some, None, ◌∙◌, sym, subst, append-nil, arith, HasWrong, scope_of}
+use Rattle.cord_script.proofs.Common.{None, ◌∙◌, sym, subst, append-nil, arith, HasWrong, scope_of}
 use Rattle.cord_script.proofs.Readings.{is_wrong}
 use Rattle.cord_script.proofs.parser.take_line.Goals as goal
 
 pub returns-then-branch-clause-takes : goal.returns-then-branch-clause-takes
-returns-then-branch-clause-takes c =
-    let h = c.in_ok-take_statement.ensures.adds c.if-branch.true in
-    (Some h.0, h.1, h.2)
+returns-then-branch-clause-takes c = c.in_ok-take_statement.ensures.adds c.if-branch.true
 
 pub returns-then-is_idle-clause-takes : goal.returns-then-is_idle-clause-takes
 returns-then-is_idle-clause-takes c =
