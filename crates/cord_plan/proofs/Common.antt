@@ -95,19 +95,15 @@ pub use Rattle.cord_plan.specs.declared.flow.numbering.Numbering.{Numbering}
 pub use Rattle.cord_plan.specs.declared.flow.straight_line.LineLater.{LineLater}
 pub use Rattle.cord_plan.specs.declared.flow.successors.Successors.{Successors}
 pub use Rattle.cord_plan.specs.inner.Choices.{Has, IsChoice, choice_view, expression_in, expression_of, is_spare, nearest, parts_beside}
-pub use Rattle.cord_plan.specs.inner.Choices.{room_left, room_left_by, simple_operands}
-pub use Rattle.cord_plan.specs.inner.ExpressionFacts.{AreFactsOf, HasFacts, IsChoiceOf, IsFacts}
-pub use Rattle.cord_plan.specs.inner.Extensions.{AreExtending}
-pub use Rattle.cord_plan.specs.inner.Fragments.{blank_after, exprs_after, fragment_text, fragments_text}
-pub use Rattle.cord_plan.specs.inner.Liveness.{AllLive, AreLive, ArePartly, ArePaths, IsLive, IsPartly, NoBlocks, at, column_of}
-pub use Rattle.cord_plan.specs.inner.Liveness.{finds, innermost, places, places_at, reports, reports_of, shape_view}
-pub use Rattle.cord_plan.specs.inner.NameSets.{IsBit, Marks, bit, column, room}
-pub use Rattle.cord_plan.specs.inner.Numbering.{IsNumberIn, IsNumbered, IsNumbering, names_of, number_in, number_of}
+pub use Rattle.cord_plan.specs.inner.Choices.{room_left, room_left_by, AreFactsOf, HasFacts, IsChoiceOf, IsFacts, AreLonger, AreUnpaired, operation_expression}
+pub use Rattle.cord_plan.specs.inner.Choices.{IsLongerAt, Takes, is_last, is_longer, is_named}
+pub use Rattle.cord_plan.specs.inner.Choices.{table_view}
+pub use Rattle.cord_plan.specs.inner.Liveness.{simple_operands, AllLive, AreLive, ArePartly, ArePaths, IsLive, IsPartly, NoBlocks, at}
+pub use Rattle.cord_plan.specs.inner.Liveness.{column_of, finds, innermost, places, places_at, reports, reports_of, shape_view, AreFor}
+pub use Rattle.cord_plan.specs.inner.Liveness.{IsRecent, PutsPlaces, blocker, entry_at, entry_of, is_after, is_before, reader, stay}
+pub use Rattle.cord_plan.specs.inner.Liveness.{unless_after, AreBits, AreNextReads, AreReportedFrom, IsLineLater, flow, later_in}
+pub use Rattle.cord_plan.specs.inner.Views.{AreExtending, exprs_after, fragment_text, fragments_text, is_nothing, rest_view}
+pub use Rattle.cord_plan.specs.inner.Numbering.{IsBit, Marks, bit, column, room, IsNumberIn, IsNumbered, IsNumbering, names_of, number_in}
+pub use Rattle.cord_plan.specs.inner.Numbering.{number_of}
 pub use Rattle.cord_plan.specs.inner.Places.{AddsLine, AddsPlaces, AreNumbers, GainsNames, IsLineIn, IsNumber, IsNumberedLine, TakesNumber}
 pub use Rattle.cord_plan.specs.inner.Places.{place_of}
-pub use Rattle.cord_plan.specs.inner.Recent.{AreFor, IsRecent, PutsPlaces, blocker, entry_at, entry_of, is_after, is_before, reader, stay}
-pub use Rattle.cord_plan.specs.inner.Recent.{unless_after}
-pub use Rattle.cord_plan.specs.inner.Steps.{AreExpressions, AreLonger, IsBegun, IsLongerAt, IsReportedLonger, IsStep, Takes, is_last}
-pub use Rattle.cord_plan.specs.inner.Steps.{is_longer, is_named, table_view}
-pub use Rattle.cord_plan.specs.inner.StraightLine.{AreBits, AreNextReads, AreReportedFrom, IsLineLater, flow, later_in}
-pub use Rattle.cord_plan.specs.inner.Views.{is_nothing, rest_view}

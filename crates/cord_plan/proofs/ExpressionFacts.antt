@@ -7,8 +7,7 @@ use Rattle.cord_plan.proofs.Common.{reads_at, target_of, preserves, Has, express
 use Rattle.cord_plan.proofs.Common.{entry_at, entry_of, is_before, reader, Numbering, All, or_assoc, length-append, parts_of, or_cases}
 use Rattle.cord_plan.proofs.Common.{false_from_ne_true}
 use Rattle.cord_plan.specs.Exprs.{names_of}
-use Rattle.cord_plan.specs.inner.Choices.{AreChoices}
-use Rattle.cord_plan.specs.inner.ExpressionFacts.{IsKnown, IsReadIn}
+use Rattle.cord_plan.specs.inner.Choices.{AreChoices, IsKnown}
 use Rattle.std.proofs.lemmas.List.Elements.{All-push}
 use Rattle.cord_plan.specs.inner.Numbering.{names_of as all_names}
 use Rattle.cord_plan.specs.declared.planner.expression_facts.Facts.{Facts}
@@ -34,6 +33,10 @@ has_then (d ∷ es) e x =
     ∙ ap (λ (v : Bool). v || has (names e) x) (sym (has_prefix d (members es) x))))
 
 -- ---- lines that read them
+-- a line from a up to b reads x
+abbrev IsReadIn : List Statement → ℕ → ℕ → List ℕ → Type 0
+IsReadIn s a b x = (p : ℕ) × (a ≤ p) × (p < b) × (reads_at (slice_get s p) x ≡ true)
+
 module _ (s : List Statement) where
   read_more : (x : List ℕ) (a b c d : ℕ) → c ≤ a → b ≤ d → IsReadIn s a b x → IsReadIn s c d x
   read_more x a b c d before after w = (w.0, omega (arith, before, w.1), omega (arith, after, w.2), w.3)

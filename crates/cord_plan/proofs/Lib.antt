@@ -50,6 +50,7 @@ pub mod Joined
 pub mod Spacing
 pub mod ExprViews
 pub mod Begun
+pub mod Measuring
 pub mod OnlyKept
 pub mod Pushed
 pub mod ExpressionFacts

@@ -1,7 +1,7 @@
 -- The members of a `cat`: how their text grows, and that each is smaller than all of them.
-use Rattle.std.specs.Prelude.{◌≡◌, ◌<◌, ◌+◌, ◌∷◌, ◌++◌}
+use Rattle.std.specs.Prelude.{◌≡◌, ◌<◌, ◌+◌, ◌∷◌, ◌++◌, if◌then◌else◌}
 use Rattle.cord_plan.proofs.Common.{ℕ, zero, suc, List, [], length, map, get_or, refl, sym, ap, ◌∙◌, subst, append_assoc, arith, expr}
-use Rattle.cord_plan.proofs.Common.{more_exprs, blank_after, exprs_after, Shared, members_of, shared_view}
+use Rattle.cord_plan.proofs.Common.{more_exprs, exprs_after, is_nothing, Shared, members_of, shared_view}
 use Rattle.cord_plan.specs.Exprs as plain
 use Rattle.cord_plan.specs.PlanText.{exprs}
 use Rattle.cord_plan.proofs.Spacing.{AreSpaced}
@@ -45,6 +45,10 @@ exprs_alone (plain.member e es) = refl
 exprs_blank : (es : plain.Exprs) → exprs_after (32 ∷ []) es ≡ more_exprs es
 exprs_blank plain.nothing = refl
 exprs_blank (plain.member e es) = refl
+
+-- what stands before the members that follow these
+abbrev pub blank_after : plain.Exprs → List ℕ
+blank_after es = if is_nothing es then [] else 32 ∷ []
 
 pub exprs_append : (a b : plain.Exprs) → exprs (plain.append a b) ≡ exprs a ++ exprs_after (blank_after a) b
 exprs_append plain.nothing b = sym (exprs_alone b)

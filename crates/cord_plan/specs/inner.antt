@@ -1,12 +1,5 @@
-pub mod StraightLine
-pub mod Choices
-pub mod Extensions
-pub mod ExpressionFacts
 pub mod Liveness
-pub mod NameSets
+pub mod Choices
+pub mod Views
 pub mod Numbering
 pub mod Places
-pub mod Recent
-pub mod Fragments
-pub mod Steps
-pub mod Views

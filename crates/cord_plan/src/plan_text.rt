@@ -9,7 +9,7 @@ ghost use Rattle.cord_iter.specs.Output.{Writes};
 ghost use Rattle.cord_plan.specs.PlanText.{decimal, expr, spaced, statement, made as made_text};
 ghost use Rattle.cord_script.specs.Tests.{function_word};
 ghost use Rattle.cord_plan.specs.PlanText.{operation as operation_text, text_of_plan};
-ghost use Rattle.cord_plan.specs.inner.Fragments.{fragment_text};
+ghost use Rattle.cord_plan.specs.inner.Views.{fragment_text};
 ghost use Rattle.cord_plan.specs.Views.{expr_view, made_view, operation_view};
 
 use self::expressions::put_expression;

@@ -9,10 +9,10 @@ mod operand_choices;
 mod parts;
 mod unchanged;
 
-ghost use Rattle.std.specs.Prelude.{◌≡◌, ℕ, Bool, List, IfOk, IsOkUnless, map};
-ghost use Rattle.cord_plan.specs.inner.Liveness.{reports, AllReported, IsReported};
-ghost use Rattle.cord_plan.specs.inner.Numbering.{IsNumberIn, IsNumbering};
-ghost use Rattle.cord_plan.specs.inner.Steps.{AreExpressions, table_view};
+ghost use Rattle.std.specs.Prelude.{◌≡◌, ℕ, Bool, List, IfOk, IsOkUnless, if◌then◌else◌, length, map};
+ghost use Rattle.cord_plan.specs.inner.Liveness.{reports, IsReported};
+ghost use Rattle.cord_plan.specs.inner.Numbering.{IsNumberIn};
+ghost use Rattle.cord_plan.specs.inner.Choices.{AreUnpaired, measured};
 ghost use Rattle.cord_plan.specs.Meaning.{IsPlanOf};
 ghost use Rattle.cord_plan.specs.Operands.{target_of};
 ghost use Rattle.cord_syntax.specs.declared.statements.Statement.{Statement};
@@ -20,16 +20,16 @@ ghost use Rattle.cord_plan.specs.Planned as plan;
 ghost use Rattle.cord_plan.specs.Liveness.{IsLater};
 ghost use Rattle.cord_plan.specs.Views.{operation_view};
 
-use self::expressions::{Expressions, expressions_of};
+use self::expressions::{Unpaired, unpaired_operations};
 pub(crate) use self::interning::Interner;
 pub(crate) use self::joining::defining_expression;
 pub(crate) use self::lines::operation_of;
 use crate::flow::Later;
-use crate::plans::is_reported;
-use crate::{Expr, Operation, Plan};
+use crate::{Made, Operation, Plan};
 use cord_io::CordError;
-use cord_script::{Script, Statement};
-use std::alloc::{AllocError, Global};
+use cord_script::Script;
+use core::mem::replace_with;
+use std::alloc::Global;
 
 // Whether a line has a target, whose number this is, that isn't read later.
 fn is_dead(target: Option<usize>, place: usize, later: &Later) -> bool
@@ -42,31 +42,44 @@ fn is_dead(target: Option<usize>, place: usize, later: &Later) -> bool
     }
 }
 
-// The operations of a script's lines, which take these expressions. The operation of a line whose target is dead, or
-// whose expression a later line takes, computes the length alone. Each is matched, since a `?` moves it twice more.
-fn operations_of(
-    alloc: Global,
-    statements: &[Statement],
-    later: &Later,
-    expressions: &mut [Option<Expr>],
-    taken: &[bool],
-) -> Result<Vec<Operation>, AllocError>
-    requires reported { AllReported statements.now later.now }
-    requires numbered { IsNumbering statements.now later.now.numbering }
-    requires expressions { AreExpressions statements.now (reports later.now) (table_view expressions.old) taken.now }
-    ensures { IfOk result (λ os. map operation_view os.items ≡ plan.planned statements.now (reports later.now)) }
+// The operation that computes the length alone where this one builds what an expression makes.
+#[inline(always)]
+fn measured(operation: Operation) -> Operation
+    ensures { operation_view result ≡ measured (operation_view operation) }
 {
-    let mut operations = Vec::with_capacity(alloc, statements.len())?;
-    for (place, statement) in statements.iter().enumerate() {
-        let numbers = later.numbering.line(place);
-        let dead = is_dead(numbers.target, place, later);
-        let paired = is_reported(taken, place);
-        match operation_of(statement, &mut expressions[place], dead, paired) {
-            Ok(operation) => operations.push_reserved(operation),
-            Err(error) => return Err(error),
-        }
+    match operation {
+        Operation::Build { line, target, made } => match made {
+            Made::Joined(expression) => {
+                let made = Made::Joined(expression);
+                Operation::Measure { line, target, made }
+            }
+            made => Operation::Build { line, target, made },
+        },
+        other => other,
     }
-    Ok(operations)
+}
+
+// Lets an operation compute the length alone, where a later line takes its expression.
+#[inline(always)]
+fn measure_if(operation: &mut Operation, is_taken: bool)
+    ensures { operation_view operation.new
+        ≡ (if is_taken then measured (operation_view operation.old) else operation_view operation.old) }
+{
+    if !is_taken {
+        return;
+    }
+    replace_with(operation, (), |made, unit| (measured(made), unit));
+}
+
+// Lets the operations of the lines whose expressions later lines take compute the length alone.
+fn measure_taken(operations: &mut [Operation], taken: &[bool])
+    requires { length operations.old ≡ length taken.now }
+    ensures { (s : List Statement) (later : List ℕ → ℕ → Bool) → AreUnpaired s later (map operation_view operations.old)
+        taken.now → map operation_view operations.new ≡ plan.planned s later }
+{
+    for (place, is_taken) in taken.iter().enumerate() {
+        measure_if(&mut operations[place], *is_taken);
+    }
 }
 
 /// The plan of a script: a name that nobody reads gets a length alone, and what is read once, in the expression of a
@@ -83,11 +96,11 @@ pub fn plan(alloc: Global, script: &Script) -> Result<Plan, CordError>
 {
     let statements = script.statements();
     let later = Later::of(alloc, statements)?;
-    let Expressions {
-        mut expressions,
+    let Unpaired {
+        mut operations,
         taken,
         extending,
-    } = expressions_of(alloc, statements, &later)?;
-    let operations = operations_of(alloc, statements, &later, &mut expressions, &taken)?;
+    } = unpaired_operations(alloc, statements, &later)?;
+    measure_taken(&mut operations, &taken);
     Ok(Plan::of(operations, extending, later.numbering.into_names()))
 }

@@ -6,7 +6,7 @@ ghost use Rattle.std.specs.Str.{bytes_eq};
 ghost use Rattle.cord_meaning.specs.Blocks.{jump};
 ghost use Rattle.cord_iter.specs.Output.{Writes};
 ghost use Rattle.cord_plan.specs.Extending.{Extends};
-ghost use Rattle.cord_plan.specs.inner.Extensions.{AreExtending};
+ghost use Rattle.cord_plan.specs.inner.Views.{AreExtending};
 ghost use Rattle.cord_plan.specs.Verbatim.{KeepsNoOther};
 ghost use Rattle.cord_plan.specs.Meaning.{IsPlanOf, operation_shape};
 ghost use Rattle.cord_plan.specs.Planned as plan;
@@ -45,7 +45,7 @@ impl Model for Plan {
     ghost view = { λ p. p.operations.items };
 
     ghost use Rattle.std.specs.Prelude.{map};
-    ghost use Rattle.cord_plan.specs.inner.Extensions.{HasPlanFacts};
+    ghost use Rattle.cord_plan.specs.inner.Views.{HasPlanFacts};
     ghost use Rattle.cord_plan.specs.Views.{operation_view};
 
     ghost invariant = { λ p. HasPlanFacts p.extending.items (map operation_view p.operations.items) p.names.items };
@@ -59,15 +59,15 @@ fn trivial_operations(alloc: Global, statements: &[Statement]) -> Result<Vec<Ope
     let mut interner = Interner::of(alloc);
     'lines: for statement in statements {
         let mut expression = defining_expression(alloc, &mut interner, statement)?;
-        let operation = operation_of(statement, &mut expression, false, false)?;
+        let operation = operation_of(statement, &mut expression, false)?;
         operations.push_reserved(operation);
     }
     Ok(operations)
 }
 
-/// Whether it is said of a place; of a place past the end it isn't.
+// Whether it is said of a place; of a place past the end it isn't.
 #[inline(always)]
-pub(crate) fn is_reported(reported: &[bool], place: usize) -> bool
+fn is_reported(reported: &[bool], place: usize) -> bool
     ensures { result ≡ get_or reported.now place false }
 {
     match reported.get(place) {

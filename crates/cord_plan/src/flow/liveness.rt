@@ -5,13 +5,10 @@ ghost use Rattle.cord_meaning.specs.Statements.{shape_of};
 ghost use Rattle.cord_syntax.specs.declared.statements.Statement.{Statement};
 ghost use Rattle.cord_plan.specs.Operands.{assigns_at, target_of};
 ghost use Rattle.cord_plan.specs.Liveness.{IsLater, successors, some_of};
-ghost use Rattle.cord_plan.specs.inner.NameSets.{bit, column, room, IsBit};
-ghost use Rattle.cord_plan.specs.inner.Numbering.{IsNumbering, names_of, number_of};
-ghost use Rattle.cord_plan.specs.inner.StraightLine.{flow, later_in};
-ghost use Rattle.cord_plan.specs.inner.Liveness.{places, places_at, ArePaths, at, reports, reports_of};
-ghost use Rattle.cord_plan.specs.inner.Liveness.{IsFound, IsReported, AllReported};
-ghost use Rattle.cord_plan.specs.inner.Liveness.{AreAssigned, ArePartly, AreLive, AllLive, column_of};
-ghost use Rattle.cord_plan.specs.inner.Choices.{simple_operands};
+ghost use Rattle.cord_plan.specs.inner.Numbering.{bit, column, room, IsBit, IsNumbering, names_of, number_of};
+ghost use Rattle.cord_plan.specs.inner.Liveness.{flow, later_in, places, places_at, ArePaths, at, reports, reports_of};
+ghost use Rattle.cord_plan.specs.inner.Liveness.{IsFound, IsReported, AllReported, AreAssigned, ArePartly, AreLive};
+ghost use Rattle.cord_plan.specs.inner.Liveness.{AllLive, column_of, simple_operands};
 
 use crate::flow::name_sets::{GROUP, has_bit, mark_all, mark_target};
 use crate::flow::numbering::Numbering;

@@ -1,11 +1,10 @@
 // Sets of names by words: bit i of a word of a group stands for the name whose number is 128 times the group and i.
 ghost use Rattle.std.specs.Prelude.{◌≡◌, ◌<◌, ℕ, List, Option, Some};
-ghost use Rattle.cord_plan.specs.inner.NameSets.{bit, Marks};
+ghost use Rattle.cord_plan.specs.inner.Numbering.{bit, Marks, names_of, number_in, number_of};
 ghost use Rattle.cord_plan.specs.inner.Places.{AreNumbers};
 ghost use Rattle.cord_plan.specs.Operands.{has, is_this_name};
 ghost use Rattle.std.specs.Str.{bytes_eq};
 ghost use Rattle.cord_plan.specs.declared.flow.numbering.Numbering.{Numbering};
-ghost use Rattle.cord_plan.specs.inner.Numbering.{names_of, number_in, number_of};
 
 /// How many names a word stands for.
 pub(crate) const GROUP: usize = 128;
@@ -30,13 +29,13 @@ fn mark_number(group: usize, number: usize) -> u128
 }
 
 /// The word of the names of these numbers.
-pub(crate) fn mark_all(group: usize, numbers: &[usize]) -> u128
+pub(crate) fn mark_all(group: usize, numbers: &[u32]) -> u128
     ensures { (t : Numbering) (xs : List (List ℕ)) → AreNumbers (names_of t) xs numbers.now →
         Marks t group (λ x. has xs x) result }
 {
     let mut word = 0;
     for number in numbers {
-        word |= mark_number(group, *number);
+        word |= mark_number(group, *number as usize);
     }
     word
 }

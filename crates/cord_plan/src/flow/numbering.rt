@@ -15,32 +15,55 @@ use std::alloc::{AllocError, Global};
 #[derive(Drop)]
 pub(crate) struct Numbering {
     names: Vec<Name>,
-    read: Vec<usize>,
+    read: Vec<u32>,
     lines: Vec<NumberedLine>,
     ghost distinct: { IsDistinct bytes_eq names.items } by { Prim.hlevel props },
 }
 
-/// The number of the name that a line assigns, and where in the list of all the numbers of those stand that it reads.
+/// The number of the name that a line assigns, and where in the list of all the numbers of those stand that it reads: in
+/// 32 bits, since each line of a script keeps one.
 #[derive(Clone, Copy)]
 struct NumberedLine {
-    target: Option<usize>,
-    start: usize,
-    end: usize,
+    target: Option<u32>,
+    start: u32,
+    end: u32,
 }
 
 /// The number of the name that a line assigns, and those of the names that it reads, in their order.
 #[derive(Clone, Copy)]
 pub(crate) struct LineNumbers<'a> {
     pub(crate) target: Option<usize>,
-    pub(crate) read: &'a [usize],
+    pub(crate) read: &'a [u32],
 }
 
 /// The number at an index, where there is one.
 #[inline(always)]
-pub(crate) fn number_at(numbers: &[usize], index: usize) -> Option<usize>
+pub(crate) fn number_at(numbers: &[u32], index: usize) -> Option<usize>
     ensures { result ≡ slice_get numbers.now index }
 {
-    numbers.get(index).copied()
+    widened(numbers.get(index).copied())
+}
+
+// A number in the width of places.
+#[inline(always)]
+fn widened(number: Option<u32>) -> Option<usize>
+    ensures { result ≡ number }
+{
+    match number {
+        None => None,
+        Some(number) => Some(number as usize),
+    }
+}
+
+// A place in 32 bits: no memory holds as many names as need more.
+#[inline(always)]
+fn narrowed(place: usize) -> Result<u32, AllocError>
+    ensures { IfOk result (λ n. n ≡ place) }
+{
+    match u32::try_from(place) {
+        Ok(number) => Ok(number),
+        Err(_) => Err(AllocError),
+    }
 }
 
 // The number of a name, which is taken in where it isn't there.
@@ -68,10 +91,11 @@ fn number_new(names: &mut Vec<Name>, name: &Name) -> Result<usize, AllocError>
 
 // Notes the number of a name.
 #[inline(always)]
-fn add(names: &mut Vec<Name>, read: &mut Vec<usize>, name: &Name) -> Result<(), AllocError>
+fn add(names: &mut Vec<Name>, read: &mut Vec<u32>, name: &Name) -> Result<(), AllocError>
     ensures { OnOk result (AddsPlaces (name.now ∷ []) names.old.items names.new.items read.old.items read.new.items) }
 {
-    let number = number(names, name)?;
+    let place = number(names, name)?;
+    let number = narrowed(place)?;
     read.push(number)?;
     Ok(())
 }
@@ -79,7 +103,7 @@ fn add(names: &mut Vec<Name>, read: &mut Vec<usize>, name: &Name) -> Result<(), 
 // Notes the numbers of the names that a line reads.
 fn add_read(
     names: &mut Vec<Name>,
-    read: &mut Vec<usize>,
+    read: &mut Vec<u32>,
     statement: &Statement,
 ) -> Result<(), AllocError>
     ensures { OnOk result (AddsPlaces (read_by statement.now) names.old.items names.new.items
@@ -96,14 +120,14 @@ fn add_read(
 // Notes the numbers of the names that a line reads, and answers them with that of the name that it assigns.
 fn add_line(
     names: &mut Vec<Name>,
-    read: &mut Vec<usize>,
+    read: &mut Vec<u32>,
     statement: &Statement,
 ) -> Result<NumberedLine, AllocError>
     ensures { IfOk result (AddsLine statement.now names.old.items names.new.items read.old.items read.new.items) }
 {
-    let start = read.len();
+    let start = narrowed(read.len())?;
     add_read(names, read, statement)?;
-    let end = read.len();
+    let end = narrowed(read.len())?;
     match statement.target() {
         None => Ok(NumberedLine {
             target: None,
@@ -111,8 +135,13 @@ fn add_line(
             end,
         }),
         Some(target) => {
-            let target = Some(number(names, target)?);
-            Ok(NumberedLine { target, start, end })
+            let place = number(names, target)?;
+            let number = narrowed(place)?;
+            Ok(NumberedLine {
+                target: Some(number),
+                start,
+                end,
+            })
         }
     }
 }
@@ -161,8 +190,8 @@ impl Numbering {
     {
         let line = self.lines[place];
         LineNumbers {
-            target: line.target,
-            read: &self.read[line.start..line.end],
+            target: widened(line.target),
+            read: &self.read[line.start as usize..line.end as usize],
         }
     }
 }

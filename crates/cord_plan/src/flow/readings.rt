@@ -2,7 +2,7 @@
 ghost use Rattle.std.specs.Prelude.{◌≡◌, [], ◌∷◌, option_map, MatchOption};
 ghost use Rattle.cord_syntax.specs.Readings.{operand_names, read_names};
 ghost use Rattle.cord_plan.specs.Operands.{cord_arguments, reads, assigns};
-ghost use Rattle.cord_plan.specs.inner.Choices.{simple_operands};
+ghost use Rattle.cord_plan.specs.inner.Liveness.{simple_operands};
 
 use cord_script::{Argument, Name, Statement};
 use cord_syntax::{Family, Operands, Reading};

@@ -7,7 +7,7 @@ ghost use Rattle.cord_plan.specs.Operands.{has, is_this_name};
 ghost use Rattle.cord_plan.specs.declared.flow.numbering.Numbering.{Numbering};
 ghost use Rattle.cord_plan.specs.inner.Numbering.{IsNumbered, IsNumberIn, IsNumbering, names_of};
 ghost use Rattle.cord_plan.specs.inner.Places.{AreNumbers};
-ghost use Rattle.cord_plan.specs.inner.Recent.{AreFor, IsRecent, PutsPlaces, entry_at, is_before, is_after, unless_after};
+ghost use Rattle.cord_plan.specs.inner.Liveness.{AreFor, IsRecent, PutsPlaces, entry_at, is_before, is_after, unless_after};
 
 use crate::flow::liveness::Later;
 use crate::flow::numbering::LineNumbers;
@@ -83,12 +83,12 @@ pub(crate) fn put(places: &mut [Option<usize>], number: Option<usize>, entry: Op
 }
 
 /// Notes a place for the names of these numbers.
-pub(crate) fn note_all(places: &mut [Option<usize>], numbers: &[usize], place: usize)
+pub(crate) fn note_all(places: &mut [Option<usize>], numbers: &[u32], place: usize)
     ensures { (t : Numbering) (xs : List (List ℕ)) → AreNumbers (names_of t) xs numbers.now → AreFor t places.old →
         PutsPlaces t (λ x. has xs x) (Some place) places.old places.new }
 {
     for number in numbers {
-        put(places, Some(*number), Some(place));
+        put(places, Some(*number as usize), Some(place));
     }
 }
 

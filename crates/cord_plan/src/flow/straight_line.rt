@@ -1,11 +1,9 @@
 // In a script without blocks, which names of each line are read later than the line.
 ghost use Rattle.std.specs.Prelude.{◌≡◌, ◌<◌, ◌==◌, ◌&&◌, [], ◌∷◌, ℕ, List, Some, IfOk, is_some, slice_get};
 ghost use Rattle.cord_syntax.specs.declared.statements.Statement.{Statement};
-ghost use Rattle.cord_plan.specs.inner.StraightLine.{AreNextReads, AreBits, AreReportedFrom};
-ghost use Rattle.cord_plan.specs.inner.NameSets.{bit};
-ghost use Rattle.cord_plan.specs.inner.Numbering.{IsNumbered, IsNumbering, names_of};
+ghost use Rattle.cord_plan.specs.inner.Liveness.{AreNextReads, AreBits, AreReportedFrom, entry_at, entry_of};
+ghost use Rattle.cord_plan.specs.inner.Numbering.{bit, IsNumbered, IsNumbering, names_of};
 ghost use Rattle.cord_plan.specs.inner.Places.{AreNumbers};
-ghost use Rattle.cord_plan.specs.inner.Recent.{entry_at, entry_of};
 ghost use Rattle.cord_plan.specs.declared.flow.numbering.Numbering.{Numbering};
 
 use crate::flow::numbering::{LineNumbers, Numbering};
@@ -85,7 +83,7 @@ impl NextReads {
     }
 
     // Which of the first of these numbers are those of names that are read before they are assigned.
-    fn operand_bits(&self, numbers: &[usize]) -> u16
+    fn operand_bits(&self, numbers: &[u32]) -> u16
         ensures { (t : Numbering) (xs : List (List ℕ)) → AreNumbers (names_of t) xs numbers.now →
             AreBits (λ x. is_some (entry_of t self.now.read.items x)) xs result }
     {
@@ -94,7 +92,7 @@ impl NextReads {
             if index >= OPERANDS {
                 return bits;
             }
-            bits |= operand_bit(index, self.has(Some(*number)));
+            bits |= operand_bit(index, self.has(Some(*number as usize)));
         }
         bits
     }

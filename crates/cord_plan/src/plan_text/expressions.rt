@@ -1,8 +1,8 @@
 // The text of expressions.
-ghost use Rattle.std.specs.Prelude.{◌≡◌, [], ◌∷◌, ◌++◌, map};
+ghost use Rattle.std.specs.Prelude.{◌≡◌, [], ◌∷◌, ◌++◌, if◌then◌else◌, map};
 ghost use Rattle.cord_iter.specs.Output.{Writes};
 ghost use Rattle.cord_plan.specs.PlanText.{expr, exprs, number};
-ghost use Rattle.cord_plan.specs.inner.Fragments.{blank_after, exprs_after};
+ghost use Rattle.cord_plan.specs.inner.Views.{exprs_after, is_nothing};
 ghost use Rattle.cord_plan.specs.Views.{expr_view, members_of, members_view, shared_view};
 
 use super::fragments::{Fragment, put_fragments, put_text};
@@ -60,7 +60,7 @@ fn put_numbers<'a, W: Sink>(
 
 // What stands before the members that follow these.
 fn blank_after(members: &Members) -> &'static [u8]
-    ensures { result.now ≡ blank_after (members_view members.now) }
+    ensures { result.now ≡ (if is_nothing (members_view members.now) then [] else 32 ∷ []) }
 {
     if members.is_nothing() { b"" } else { b" " }
 }

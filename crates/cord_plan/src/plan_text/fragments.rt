@@ -3,7 +3,7 @@ ghost use Rattle.std.specs.Prelude.{◌≡◌, ◌<◌, flat_map, map};
 ghost use Rattle.cord_iter.specs.Output.{Writes};
 ghost use Rattle.cord_plan.specs.PlanText.{argument, printed_arguments, decimal, hex, number, path_byte, quoted};
 ghost use Rattle.cord_plan.specs.PlanText.{signed_decimal, spaced};
-ghost use Rattle.cord_plan.specs.inner.Fragments.{fragment_text, fragments_text};
+ghost use Rattle.cord_plan.specs.inner.Views.{fragment_text, fragments_text};
 
 use cord_io::{Sink, WriteFault};
 use cord_iter::put_all;

@@ -4,7 +4,7 @@ ghost use Rattle.cord_iter.specs.Output.{Writes};
 ghost use Rattle.cord_syntax.specs.Families.{statement_of};
 ghost use Rattle.cord_plan.specs.PlanText.{called, counted, grows, statement};
 ghost use Rattle.cord_script.specs.Tests.{relation_word};
-ghost use Rattle.cord_plan.specs.inner.Fragments.{fragment_text};
+ghost use Rattle.cord_plan.specs.inner.Views.{fragment_text};
 
 use super::fragments::Fragment::{Count, Name, Number, Plain};
 use super::fragments::{Fragment, put_fragments, put_text, put_words};

@@ -8,8 +8,8 @@ ghost use Rattle.cord_plan.specs.Exprs as plain;
 ghost use Rattle.cord_plan.specs.Exprs.{members, parts};
 ghost use Rattle.cord_plan.specs.Inlined.{expr_of, expr_with};
 ghost use Rattle.cord_plan.specs.Operands.{reads_at};
-ghost use Rattle.cord_plan.specs.inner.Choices.{choice_view, expression_in, room_left};
-ghost use Rattle.cord_plan.specs.inner.ExpressionFacts.{HasFacts, IsFacts, IsChoiceOf, IsKnown, AreFactsOf};
+ghost use Rattle.cord_plan.specs.inner.Choices.{choice_view, expression_in, room_left, HasFacts, IsFacts, IsChoiceOf};
+ghost use Rattle.cord_plan.specs.inner.Choices.{IsKnown, AreFactsOf};
 
 use crate::flow::number_at;
 use crate::planner::operand_choices::{Choice, Line};

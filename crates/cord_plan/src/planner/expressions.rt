@@ -1,29 +1,29 @@
-// The expressions of a script's lines, each over those of the lines before it.
+// The operations of a script's lines, each with its expression over those of the lines before it.
 ghost use Rattle.std.specs.Prelude.{◌≡◌, ◌∷◌, [], List, Option, Some, IfOk, map, slice_get};
 ghost use Rattle.cord_plan.specs.Exprs as plain;
-ghost use Rattle.cord_plan.specs.inner.Choices.{choice_view, AreChoices};
-ghost use Rattle.cord_plan.specs.inner.ExpressionFacts.{IsKnown};
-ghost use Rattle.cord_plan.specs.inner.Liveness.{reports, AllReported};
+ghost use Rattle.cord_plan.specs.inner.Choices.{choice_view, AreChoices, IsKnown, AreUnpaired, AreLonger, IsNext};
+ghost use Rattle.cord_plan.specs.inner.Choices.{IsSimpleLine, Takes, is_longer, table_view};
+ghost use Rattle.cord_plan.specs.inner.Liveness.{reports, AllReported, IsRecent};
 ghost use Rattle.cord_plan.specs.inner.Numbering.{IsNumbered, IsNumbering};
-ghost use Rattle.cord_plan.specs.inner.Recent.{IsRecent};
-ghost use Rattle.cord_plan.specs.inner.Steps.{AreExpressions, AreLonger, IsNext, IsSimpleLine, Takes};
-ghost use Rattle.cord_plan.specs.inner.Steps.{is_longer, table_view};
+ghost use Rattle.cord_plan.specs.Views.{operation_view};
 
-use crate::Expr;
 use crate::flow::{Later, LineNumbers, Recent, operands_of};
 use crate::planner::expression_facts::ExpressionFacts;
 use crate::planner::interning::Interner;
+use crate::planner::is_dead;
 use crate::planner::joining::expression_with;
+use crate::planner::lines::operation_of;
 use crate::planner::operand_choices::{Choice, Line, choose, choose_all, is_last, is_named};
+use crate::{Expr, Operation};
 use cord_script::Statement;
 use cord_syntax::Operands;
 use std::alloc::{AllocError, Global};
 
-/// The expressions of a script's lines, where they are simple ones, for each line whether a later one takes its
-/// expression, and whether it is reported to extend the one before it.
+/// The operations of a script's lines, each as if no later line took its expression, for each line whether a later one
+/// does, and whether it is reported to extend the one before it.
 #[derive(Drop)]
-pub(crate) struct Expressions {
-    pub(crate) expressions: Vec<Option<Expr>>,
+pub(crate) struct Unpaired {
+    pub(crate) operations: Vec<Operation>,
     pub(crate) taken: Vec<bool>,
     pub(crate) extending: Vec<bool>,
 }
@@ -106,27 +106,27 @@ fn expression_over<'a>(
     interner: &mut Interner,
     line: &Line<'a>,
     known: &mut ExpressionFacts,
-    expressions: &'a [Option<Expr>],
+    operations: &'a [Operation],
     taken: &mut [bool],
 ) -> Result<NextExpression, AllocError>
     requires line { IsSimpleLine line.now }
-    requires known { IsKnown line.now.statements.now line.now.place (table_view expressions.now) known.old }
+    requires known { IsKnown line.now.statements.now line.now.place (table_view operations.now) known.old }
     ensures { IfOk result (IsNext line.now.statements.now (reports line.now.recent.now.later.now) line.now.place
-        line.now.statement.now (table_view expressions.now) taken.old taken.new known.new) }
+        line.now.statement.now (table_view operations.now) taken.old taken.new known.new) }
 {
     match line.operands {
         Operands::Nothing => taking(alloc, interner, line, &[], known, taken),
         Operands::One(operand) => {
-            let choice = choose(line, known, operand, expressions, &[]);
+            let choice = choose(line, known, operand, operations, &[]);
             taking(alloc, interner, line, &[choice], known, taken)
         }
         Operands::Two(left, right) => {
-            let first = choose(line, known, left, expressions, &[]);
-            let second = choose(line, known, right, expressions, &[first]);
+            let first = choose(line, known, left, operations, &[]);
+            let second = choose(line, known, right, operations, &[first]);
             taking(alloc, interner, line, &[first, second], known, taken)
         }
         Operands::Listed(operands) => {
-            let choices = choose_all(alloc, line, known, operands, expressions)?;
+            let choices = choose_all(alloc, line, known, operands, operations)?;
             taking(alloc, interner, line, &choices, known, taken)
         }
     }
@@ -142,16 +142,16 @@ fn next_expression(
     numbers: LineNumbers,
     recent: &Recent,
     known: &mut ExpressionFacts,
-    expressions: &[Option<Expr>],
+    operations: &[Operation],
     taken: &mut [bool],
 ) -> Result<NextExpression, AllocError>
     requires here { slice_get statements.now place ≡ Some statement.now }
     requires recent { IsRecent statements.now place recent.now }
     requires numbers { IsNumbered recent.now.later.now.numbering statement.now numbers }
     requires reported { AllReported statements.now recent.now.later.now }
-    requires known { IsKnown statements.now place (table_view expressions.now) known.old }
+    requires known { IsKnown statements.now place (table_view operations.now) known.old }
     ensures { IfOk result (IsNext statements.now (reports recent.now.later.now) place statement.now
-        (table_view expressions.now) taken.old taken.new known.new) }
+        (table_view operations.now) taken.old taken.new known.new) }
 {
     let Some(operands) = operands_of(statement) else {
         return Ok(NextExpression {
@@ -167,22 +167,22 @@ fn next_expression(
         numbers,
         recent,
     };
-    expression_over(alloc, interner, &line, known, expressions, taken)
+    expression_over(alloc, interner, &line, known, operations, taken)
 }
 
-/// The expressions of a script's lines, given what is read later.
-pub(crate) fn expressions_of(
+/// The operations of a script's lines before any is the first of a pair, given what is read later.
+pub(crate) fn unpaired_operations(
     alloc: Global,
     statements: &[Statement],
     later: &Later,
-) -> Result<Expressions, AllocError>
+) -> Result<Unpaired, AllocError>
     requires reported { AllReported statements.now later.now }
     requires numbered { IsNumbering statements.now later.now.numbering }
-    ensures made { IfOk result (λ es. AreExpressions statements.now (reports later.now) (table_view es.expressions.items)
-        es.taken.items) }
-    ensures extending { IfOk result (λ es. AreLonger statements.now (reports later.now) es.extending.items) }
+    ensures made { IfOk result (λ u. AreUnpaired statements.now (reports later.now) (map operation_view u.operations.items)
+        u.taken.items) }
+    ensures extending { IfOk result (λ u. AreLonger statements.now (reports later.now) u.extending.items) }
 {
-    let mut expressions = Vec::with_capacity(alloc, statements.len())?;
+    let mut operations = Vec::with_capacity(alloc, statements.len())?;
     let mut extending = Vec::with_capacity(alloc, statements.len())?;
     let mut taken = vec![in alloc; false; statements.len()]?;
     let mut interner = Interner::of(alloc);
@@ -199,19 +199,23 @@ pub(crate) fn expressions_of(
             numbers,
             &recent,
             &mut known,
-            &expressions,
+            &operations,
             &mut taken,
         )?;
         let NextExpression {
-            expression,
+            mut expression,
             extends,
         } = next;
-        expressions.push_reserved(expression);
+        let dead = is_dead(numbers.target, place, later);
+        match operation_of(statement, &mut expression, dead) {
+            Ok(operation) => operations.push_reserved(operation),
+            Err(error) => return Err(error),
+        }
         extending.push_reserved(extends);
         recent.note(statement, numbers, place);
     }
-    Ok(Expressions {
-        expressions,
+    Ok(Unpaired {
+        operations,
         taken,
         extending,
     })

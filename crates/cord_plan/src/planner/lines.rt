@@ -1,5 +1,5 @@
 // The operation of a line.
-ghost use Rattle.std.specs.Prelude.{◌≡◌, Bool, IfOk, option_map};
+ghost use Rattle.std.specs.Prelude.{◌≡◌, Bool, false, IfOk, option_map};
 ghost use Rattle.cord_syntax.specs.Families.{statement_of};
 ghost use Rattle.cord_plan.specs.Exprs as plain;
 ghost use Rattle.cord_plan.specs.Planned as plan;
@@ -11,21 +11,20 @@ use cord_script::{Arguments, Name, Shared, Statement, Text};
 use cord_syntax::{Composition, Derivation, Family, Origin};
 use std::alloc::AllocError;
 
-/// The operation of a line whose expression is this one, which it takes. A line whose target is dead, or whose expression
-/// a later line takes, computes the length alone.
+/// The operation of a line whose expression is this one, which it takes, as if no later line took it. A line whose target
+/// is dead computes the length alone.
 pub(crate) fn operation_of(
     statement: &Statement,
     expression: &mut Option<Expr>,
     dead: bool,
-    paired: bool,
 ) -> Result<Operation, AllocError>
     ensures made { IfOk result (λ o. operation_view o ≡ plan.operation statement.now
-        (plan.or_nothing (option_map expr_view expression.old)) dead paired) }
+        (plan.or_nothing (option_map expr_view expression.old)) dead false) }
 {
     let line = statement.line();
     match statement.family() {
         Family::Composition(composition) => {
-            operation_of_composition(line, composition, expression, dead, paired)
+            operation_of_composition(line, composition, expression, dead)
         }
         Family::Put { .. } => Ok(Operation::Write {
             line,
@@ -47,11 +46,10 @@ fn operation_of_composition(
     composition: Composition,
     expression: &mut Option<Expr>,
     dead: bool,
-    paired: bool,
 ) -> Result<Operation, AllocError>
     ensures made { IfOk result (λ o. operation_view o
         ≡ plan.operation (statement_of line (Family.Composition composition.entry))
-        (plan.or_nothing (option_map expr_view expression.old)) dead paired) }
+        (plan.or_nothing (option_map expr_view expression.old)) dead false) }
 {
     match composition {
         Composition::Chars { target, .. }
@@ -61,7 +59,7 @@ fn operation_of_composition(
         | Composition::Catc { target, .. }
         | Composition::Substr { target, .. } => {
             let made = Made::Joined(or_nothing(expression.take()));
-            copied_assignment(dead || paired, line, target, made)
+            copied_assignment(dead, line, target, made)
         }
     }
 }

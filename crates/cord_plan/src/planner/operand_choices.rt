@@ -7,19 +7,18 @@ ghost use Rattle.cord_syntax.specs.declared.statements.Statement.{Statement};
 ghost use Rattle.cord_plan.specs.Operands.{assigns, count};
 ghost use Rattle.cord_plan.specs.Inlined.{is_small, expr_of, expr_with};
 ghost use Rattle.cord_plan.specs.inner.Choices.{is_spare, parts_beside, expression_in, room_left, room_left_by, stands};
-ghost use Rattle.cord_plan.specs.inner.Choices.{choice_view, IsChoice, AreChoices};
+ghost use Rattle.cord_plan.specs.inner.Choices.{choice_view, IsChoice, AreChoices, IsFacts, IsKnown, is_cat, is_last};
+ghost use Rattle.cord_plan.specs.inner.Choices.{is_named, operation_expression, table_view, IsSimpleLine};
 ghost use Rattle.cord_syntax.specs.Readings.{operand_names};
-ghost use Rattle.cord_plan.specs.inner.ExpressionFacts.{IsFacts, IsKnown};
 ghost use Rattle.cord_plan.specs.inner.Liveness.{reports};
-ghost use Rattle.cord_plan.specs.inner.Steps.{is_cat, is_last, is_named, table_view, IsSimpleLine};
-ghost use Rattle.cord_plan.specs.Views.{expr_view};
+ghost use Rattle.cord_plan.specs.Views.{expr_view, operation_view};
 ghost use Rattle.std.specs.Str.{bytes_eq};
 
 use crate::flow::{LineNumbers, Recent, assigns, number_at};
 use crate::planner::expression_facts::{ExpressionFacts, Facts};
 use crate::planner::parts::room_left;
 use crate::planner::unchanged::{nearest, stays};
-use crate::{Expr, MAX_EXPR_PARTS};
+use crate::{Expr, MAX_EXPR_PARTS, Made, Operation};
 use cord_script::{Name, Statement};
 use cord_syntax::Operands;
 use std::alloc::{AllocError, Global};
@@ -150,13 +149,28 @@ fn stays_small(line: &Line, chosen: &[Choice], expression: &Expr, facts: Option<
     }
 }
 
-// The expression of the line at a place, where it has one.
-fn expression_at(expressions: &[Option<Expr>], place: usize) -> Option<&Expr>
-    ensures { option_map (λ e. expr_view e.now) result ≡ expression_in (table_view expressions.now) place }
+// The expression of an operation, where it has one.
+#[inline(always)]
+fn expression_of(operation: &Operation) -> Option<&Expr>
+    ensures { option_map (λ e. expr_view e.now) result ≡ operation_expression (operation_view operation.now) }
 {
-    match expressions.get(place) {
-        Some(Some(expression)) => Some(expression),
-        _ => None,
+    match operation {
+        Operation::Build { made, .. } | Operation::Measure { made, .. } => match made {
+            Made::Joined(expression) => Some(expression),
+            _ => None,
+        },
+        Operation::Write { expression, .. } => Some(expression),
+        Operation::Keep(_) => None,
+    }
+}
+
+// The expression of the line at a place, where it has one.
+fn expression_at(operations: &[Operation], place: usize) -> Option<&Expr>
+    ensures { option_map (λ e. expr_view e.now) result ≡ expression_in (table_view operations.now) place }
+{
+    match operations.get(place) {
+        Some(operation) => expression_of(operation),
+        None => None,
     }
 }
 
@@ -179,26 +193,26 @@ fn stands(
 }
 
 /// What stands for the next operand of a line, after those that were chosen for, where the lines before it have these
-/// expressions.
+/// operations.
 pub(crate) fn choose<'a>(
     line: &Line,
     known: &ExpressionFacts,
     operand: &'a Name,
-    expressions: &'a [Option<Expr>],
+    operations: &'a [Operation],
     chosen: &[Choice],
 ) -> Choice<'a>
     requires line { IsSimpleLine line.now }
-    requires known { IsKnown line.now.statements.now line.now.place (table_view expressions.now) known.now }
+    requires known { IsKnown line.now.statements.now line.now.place (table_view operations.now) known.now }
     requires operand { slice_get (operand_names line.now.operands) (length chosen.now) ≡ Some operand.now }
     ensures { IsChoice line.now.statements.now (reports line.now.recent.now.later.now) line.now.place
         line.now.statement.now (operand_names line.now.operands) operand.now
-        (table_view expressions.now)
+        (table_view operations.now)
         (map choice_view chosen.now) (choice_view result) }
 {
     let number = number_at(line.numbers.read, chosen.len());
     match nearest(line, number) {
         None => Choice::Named(operand),
-        Some(source) => match expression_at(expressions, source) {
+        Some(source) => match expression_at(operations, source) {
             None => Choice::Named(operand),
             Some(expression) => {
                 let later = line.recent.later;
@@ -250,24 +264,24 @@ pub(crate) fn is_named(choice: &Choice) -> bool
     }
 }
 
-/// What stands for each operand of a line, where the lines before it have these expressions.
+/// What stands for each operand of a line, where the lines before it have these operations.
 pub(crate) fn choose_all<'a>(
     alloc: Global,
     line: &Line<'a>,
     known: &ExpressionFacts,
     operands: &'a [Name],
-    expressions: &'a [Option<Expr>],
+    operations: &'a [Operation],
 ) -> Result<Vec<Choice<'a>>, AllocError>
-    requires known { IsKnown line.now.statements.now line.now.place (table_view expressions.now) known.now }
+    requires known { IsKnown line.now.statements.now line.now.place (table_view operations.now) known.now }
     requires line { IsSimpleLine line.now }
     requires listed { operand_names line.now.operands ≡ operands.now }
     ensures { IfOk result (λ cs. AreChoices line.now.statements.now
         (reports line.now.recent.now.later.now) line.now.place line.now.statement.now
-        (table_view expressions.now) (map choice_view cs.items)) }
+        (table_view operations.now) (map choice_view cs.items)) }
 {
     let mut chosen = Vec::with_capacity(alloc, operands.len())?;
     for operand in operands {
-        let choice = choose(line, known, operand, expressions, &chosen);
+        let choice = choose(line, known, operand, operations, &chosen);
         chosen.push(choice)?;
     }
     Ok(chosen)

@@ -2,11 +2,9 @@
 ghost use Rattle.std.specs.Prelude.{◌≡◌, ◌++◌, ℕ, List, [], ◌∷◌, true, IfSome, map};
 ghost use Rattle.cord_plan.specs.Exprs as plain;
 ghost use Rattle.cord_plan.specs.Exprs.{names, names_of, number_names};
-ghost use Rattle.cord_plan.specs.inner.Choices.{nearest};
-ghost use Rattle.cord_plan.specs.inner.ExpressionFacts.{IsFacts};
+ghost use Rattle.cord_plan.specs.inner.Choices.{nearest, IsFacts, IsSimpleLine};
 ghost use Rattle.cord_plan.specs.inner.Numbering.{number_of};
-ghost use Rattle.cord_plan.specs.inner.Recent.{stay};
-ghost use Rattle.cord_plan.specs.inner.Steps.{IsSimpleLine};
+ghost use Rattle.cord_plan.specs.inner.Liveness.{stay};
 ghost use Rattle.cord_plan.specs.Views.{expr_view, members_of, members_view, shared_view};
 
 use crate::flow::{entry_at, is_before, unless_after};

@@ -1,5 +1,5 @@
 use Rattle.std.specs.Prelude.{◌≡◌, ◌<◌, ◌∷◌, ◌++◌}
-use Rattle.cord_plan.proofs.Common.{Global, rules, ℕ, List, [], map, sym, ap, subst, ◌∙◌, codes, Number, Run, Members, Rc, blank_after}
+use Rattle.cord_plan.proofs.Common.{Global, rules, ℕ, List, [], map, sym, ap, subst, ◌∙◌, codes, Number, Run, Members, Rc}
 use Rattle.cord_plan.proofs.Common.{exprs_after, expr, expr_view, members_of, members_view, shared_view}
 use Rattle.cord_plan.specs.declared.expressions.Expr.{Expr}
 use Rattle.cord_plan.specs.declared.expressions.Expr.TheVariants.{Cat, Sub}
@@ -7,7 +7,7 @@ use Rattle.cord_plan.specs.PlanText.{exprs, number}
 use Rattle.cord_plan.proofs.ExprViews.{view-Run, view-Cat, view-Sub}
 use Rattle.cord_plan.proofs.Halves.{prefix_falls, halves_None, halves_Some, rest_falls}
 use Rattle.cord_plan.proofs.MemberTexts.{weight, weights, members_text, more_text, member_text, members_spaced, member_there, exprs_alone}
-use Rattle.cord_plan.proofs.MemberTexts.{exprs_append}
+use Rattle.cord_plan.proofs.MemberTexts.{blank_after, exprs_append}
 use Rattle.cord_plan.proofs.Spacing.{two_words, three_words, blank_later, spaced_writes, spaced_broken}
 use Rattle.cord_plan.proofs.Writing.{writes_same, writes_then, writes_stopped, writes_failed}
 use Rattle.cord_plan.proofs.plan_text.expressions.+printed_expressions.Goals as goal

@@ -6,7 +6,7 @@ use Rattle.cord_plan.proofs.planner.expressions.expression_over.Goals as goal
 pub returns-in-Nothing : goal.returns-in-Nothing
 returns-in-Nothing c =
     let line = c.args.line.now in
-    let table = table_view c.args.expressions.now in
+    let table = table_view c.args.operations.now in
     c.taking.ensures table c.requires.known (none_chosen line.statements.now (reports line.recent.now.later.now) table line.place
     line.statement.now (c.requires.line.operands ∙ ap Some (ap operand_names c.in-Nothing.is)))
 
@@ -15,7 +15,7 @@ returns-in-One c =
     let line = c.args.line.now in
     let s = line.statements.now in
     let later = reports line.recent.now.later.now in
-    let table = table_view c.args.expressions.now in
+    let table = table_view c.args.operations.now in
     let x = c.in-One.operand.now in
     let first = choice_view c.choose-choice.result in
     let listed : operand_names line.operands ≡ x ∷ [] = ap operand_names c.in-One.is in
@@ -28,7 +28,7 @@ returns-in-Two c =
     let line = c.args.line.now in
     let s = line.statements.now in
     let later = reports line.recent.now.later.now in
-    let table = table_view c.args.expressions.now in
+    let table = table_view c.args.operations.now in
     let x = c.in-Two.left.now in
     let y = c.in-Two.right.now in
     let first = choice_view c.choose-first.result in
@@ -41,5 +41,5 @@ returns-in-Two c =
 
 pub returns-in_ok-choices-in-Listed : goal.returns-in_ok-choices-in-Listed
 returns-in_ok-choices-in-Listed c =
-    c.taking-in-Listed.ensures (table_view c.args.expressions.now) c.requires.known
+    c.taking-in-Listed.ensures (table_view c.args.operations.now) c.requires.known
     (rw c.deref.ensures.value c.in_ok-choices-in-Listed.ensures)

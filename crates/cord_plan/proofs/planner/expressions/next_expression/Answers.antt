@@ -7,7 +7,7 @@ pub returns-in_default : goal.returns-in_default
 returns-in_default c =
     let none : simple_operands c.args.statement.now ≡ None = search rules in
     next_without c.args.statements.now (reports c.args.recent.now.later.now) c.args.place c.args.statement.now
-    (table_view c.args.expressions.now) c.args.taken.now c.args.known.now _ none refl refl c.requires.known
+    (table_view c.args.operations.now) c.args.taken.now c.args.known.now _ none refl refl c.requires.known
 
 pub expression_over-requires-clause-line : goal.expression_over-requires-clause-line
 expression_over-requires-clause-line c = record {

@@ -8,11 +8,11 @@ use Rattle.cord_plan.proofs.planner.operand_choices.choose.Goals as goal
 use Rattle.cord_plan.proofs.planner.operand_choices.choose.Goals.{else-stands-via-then-stands+else-stays_small, else-stands-via-else-stands}
 
 pub stands-requires-clause-facts : goal.stands-requires-clause-facts
-stands-requires-clause-facts c = c.at-facts.ensures c.args.line.now.statements.now c.args.line.now.place (table_view c.args.expressions.now)
+stands-requires-clause-facts c = c.at-facts.ensures c.args.line.now.statements.now c.args.line.now.place (table_view c.args.operations.now)
     (expr_view c.in-Some-expression_at.expression.now) c.requires.known.facts (sym c.in-Some-expression_at.ensures)
 
 pub stays_small-requires-clause-facts : goal.stays_small-requires-clause-facts
-stays_small-requires-clause-facts c = c.at-facts.ensures c.args.line.now.statements.now c.args.line.now.place (table_view c.args.expressions.now)
+stays_small-requires-clause-facts c = c.at-facts.ensures c.args.line.now.statements.now c.args.line.now.place (table_view c.args.operations.now)
     (expr_view c.in-Some-expression_at.expression.now) c.requires.known.facts (sym c.in-Some-expression_at.ensures)
 
 pub returns-in-None : goal.returns-in-None
@@ -22,7 +22,7 @@ returns-in-None c =
     let number = c.number_at-number.ensures ∙ operand_number line.recent.now.later.now.numbering line.statement.now line.numbers xs
     (length c.args.chosen.now) c.args.operand.now c.requires.line.numbers c.requires.line.operands c.requires.operand in
     far_choice line.statements.now (reports line.recent.now.later.now) line.place line.statement.now xs c.args.operand.now
-    (table_view c.args.expressions.now) (map choice_view c.args.chosen.now) (sym (c.in-None.ensures c.args.operand.now number))
+    (table_view c.args.operations.now) (map choice_view c.args.chosen.now) (sym (c.in-None.ensures c.args.operand.now number))
 
 pub returns-in-None-expression_at : goal.returns-in-None-expression_at
 returns-in-None-expression_at c =
@@ -31,7 +31,7 @@ returns-in-None-expression_at c =
     let number = c.number_at-number.ensures ∙ operand_number line.recent.now.later.now.numbering line.statement.now line.numbers xs
     (length c.args.chosen.now) c.args.operand.now c.requires.line.numbers c.requires.line.operands c.requires.operand in
     bare_choice line.statements.now (reports line.recent.now.later.now) line.place line.statement.now xs c.args.operand.now
-    (table_view c.args.expressions.now) (map choice_view c.args.chosen.now) c.in-Some.source
+    (table_view c.args.operations.now) (map choice_view c.args.chosen.now) c.in-Some.source
     (sym (c.in-Some.ensures c.args.operand.now number)) (sym c.in-None-expression_at.ensures)
 
 pub returns-then-stays_small : goal.returns-then-stays_small
@@ -44,7 +44,7 @@ returns-then-stays_small c =
     let small = is_small (expr_with line.statement.now (map (λ d. expr_of d) (map choice_view c.args.chosen.now)
     ++ r ∷ map (λ y. name y) (drop (length (map choice_view c.args.chosen.now) + 1) xs))) in
     tested_choice line.statements.now (reports line.recent.now.later.now) line.place line.statement.now xs c.args.operand.now
-    (table_view c.args.expressions.now) (map choice_view c.args.chosen.now) c.requires.line.operands c.in-Some.source r
+    (table_view c.args.operations.now) (map choice_view c.args.chosen.now) c.requires.line.operands c.in-Some.source r
     (sym (c.in-Some.ensures c.args.operand.now number)) (sym c.in-Some-expression_at.ensures) true
     (ap (λ (v : Bool). v && small) (sym c.stands.ensures ∙ c.if-stands.true) ∙ (sym c.stays_small.ensures ∙ c.if-stays_small.true))
 
@@ -64,7 +64,7 @@ returns-else-stands c =
       | else-stands-via-else-stands w ↦ ap (λ (v : Bool). v && small) (sym c.stands.ensures ∙ w.if-stands.false)
     ] in
     tested_choice line.statements.now (reports line.recent.now.later.now) line.place line.statement.now xs c.args.operand.now
-    (table_view c.args.expressions.now) (map choice_view c.args.chosen.now) c.requires.line.operands c.in-Some.source r
+    (table_view c.args.operations.now) (map choice_view c.args.chosen.now) c.requires.line.operands c.in-Some.source r
     (sym (c.in-Some.ensures c.args.operand.now number)) (sym c.in-Some-expression_at.ensures) false refused
 
 pub is_operand_later-later-requires-clause-number : goal.is_operand_later-later-requires-clause-number

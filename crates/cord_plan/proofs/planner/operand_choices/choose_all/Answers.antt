@@ -18,12 +18,12 @@ loop-operand-preserved c =
     let i = c.loop-operand.operand-index in
     let x = c.operand-item.result in
     let done = map choice_view c.loop-operand.chosen.items in
-    let made : IsChoice s later b l xs x (table_view c.args.expressions.now) done
+    let made : IsChoice s later b l xs x (table_view c.args.operations.now) done
     (choice_view c.choose-choice.result) =
-    subst (λ (ys : List (List ℕ)). IsChoice s later b l ys x (table_view c.args.expressions.now) done
+    subst (λ (ys : List (List ℕ)). IsChoice s later b l ys x (table_view c.args.operations.now) done
     (choice_view c.choose-choice.result)) c.requires.listed
     (subst (λ (cs : List Choice). IsChoice s later b l (operand_names line.operands) x
-    (table_view c.args.expressions.now)
+    (table_view c.args.operations.now)
     (map choice_view cs) (choice_view c.choose-choice.result)) c.deref.ensures.value c.choose-choice.ensures) in
     let size : length done ≡ i = length-map c.loop-operand.chosen.items choice_view ∙ c.loop-operand.invariant.size in
     let long : length c.push.new.self.items ≡ length c.loop-operand.chosen.items + 1 =

@@ -6,7 +6,7 @@ use Rattle.cord_plan.proofs.planner.operand_choices.choose_all.Given as goal
 abbrev pub invariant-loop-operand : goal.invariant-loop-operand
 invariant-loop-operand l = record {
   size : length l.chosen.items ≡ l.operand-index;
-  so_far : (t : ChoiceTable) → Has (table_view l.expressions) t →
+  so_far : (t : ChoiceTable) → Has (table_view l.operations) t →
       choices l.line.statements.now (reports l.line.recent.now.later.now) t l.line.place l.line.statement.now
       (map choice_view l.chosen.items) (drop l.operand-index l.operands)
       ≡ choices l.line.statements.now (reports l.line.recent.now.later.now) t l.line.place l.line.statement.now [] l.operands;

@@ -2,7 +2,7 @@ use Rattle.std.specs.Prelude.{◌≡◌, ◌+◌, ◌-◌, ◌<◌, ◌&&◌}
 use Rattle.cord_plan.proofs.Common.{true, ℕ, Bool, List, Option, length, Some, sym, ap, ◌∙◌, arith, slice_get, Statement, names, each_from}
 use Rattle.cord_plan.proofs.Common.{preserves, slice_get_within, entry_at, is_before, stay}
 use Rattle.cord_plan.specs.declared.planner.operand_choices.Line.{Line}
-use Rattle.cord_plan.specs.inner.Steps.{IsSimpleLine}
+use Rattle.cord_plan.specs.inner.Choices.{IsSimpleLine}
 use Rattle.cord_plan.proofs.ExpressionFacts.{target_kept}
 use Rattle.cord_plan.proofs.Nearest.{keep_here}
 use Rattle.cord_plan.proofs.Numbers.{IsLineAt, line_there}

@@ -12,6 +12,6 @@ returns c = λ l there.
     slice_get_read lines (length lines) c.args.place line refl (slice_get_within lines c.args.place there.0 there.1) c.index-line.ensures in
     let other = there.1 in
     let same : line ≡ there.0 = cc in
-    line_numbered c.args.self.now l there.0 _ there.2 (ap (λ (z : NumberedLine). z.target) same)
+    line_numbered c.args.self.now l there.0 _ there.2 (c.widened.ensures ∙ ap (λ (z : NumberedLine). z.target) same)
     (ap (λ (ns : List ℕ). take (line.end - line.start) (drop line.start ns)) c.deref.ensures.value
     ∙ ap (λ (z : NumberedLine). take (z.end - z.start) (drop z.start c.args.self.now.read.items)) same)
