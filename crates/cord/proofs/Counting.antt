@@ -9,12 +9,7 @@ use Rattle.std.proofs.lemmas.List.Sums.{count_by_more_no, count_by_more_yes}
 use Rattle.std.proofs.lemmas.Option.{slice_get-get_or}
 use Rattle.memchr.specs.Find.{places_from, places}
 use Rattle.memchr.proofs.lemmas.CallerLemmas.{length-places}
-
--- a place has a byte, and so many before it
-pub record IsNth (x : List ℕ) (byte n place : ℕ) : Type 0 where
-  pub inside : place < length x
-  pub here : slice_get x place ≡ Some byte
-  pub before : count_by (λ own. own == byte) (take place x) ≡ n
+use Rattle.cord.specs.inner.Counts.{IsNth}
 
 module _ (x : List ℕ) (byte : ℕ) where
   abbrev pub is : ℕ → Bool

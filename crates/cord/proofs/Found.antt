@@ -1,7 +1,8 @@
 -- Places that are found, and places past the end.
-use Rattle.std.proofs.Common.{◌≡◌, ◌⊎◌, ℕ, zero, suc, ◌+◌, ◌-◌, ◌<◌, ◌≤◌, List, ◌++◌, length, drop, Option, Some, None, refl, ◌∙◌, sym, ap}
-use Rattle.std.proofs.Common.{subst, ⊎_elim, arith, length-append, length-drop}
+use Rattle.std.proofs.Common.{◌≡◌, inl, inr, ℕ, zero, suc, ◌+◌, ◌-◌, ◌<◌, ◌≤◌, List, ◌++◌, length, drop, Option, Some, None, refl, ◌∙◌, sym, ap}
+use Rattle.std.proofs.Common.{subst, arith, length-append, length-drop}
 use Rattle.std.specs.Prelude.{min, IfSome}
+use Rattle.std.proofs.lemmas.Bool.{cases_lt}
 use Rattle.std.proofs.lemmas.Option.{slice_get_past}
 use Rattle.cord_core.specs.Texts.{first, StandsAt, IsFirst, last}
 use Rattle.cord_core.proofs.Searches.{first_is_least}
@@ -36,26 +37,19 @@ module _ (x : List ℕ) (c : ℕ) where
   last_one_more zero le = rw (slice_get_past x 0 le) refl
   last_one_more (suc e) le = rw (slice_get_past x (suc e) le) refl
 
-  end_or_past : (e : ℕ) → length x ≤ suc e → (length x ≡ suc e) ⊎ (length x ≤ e)
-  end_or_past e le = grind arith
-
   last_past : (e : ℕ) → length x ≤ e → last_before x e c ≡ last_before x (length x) c
   last_past zero le = let none : length x ≡ 0 = omega (arith, le) in ap (λ (n : ℕ). last_before x n c) (sym none)
-  last_past (suc e) le = ⊎_elim (λ (h : length x ≡ suc e). ap (λ (n : ℕ). last_before x n c) (sym h))
-      (λ (h : length x ≤ e). last_one_more e h ∙ last_past e h) (end_or_past e le)
-
-  either_end : (e : ℕ) → (e ≤ length x) ⊎ (length x ≤ e)
-  either_end e = grind arith
+  last_past (suc e) le = elim (cases_lt e (length x)) [
+    | inl h ↦ let same : suc e ≡ length x = omega (arith, h, le) in ap (λ (n : ℕ). last_before x n c) same
+    | inr h ↦ last_one_more e h ∙ last_past e h
+  ]
 
   -- an end past that of the text may be clipped
   pub last_clipped : (e : ℕ) → last_before x (min e (length x)) c ≡ last_before x e c
-  last_clipped e = ⊎_elim inside outside (either_end e)
-    where
-      inside : e ≤ length x → last_before x (min e (length x)) c ≡ last_before x e c
-      inside h = let same : min e (length x) ≡ e = omega (arith, h) in ap (λ (n : ℕ). last_before x n c) same
-
-      outside : length x ≤ e → last_before x (min e (length x)) c ≡ last_before x e c
-      outside h = let same : min e (length x) ≡ length x = omega (arith, h) in ap (λ (n : ℕ). last_before x n c) same ∙ sym (last_past e h)
+  last_clipped e = elim (cases_lt e (length x)) [
+    | inl h ↦ let same : min e (length x) ≡ e = omega (arith, h) in ap (λ (n : ℕ). last_before x n c) same
+    | inr h ↦ let same : min e (length x) ≡ length x = omega (arith, h) in ap (λ (n : ℕ). last_before x n c) same ∙ sym (last_past e h)
+  ]
 
 -- a place before that of the end
 pub below_end : (m e : ℕ) → 0 < m → m ≤ e → (o : Option ℕ) → IfSome o (λ p. p ≤ m - 1) → IfSome o (λ p. p < e)

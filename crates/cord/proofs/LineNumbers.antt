@@ -1,7 +1,7 @@
 -- Which line begins where.
-use Rattle.std.proofs.Common.{◌≡◌, ℕ, ◌+◌, ◌≤◌, Some, None, List, [], ◌∷◌, length, drop, get_or, ap, sym, ◌∙◌, arith, length-drop}
+use Rattle.std.proofs.Common.{◌≡◌, ℕ, ◌≤◌, Some, None, List, [], ◌∷◌, length, drop, get_or, ap, sym, ◌∙◌, arith, length-drop}
 use Rattle.std.specs.Prelude.{slice_get}
-use Rattle.std.proofs.lemmas.List.{drop_all, drop-drop, get_or-drop}
+use Rattle.std.proofs.lemmas.List.{drop_all, get_or-drop}
 use Rattle.std.proofs.lemmas.Option.{slice_get_past, slice_get-get_or}
 use Rattle.cord.specs.Lines.{bare_lines}
 
@@ -11,13 +11,6 @@ pub record IsLineStart (x : List ℕ) (n start : ℕ) : Type 0 where
   pub rest : bare_lines (drop start x) ≡ drop n (bare_lines x)
 
 module _ (x : List ℕ) (n start : ℕ) (i : IsLineStart x n start) where
-  pub next_start : (line : List ℕ) (next : ℕ) → next ≤ length x → bare_lines (drop start x) ≡ line ∷ bare_lines (drop next x) →
-      IsLineStart x (n + 1) next
-  next_start line next le e = record {
-    inside = le;
-    rest = ap (drop 1) (sym e ∙ i.rest) ∙ drop-drop 1 n (bare_lines x);
-  }
-
   -- no line begins at the end
   none_left : length x ≤ start → drop n (bare_lines x) ≡ []
   none_left le = sym i.rest ∙ ap bare_lines (drop_all start x le)
@@ -26,12 +19,6 @@ module _ (x : List ℕ) (n start : ℕ) (i : IsLineStart x n start) where
   are_few le =
       let none : length (drop n (bare_lines x)) ≡ 0 = ap (λ (ys : List (List ℕ)). length ys) (none_left le) in
       omega (arith, none, length-drop n (bare_lines x))
-
-  pub stays_at_end : (m : ℕ) → n ≤ m → length x ≤ start → IsLineStart x m start
-  stays_at_end m less le = record {
-    inside = i.inside;
-    rest = ap bare_lines (drop_all start x le) ∙ sym (drop_all m (bare_lines x) (omega (arith, less, are_few le)));
-  }
 
   pub no_line : length x ≤ start → slice_get (bare_lines x) n ≡ None
   no_line le = slice_get_past (bare_lines x) n (are_few le)

@@ -1,5 +1,5 @@
 -- Which line comes after some ends of lines.
-use Rattle.std.proofs.Common.{◌≡◌, ℕ, zero, suc, ◌+◌, ◌-◌, ◌<◌, Bool, true, false, cond, Some, List, [], ◌∷◌, ◌++◌, length, take, drop, map}
+use Rattle.std.proofs.Common.{◌≡◌, ℕ, zero, suc, ◌+◌, ◌<◌, Bool, true, false, cond, Some, List, [], ◌∷◌, ◌++◌, length, take, drop, map}
 use Rattle.std.proofs.Common.{refl, ap, sym, ◌∙◌, arith, length-append}
 use Rattle.std.proofs.Math.Seq.{drop-cons, drop-append_seam}
 use Rattle.std.specs.Prelude.{◌==◌, slice_get}
@@ -55,19 +55,7 @@ pub record IsBefore (x : List ℕ) (n : ℕ) (chunks : List ℕ) (left start : �
   pub inside : start + length chunks ≡ length x
   pub lines : drop (left + 1) (bare_lines chunks) ≡ drop n (bare_lines x)
 
-pub at_first : (x : List ℕ) (n : ℕ) → 0 < n → IsBefore x n x (n - 1) 0
-at_first x n lt =
-    let e : n - 1 + 1 ≡ n = omega (arith, lt) in
-    record { here = refl; inside = omega arith; lines = ap (λ (m : ℕ). drop m (bare_lines x)) e }
-
 module _ (x : List ℕ) (n : ℕ) (chunks : List ℕ) (left start : ℕ) (is : IsBefore x n chunks left start) where
-  -- no line begins after the last end
-  pub at_last : chunks ≡ [] → bare_lines (drop start x) ≡ drop n (bare_lines x)
-  at_last e =
-      let more : left + 1 ≡ suc left = omega arith in
-      let none : drop (left + 1) (bare_lines chunks) ≡ [] = rw (e, more) refl in
-      ap bare_lines (sym is.here ∙ e) ∙ sym none ∙ is.lines
-
   module _ (c new : List ℕ) (parts : chunks ≡ c ++ new) where
     -- the end isn't in the next chunk
     pub after_chunk : (less : ℕ) → ends c + less ≡ left → IsBefore x n new less (start + length c)

@@ -1,5 +1,6 @@
 -- Texts among the arguments of a print, as cords.
 use Rattle.std.proofs.Common.{◌≡◌, ◌≢◌, ◌<◌, ℕ, List, [], ◌∷◌, ◌++◌, Option, None, length, map, refl, sym, ap, ◌∙◌, subst}
+use Rattle.std.proofs.lemmas.List.{map_push}
 use Rattle.cord_io.specs.Table.{Table, Lengths}
 use Rattle.cord_node.specs.declared.Node.{Node}
 use Rattle.cord_node.specs.Tree.{known}
@@ -31,16 +32,12 @@ fit_both ls [] ys f g = g
 fit_both ls (cords.Num n ∷ xs) ys f g = fit_both ls xs ys f g
 fit_both ls (cords.Cord c ∷ xs) ys f g = (f.0, fit_both ls xs ys f.1 g)
 
-map_both : {A B : Type 0} (f : A → B) (xs : List A) (y : A) → map f (xs ++ y ∷ []) ≡ map f xs ++ f y ∷ []
-map_both f [] y = refl
-map_both f (x ∷ xs) y = ap (λ ys. f x ∷ ys) (map_both f xs y)
-
 -- one argument more
 pub one_made : (args : List TextArg) (arg : TextArg) (xs : List Arg) (x : Arg) → AreArgumentsFor args xs → IsArgumentFor arg x →
     AreArgumentsFor (args ++ arg ∷ []) (xs ++ x ∷ [])
 one_made args arg xs x a i = record {
   fits = λ ls. fit_both ls xs (x ∷ []) (a.fits ls) (i.fits ls);
-  bytes = λ t. map_both (argument_over t) xs x ∙ (rw (a.bytes t, i.bytes t) (sym (map_both piece_argument args arg)));
+  bytes = λ t. map_push (argument_over t) xs x ∙ (rw (a.bytes t, i.bytes t) (sym (map_push piece_argument args arg)));
 }
 
 -- a text as a cord

@@ -1,5 +1,5 @@
 -- A text so many times, by doubling.
-use Rattle.std.proofs.Common.{◌≡◌, ℕ, zero, suc, ◌+◌, ◌-◌, ◌*◌, ◌≤◌, List, ◌++◌, Option, refl, sym, ap, ◌∙◌, arith, append_assoc}
+use Rattle.std.proofs.Common.{◌≡◌, ◌≢◌, ℕ, zero, suc, ◌+◌, ◌-◌, ◌*◌, ◌/◌, ◌%◌, ◌≤◌, List, ◌++◌, Option, refl, sym, ap, ◌∙◌, arith, append_assoc}
 use Rattle.std.proofs.Common.{append-nil}
 use Rattle.std.specs.List.{repeat}
 use Rattle.std.proofs.Math.Nat.{add-mul, one-mul}
@@ -29,19 +29,22 @@ module _ (n half : ℕ) (x h c : Option Node) where
   }
 
 -- how many bytes an even and an odd number of texts have, and either at least
-pub even_len : (n half len : ℕ) → n ≡ half + half → n * len ≡ half * len + half * len
-even_len n half len e = ap (λ (k : ℕ). k * len) e ∙ add-mul half half len
+module _ (n len : ℕ) where
+  pub even_len : n % 2 ≡ 0 → n * len ≡ n / 2 * len + n / 2 * len
+  even_len even = let e : n ≡ n / 2 + n / 2 = omega (arith, even) in ap (λ (k : ℕ). k * len) e ∙ add-mul (n / 2) (n / 2) len
 
-pub odd_len : (n half len : ℕ) → n ≡ half + half + 1 → n * len ≡ half * len + half * len + len
-odd_len n half len e = ap (λ (k : ℕ). k * len) e ∙ add-mul (half + half) 1 len ∙ (rw (add-mul half half len, one-mul len) refl)
+  pub odd_len : n % 2 ≢ 0 → n * len ≡ n / 2 * len + n / 2 * len + len
+  odd_len odd =
+      let e : n ≡ n / 2 + n / 2 + 1 = omega (arith, odd) in
+      ap (λ (k : ℕ). k * len) e ∙ add-mul (n / 2 + n / 2) 1 len ∙ (rw (add-mul (n / 2) (n / 2) len, one-mul len) refl)
 
-pub most_len : (n half len : ℕ) → half + half ≤ n → half * len + half * len ≤ n * len
-most_len n half len le =
-    let rest = n - (half + half) in
-    let e : n ≡ (half + half) + rest = omega (arith, le) in
-    let m : n * len ≡ (half * len + half * len) + rest * len =
-    ap (λ (k : ℕ). k * len) e ∙ add-mul (half + half) rest len ∙ ap (λ (k : ℕ). k + rest * len) (add-mul half half len) in
-    omega (arith, m)
+  pub most_len : n / 2 * len + n / 2 * len ≤ n * len
+  most_len =
+      let rest = n - (n / 2 + n / 2) in
+      let e : n ≡ (n / 2 + n / 2) + rest = omega arith in
+      let m : n * len ≡ (n / 2 * len + n / 2 * len) + rest * len =
+      ap (λ (k : ℕ). k * len) e ∙ add-mul (n / 2 + n / 2) rest len ∙ ap (λ (k : ℕ). k + rest * len) (add-mul (n / 2) (n / 2) len) in
+      omega (arith, m)
 
 -- of a text over no files
 pub repeated_has : (n : ℕ) (x c : Option Node) → IsPlain x → IsRepeated n x c → HasText (repeat n (plain_bytes x)) c

@@ -2,7 +2,7 @@
 use Rattle.std.proofs.Common.{◌≡◌, ℕ, suc, ◌+◌, ◌-◌, ◌<◌, ◌≤◌, List, [], ◌∷◌, ◌++◌, length, take, drop, Some, refl, ◌∙◌, sym, ap, arith}
 use Rattle.std.proofs.Common.{append-nil, length-append, length-drop}
 use Rattle.std.specs.Prelude.{slice_get}
-use Rattle.std.proofs.lemmas.List.{drop_more, take-append-drop}
+use Rattle.std.proofs.lemmas.List.{drop_more, take-append-drop, nil_from_length}
 use Rattle.std.proofs.lemmas.Option.{slice_get_within, get_or_from_slice_get}
 use Rattle.cord_core.proofs.Places.{beyond}
 use Rattle.cord.specs.Places.{BeginsWith, EndsWith}
@@ -30,12 +30,8 @@ ends_there x s le (rest, e) = (
 )
   where
     none : rest ≡ []
-    none = nothing rest (let l : length (drop (length x - length s) x) ≡ length (s ++ rest) = ap (λ (y : List ℕ). length y) e in
+    none = nil_from_length rest (let l : length (drop (length x - length s) x) ≡ length (s ++ rest) = ap (λ (y : List ℕ). length y) e in
         omega (arith, l, le, length-drop (length x - length s) x, length-append s rest))
-      where
-        nothing : (y : List ℕ) → length y ≡ 0 → y ≡ []
-        nothing [] h = refl
-        nothing (b ∷ y) h = absurd (omega (arith, h))
 
     whole : drop (length x - length s) x ≡ s
     whole = e ∙ ap (λ (y : List ℕ). s ++ y) none ∙ append-nil s

@@ -1,7 +1,8 @@
 // How often a byte stands in a text.
-ghost use Rattle.std.specs.Prelude.{◌≡◌, ◌==◌, ◌<◌, Some, length, slice_get, take};
+ghost use Rattle.std.specs.Prelude.{◌≡◌, ◌==◌, ◌<◌, length};
 ghost use Rattle.std.specs.List.{count_by};
 ghost use Rattle.cord.specs.Chunks.{chunk_bytes};
+ghost use Rattle.cord.specs.inner.Counts.{IsNth};
 
 use crate::{Chunk, Text};
 use memchr::memchr_iter;
@@ -65,9 +66,7 @@ fn count_few(bytes: &[u8], byte: u8) -> u8
 /// Where the byte of a chunk stands that is this one and has `n` of them before it.
 pub(crate) fn nth_in(chunk: Chunk<'_>, byte: u8, n: u64) -> u64
     requires { n < count_by (λ own. own == byte) (chunk_bytes chunk) }
-    ensures inside { result < length (chunk_bytes chunk.entry) }
-    ensures here { slice_get (chunk_bytes chunk.entry) result ≡ Some byte }
-    ensures before { count_by (λ own. own == byte) (take result (chunk_bytes chunk.entry)) ≡ n }
+    ensures { IsNth (chunk_bytes chunk.entry) byte n result }
 {
     match chunk {
         Chunk::Bytes(bytes) => nth_of(bytes, byte, n as usize) as u64,
@@ -78,9 +77,7 @@ pub(crate) fn nth_in(chunk: Chunk<'_>, byte: u8, n: u64) -> u64
 // The same of some bytes.
 fn nth_of(bytes: &[u8], byte: u8, n: usize) -> usize
     requires { n < count_by (λ own. own == byte) bytes.now }
-    ensures inside { result < length bytes.now }
-    ensures here { slice_get bytes.now result ≡ Some byte }
-    ensures before { count_by (λ own. own == byte) (take result bytes.now) ≡ n }
+    ensures { IsNth bytes.now byte n result }
 {
     let Some(place) = memchr_iter(byte, bytes).nth(n) else {
         unreachable!()

@@ -1,20 +1,23 @@
 -- A text in one cord or in two.
-use Rattle.std.proofs.Common.{◌≡◌, ℕ, ◌+◌, ◌≤◌, List, ◌++◌, length, sym, subst, arith, length-append}
+use Rattle.std.proofs.Common.{◌≡◌, ℕ, ◌+◌, ◌-◌, ◌≤◌, List, ◌++◌, length, take, drop, sym, subst, ap, ◌∙◌, arith, length-append}
+use Rattle.std.proofs.Math.Seq.{take-append_seam, drop-append_seam}
 use Rattle.std.specs.Prelude.{Option, Some, None}
 use Rattle.cord_io.specs.declared.TheConstants.{MAX_LEN}
 use Rattle.cord_node.specs.declared.Node.{Node}
+use Rattle.cord_node.specs.Tree.{Cell}
 use Rattle.cord_node.specs.PartsFrom.{Part, AreFrom, PartsFrom}
 use Rattle.cord_node.specs.Touched.{touched, AtMostOneMore}
 use Rattle.cord_node.proofs.PartsFromLemmas.{AreFrom-append, AreFrom-append_left, AreFrom-self, AreFrom-trans}
 use Rattle.cord_node.proofs.SpliceLemmas.{AreFrom-both}
 use Rattle.cord_node.proofs.TouchedLemmas.{touched_around}
 use Rattle.cord_node.proofs.TreeLemmas.{len_limit}
-use Rattle.cord_core.specs.Cord.{text, text_len, IsCord}
+use Rattle.cord_core.specs.Cord.{text, text_len, parts_of, IsCord}
 use Rattle.cord_core.proofs.OverLemmas.{length-text}
 use Rattle.cord_core.proofs.Splices.{cut_parts, old_parts, new_parts}
-use Rattle.cord_ec.specs.Gathered.{IsGathered, Gathered}
+use Rattle.cord_ec.specs.Gathered.{Growth, IsGathered, Gathered}
 use Rattle.cord_ec.proofs.Leaves.{gathered_own}
 use Rattle.cord_ec.proofs.MadeLemmas.{are_from}
+use Rattle.cord_edit.specs.inner.Splices.{growth_of, both_of, spliced as spliced_text, IsCordWith, IsSpliced, AreHalves, IsJoined}
 use Rattle.cord_edit.proofs.Parting.{spliced}
 
 -- how long two cords are
@@ -41,26 +44,74 @@ halves_few from until count old all prefix back order p f b =
     let g : length prefix ≤ touched 0 from all = rw z at f in
     omega (arith, g, b, p.no_more, touched_around from until (until + count) all order)
 
--- what is on both sides of a range
-pub parted : (old prefix back : List Part) → length prefix + length back ≤ length old + 1 → AreFrom prefix old → AreFrom back old →
-    Gathered 1 old (prefix ++ back)
-parted old prefix back few f b = record {
-  no_more = omega (arith, few, length-append prefix back);
-  from_there = are_from IsGathered gathered_own (prefix ++ back) old (AreFrom-append prefix back old f b);
-}
+-- two cords that are parted at their seam
+pub at_seam : (prefix back first last : Option Node) (from until : ℕ) → first ≡ prefix → last ≡ back → IsCord prefix → IsCord back →
+    from ≡ until → from ≡ text_len prefix → AreHalves from until (text_len prefix + text_len back) (both_of prefix back) first last
+at_seam prefix back first last from until e f s t same here =
+    let k : length (text prefix) ≡ from = omega (arith, length-text prefix s) in
+    let l : length (text prefix) ≡ until = omega (arith, k) in
+    rw (e, f) (record {
+      prefix = sym (take-append_seam (text prefix) (text back)) ∙ ap (λ (n : ℕ). take n (text prefix ++ text back)) k;
+      back = sym (drop-append_seam (text prefix) (text back)) ∙ ap (λ (n : ℕ). drop n (text prefix ++ text back)) l;
+      prefix_sound = s;
+      back_sound = t;
+      prefix_len = sym here;
+      back_len = omega arith;
+      few = omega (arith, length-append (parts_of prefix) (parts_of back));
+      prefix_from = old_parts (parts_of prefix) (parts_of back);
+      back_from = new_parts (parts_of prefix) (parts_of back);
+    })
 
--- the same with a text in the place of the range
-pub put_between : (old middle prefix back all : List Part) → length prefix + length back ≤ length old + 1 → AreFrom prefix old →
-    AreFrom back old → length all ≤ length prefix + length middle + length back → AreFrom all (prefix ++ middle ++ back) →
-    Gathered 1 (old ++ middle) all
-put_between old middle prefix back all few f b least from = spliced old middle all (omega (arith, few, least))
+-- the parts of a text that is put between two halves
+between : (old middle prefix back all : List Part) → length prefix + length back ≤ length old + 1 → AreFrom prefix old → AreFrom back old →
+    length all ≤ length prefix + length middle + length back → AreFrom all (prefix ++ middle ++ back) → Gathered 1 (old ++ middle) all
+between old middle prefix back all few f b least from = spliced old middle all (omega (arith, few, least))
     (cut_parts old middle prefix back all f b from)
 
-pub put_after : (old middle prefix back longer : List Part) → length prefix + length back ≤ length old + 1 → AreFrom prefix old →
-    AreFrom back old → PartsFrom (prefix ++ middle) longer → Gathered 1 (old ++ middle) (longer ++ back)
-put_after old middle prefix back longer few f b k = put_between old middle prefix back (longer ++ back) few f b
-    (omega (arith, k.no_more, length-append longer back, length-append prefix middle))
-    (AreFrom-both (prefix ++ middle) back longer back k.from_there (AreFrom-self back))
+-- a text is as long as it is seen to be
+pub as_long : {old all : Growth} → old ≡ all → length old.text ≡ length all.text
+as_long e = ap (λ (g : Growth). length g.text) e
+
+module _ {from until len : ℕ} {all : Growth} {prefix back : Option Node} (h : AreHalves from until len all prefix back) where
+  -- how long the halves are together
+  pub halves_len : length (text prefix ++ text back) ≡ from + (len - until)
+  halves_len = counted prefix back h.prefix_sound h.back_sound ∙ omega (arith, h.prefix_len, h.back_len)
+
+  -- the text without what was between them
+  pub halves_text : text prefix ++ text back ≡ take from all.text ++ drop until all.text
+  halves_text = ap (λ (xs : List Cell). xs ++ text back) h.prefix ∙ ap (λ (xs : List Cell). take from all.text ++ xs) h.back
+
+  pub halves_parts : Gathered 1 all.parts (parts_of prefix ++ parts_of back)
+  halves_parts = record {
+    no_more = omega (arith, h.few, length-append (parts_of prefix) (parts_of back));
+    from_there = are_from IsGathered gathered_own (parts_of prefix ++ parts_of back) all.parts
+        (AreFrom-append (parts_of prefix) (parts_of back) all.parts h.prefix_from h.back_from);
+  }
+
+  -- another text between them, in one cord
+  pub put_between : {middle new : Option Node} → IsJoined prefix middle back new → IsCordWith 1 (spliced_text from until (growth_of middle) all) new
+  put_between {middle} {new} j = record {
+    text = j.text ∙ ap (λ (xs : List Cell). xs ++ text middle ++ text back) h.prefix
+        ∙ ap (λ (xs : List Cell). take from all.text ++ text middle ++ xs) h.back;
+    sound = j.sound;
+    gathered = between all.parts (parts_of middle) (parts_of prefix) (parts_of back) (parts_of new) h.few h.prefix_from h.back_from j.few
+        j.from_there;
+  }
+
+  -- or at the end of the first one
+  pub put_after : (middle longer : Option Node) → length all.text ≡ len → text longer ≡ text prefix ++ text middle → IsCord longer →
+      text_len longer ≡ text_len prefix + text_len middle → PartsFrom (parts_of prefix ++ parts_of middle) (parts_of longer) →
+      IsSpliced from until (growth_of middle) (text_len middle) all (both_of longer back)
+  put_after middle longer whole t s n k = record {
+    text = ap (λ (xs : List Cell). xs ++ text back) (t ∙ ap (λ (xs : List Cell). xs ++ text middle) h.prefix)
+        ∙ ap (λ (xs : List Cell). take from all.text ++ text middle ++ xs) h.back;
+    len = counted longer back s h.back_sound ∙ omega (arith, whole, n, h.prefix_len, h.back_len);
+    gathered = between all.parts (parts_of middle) (parts_of prefix) (parts_of back) (parts_of longer ++ parts_of back) h.few h.prefix_from
+        h.back_from
+        (omega (arith, k.no_more, length-append (parts_of longer) (parts_of back), length-append (parts_of prefix) (parts_of middle)))
+        (AreFrom-both (parts_of prefix ++ parts_of middle) (parts_of back) (parts_of longer) (parts_of back) k.from_there
+        (AreFrom-self (parts_of back)));
+  }
 
 -- a text that is put into the first of two
 pub put_in_prefix : (prefix back middle new : List Part) → AtMostOneMore prefix middle new → AreFrom new (prefix ++ middle) →

@@ -2,7 +2,7 @@
 use Rattle.std.proofs.Common.{◌≡◌, ℕ, zero, suc, ◌+◌, ◌-◌, ◌≤◌, List, [], ◌∷◌, ◌++◌, length, map, take, drop, refl, sym, ap, ◌∙◌, arith}
 use Rattle.std.proofs.Common.{append_assoc, append-nil, take-append-drop, length-append}
 use Rattle.std.specs.Prelude.{min, slice_range}
-use Rattle.std.proofs.lemmas.List.{length-take-le, take_at, take_all, drop_at, drop_all, drop-append-le, drop-drop, length-drop, length-map, take_min, drop_min}
+use Rattle.std.proofs.lemmas.List.{length-take-le, take_at, take_all, drop_at, drop_all, drop-append-le, drop-drop, take_min, drop_min}
 use Rattle.std.proofs.lemmas.Slice.{between_is, take-put_mid}
 use borrow.Rule.Slice.PartMut.{put_mid, post_of}
 use Rattle.cord_node.specs.Tree.{Cell, known}
@@ -108,18 +108,6 @@ module _ {X : Type 0} where
   pub around : (xs g : List X) (at : ℕ) → g ≡ [] → take at xs ++ g ++ drop at xs ≡ xs
   around xs g at e = ap (λ (ys : List X). take at xs ++ ys ++ drop at xs) e
       ∙ ap (λ (ys : List X). ys ++ drop at xs) (append-nil (take at xs)) ∙ take-append-drop at xs
-
-  -- the length of a text with a gap
-  pub length_gapped : (xs g : List X) (cut_start cut_end len : ℕ) → length xs ≡ len → cut_start ≤ cut_end → cut_end ≤ len →
-      length (take cut_start xs ++ g ++ drop cut_end xs) ≡ cut_start + length g + (len - cut_end)
-  length_gapped xs g cut_start cut_end len e o i =
-      let f : length (take cut_start xs) ≡ cut_start = length-take-le cut_start xs (omega (arith, e, o, i)) in
-      omega (arith, length-append (take cut_start xs ++ g) (drop cut_end xs), length-append (take cut_start xs) g, f, length-drop cut_end xs, e)
-
--- the same of bytes in the gap of a text of cells
-pub length_around : (xs : List Cell) (g : List ℕ) (cut_start cut_end len : ℕ) → length xs ≡ len → cut_start ≤ cut_end → cut_end ≤ len →
-    length (take cut_start xs ++ map known g ++ drop cut_end xs) ≡ cut_start + length g + (len - cut_end)
-length_around xs g cut_start cut_end len e o i = rw (← length-map g known) (length_gapped xs (map known g) cut_start cut_end len e o i)
 
 -- no bytes in the gap, and some that were added to none
 pub around_nothing : (xs : List Cell) (g : List ℕ) (at : ℕ) → g ≡ [] → take at xs ++ map known g ++ drop at xs ≡ xs

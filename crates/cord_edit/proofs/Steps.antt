@@ -1,7 +1,7 @@
 -- What each edit does to the text of a cord with bytes in the place of a range.
-use Rattle.std.proofs.Common.{◌≡◌, ℕ, ◌+◌, ◌-◌, ◌≤◌, List, [], ◌++◌, length, map, take, drop, refl, sym, ap, ◌∙◌, arith, length-append}
+use Rattle.std.proofs.Common.{◌≡◌, ℕ, ◌+◌, ◌-◌, ◌≤◌, List, [], ◌++◌, length, map, take, drop, refl, sym, ap, ◌∙◌, arith}
 use Rattle.std.specs.Prelude.{min}
-use Rattle.std.proofs.lemmas.List.{length-take, length-take-le, length-drop, length-map, map-append, take-map}
+use Rattle.std.proofs.lemmas.List.{length-take-le, length-map, map-append, take-map}
 use Rattle.cord_node.specs.Tree.{Cell, known}
 use Rattle.cord_core.proofs.Splices.{clamped_text}
 use Rattle.cord_edit.specs.Edits.{edited}
@@ -62,14 +62,3 @@ removed_apart xs all h total from until start count cut limit same none reported
     ap (λ (ys : List ℕ). gapped xs ys from until) none ∙ ap (λ (ys : List Cell). take from ys ++ [] ++ drop until ys) same
     ∙ clamped_text all [] (take from all ++ [] ++ drop until all) start (start + count) limit total from cut until (sym reported) small
     clamp sum until_is refl
-
--- how long an edited text is
-pub length-edited : (start count : ℕ) (ys xs : List Cell) →
-    length (edited start count ys xs) ≡ min start (length xs) + length ys + (length xs - (start + count))
-length-edited start count ys xs = omega (
-  arith,
-  length-append (take start xs ++ ys) (drop (start + count) xs),
-  length-append (take start xs) ys,
-  length-take start xs,
-  length-drop (start + count) xs,
-)

@@ -1,9 +1,9 @@
 // A text in one cord or in two.
 ghost use Rattle.std.specs.Prelude.{◌≡◌, ◌+◌, ◌-◌, ◌≤◌, ◌++◌, length, take, drop, IfOk, IsErr, IsOkUnless};
-ghost use Rattle.cord_node.specs.PartsFrom.{AreFrom};
 ghost use Rattle.cord_core.specs.Cord.{text, text_len, parts_of, IsCord};
 ghost use Rattle.cord_ec.specs.Gathered.{Gathered};
-ghost use Rattle.cord_edit.specs.inner.Splices.{growth_of, spliced, CanSplice, IsCordWith, IsSpliced};
+ghost use Rattle.cord_edit.specs.inner.Splices.{growth_of, both_of, spliced, CanSplice, IsCordWith, IsSpliced};
+ghost use Rattle.cord_edit.specs.inner.Splices.{AreHalves, IsJoined};
 
 use cord_core::Cord;
 use cord_io::{CordError, MAX_DEPTH, MAX_LEN};
@@ -155,17 +155,8 @@ fn halves(
     requires order { from ≤ until }
     requires inside { until ≤ text_len prefix.now + text_len back.now }
     requires within_limit { text_len prefix.now + text_len back.now ≤ MAX_LEN }
-    ensures prefix { IfOk result (λ halves. text halves.0 ≡ take from (text prefix.now ++ text back.now)) }
-    ensures back { IfOk result (λ halves. text halves.1 ≡ drop until (text prefix.now ++ text back.now)) }
-    ensures prefix_sound { IfOk result (λ halves. IsCord halves.0) }
-    ensures back_sound { IfOk result (λ halves. IsCord halves.1) }
-    ensures prefix_len { IfOk result (λ halves. text_len halves.0 ≡ from) }
-    ensures back_len { IfOk result (λ halves. text_len halves.1
-        ≡ text_len prefix.now + text_len back.now - until) }
-    ensures few { IfOk result (λ halves. length (parts_of halves.0) + length (parts_of halves.1)
-        ≤ length (parts_of prefix.now ++ parts_of back.now) + 1) }
-    ensures prefix_from { IfOk result (λ halves. AreFrom (parts_of halves.0) (parts_of prefix.now ++ parts_of back.now)) }
-    ensures back_from { IfOk result (λ halves. AreFrom (parts_of halves.1) (parts_of prefix.now ++ parts_of back.now)) }
+    ensures halves { IfOk result (λ halves. AreHalves from until (text_len prefix.now + text_len back.now)
+        (both_of prefix.now back.now) halves.0 halves.1) }
     ensures refused { IsOkUnless result CordError.NoMemory }
 {
     if from == until && from == prefix.len() {
@@ -182,12 +173,7 @@ fn halves(
 // Three texts, one after the other.
 fn joined(alloc: Global, prefix: &Cord, middle: &Cord, back: &Cord) -> Result<Cord, CordError>
     requires { text_len prefix.now + text_len middle.now + text_len back.now ≤ MAX_LEN }
-    ensures text { IfOk result (λ c. text c ≡ text prefix.now ++ text middle.now ++ text back.now) }
-    ensures sound { IfOk result IsCord }
-    ensures from_there { IfOk result (λ c. AreFrom (parts_of c)
-        (parts_of prefix.now ++ parts_of middle.now ++ parts_of back.now)) }
-    ensures few { IfOk result (λ c. length (parts_of c)
-        ≤ length (parts_of prefix.now) + length (parts_of middle.now) + length (parts_of back.now)) }
+    ensures joined { IfOk result (IsJoined prefix.now middle.now back.now) }
     ensures refused { IsOkUnless result CordError.NoMemory }
 {
     let longer = Cord::cat(alloc, prefix, middle)?;

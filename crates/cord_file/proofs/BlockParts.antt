@@ -1,10 +1,11 @@
 -- Parts of blocks, and what is kept.
 use Rattle.std.proofs.Common.{◌≡◌, ℕ, ◌+◌, ◌*◌, ◌/◌, ◌%◌, ◌<◌, ◌≤◌, ◌⊎◌, inl, inr, List, [], ◌∷◌, ◌++◌, Bool, true, false, length}
-use Rattle.std.proofs.Common.{length-append, take, drop, Contains, Option, Some, None, Result, Ok, Err, refl, sym, ap, subst, ◌∙◌, arith}
+use Rattle.std.proofs.Common.{length-append, take, drop, Contains, Option, Some, None, Result, Ok, Err, get_or, refl, sym, ap, subst, ◌∙◌, arith}
 use Rattle.std.specs.Prelude.{slice_get, is_some, IsSome, IsSomeAnd, OnOk, if◌then◌else◌}
 use Rattle.std.specs.String.{string_bytes}
-use Rattle.std.proofs.lemmas.Option.{slice_get_within}
+use Rattle.std.proofs.lemmas.Option.{slice_get_within, slice_get_read}
 use Rattle.std.proofs.lemmas.List.{drop-take, take-take, drop-drop}
+use Rattle.cord_io.specs.declared.TheConstants.{MAX_LEN}
 use Rattle.cord_io.specs.Device.{FileSystem, bytes_at}
 use Rattle.cord_file.specs.declared.blocks.TheConstants.{BLOCK}
 use Rattle.cord_file.specs.declared.blocks.BlockKey.{BlockKey}
@@ -41,6 +42,26 @@ inside_opened files place P h = at (slice_get files place) refl h where
 -- what holds at a place holds of its file
 pub of_slot : (P : OpenFile → Type 0) {o : Option OpenFile} {file : OpenFile} → o ≡ Some file → IsSomeAnd o P → P file
 of_slot P e h = subst (λ o. IsSomeAnd o P) e h
+
+-- the file that is read at a place of a sound table: what the device reported of it, and what holds there
+pub record IsOpenAt (reported : ℕ → Option (List ℕ × ℕ)) (files : List OpenFile) (place : ℕ) (P : OpenFile → Type 0) (file : OpenFile)
+    : Type 0 where
+  pub here : slice_get files place ≡ Some file
+  pub known : reported file.no.0 ≡ Some (reported_of file)
+  pub short : file.len ≤ MAX_LEN
+  pub holds : P file
+
+pub open_at : {consistent : FileSystem → Type 0} {reported : ℕ → Option (List ℕ × ℕ)} {files : List OpenFile} {blocks : List Slotted}
+    (place : ℕ) (P : OpenFile → Type 0) (file : OpenFile) → IsSound consistent reported files blocks → IsSomeAnd (slice_get files place) P →
+    file ≡ get_or files place file → IsOpenAt reported files place P file
+open_at {files} place P file sound h e =
+    let here : slice_get files place ≡ Some file = slice_get_read files (length files) place file refl (inside_opened files place P h) e in
+    record {
+      here = here;
+      known = sound.handed_out place file here;
+      short = sound.short_enough place file here;
+      holds = of_slot P here h;
+    }
 
 -- what was read as a block of the file that the device reported is one of the file in its place, where the read didn't fail
 pub block_of_reported : {A E : Type 0} (r : Result A E) (file_system : FileSystem) (reported : Option (List ℕ × ℕ)) (slot : Option OpenFile)
@@ -137,27 +158,26 @@ kept_earlier old new files entries earlier all e h =
     let was = all e h in
     record { opened = was.opened; block = λ f here file_system agrees. was.block f here file_system (earlier file_system agrees) }
 
--- the table stays sound where no other file system is consistent, and the numbers that were handed out stay
-pub sound_moved : (old new : FileSystem → Type 0) (before after : ℕ → Option (List ℕ × ℕ)) (files : List OpenFile) (blocks : List Slotted) →
-    ((file_system : FileSystem) → new file_system → old file_system) → ((n : ℕ) → IsSome (before n) → after n ≡ before n) → IsSound old
-    before files blocks →
-    IsSound new after files blocks
-sound_moved old new before after files blocks earlier stays sound = record {
-  handed_out = λ k f h. let was = sound.handed_out k f h in stays f.no.0 (ap is_some was) ∙ was;
-  short_enough = sound.short_enough;
-  there = λ k f h file_system agrees. sound.there k f h file_system (earlier file_system agrees);
-  as_long = λ k f h file_system agrees. sound.as_long k f h file_system (earlier file_system agrees);
-  cached = kept_earlier old new files blocks earlier sound.cached;
-}
+module _ {files : List OpenFile} {blocks : List Slotted} where
+  -- the table stays sound where no other file system is consistent, and the numbers that were handed out stay
+  pub sound_moved : {old new : FileSystem → Type 0} {before after : ℕ → Option (List ℕ × ℕ)} →
+      ((file_system : FileSystem) → new file_system → old file_system) → ((n : ℕ) → IsSome (before n) → after n ≡ before n) →
+      IsSound old before files blocks → IsSound new after files blocks
+  sound_moved {old} {new} earlier stays sound = record {
+    handed_out = λ k f h. let was = sound.handed_out k f h in stays f.no.0 (ap is_some was) ∙ was;
+    short_enough = sound.short_enough;
+    there = λ k f h file_system agrees. sound.there k f h file_system (earlier file_system agrees);
+    as_long = λ k f h file_system agrees. sound.as_long k f h file_system (earlier file_system agrees);
+    cached = kept_earlier old new files blocks earlier sound.cached;
+  }
 
--- and where other blocks are kept
-pub sound_keeping : (consistent : FileSystem → Type 0) (reported : ℕ → Option (List ℕ × ℕ)) (files : List OpenFile) (old new : List Slotted)
-    →
-    AreCached consistent files new → IsSound consistent reported files old → IsSound consistent reported files new
-sound_keeping consistent reported files old new kept sound = record {
-  handed_out = sound.handed_out;
-  short_enough = sound.short_enough;
-  there = sound.there;
-  as_long = sound.as_long;
-  cached = kept;
-}
+  -- and where other blocks are kept
+  pub sound_keeping : {consistent : FileSystem → Type 0} {reported : ℕ → Option (List ℕ × ℕ)} {new : List Slotted} →
+      AreCached consistent files new → IsSound consistent reported files blocks → IsSound consistent reported files new
+  sound_keeping kept sound = record {
+    handed_out = sound.handed_out;
+    short_enough = sound.short_enough;
+    there = sound.there;
+    as_long = sound.as_long;
+    cached = kept;
+  }

@@ -12,17 +12,13 @@ use Rattle.cord_file.specs.Opening.{HoldsFile}
 use Rattle.cord_file.specs.declared.files.OpenFile.{OpenFile}
 use Rattle.cord_file.proofs.Growing.{one_more, id_place}
 
--- one more file
-pub each_more : (P : OpenFile → Type 0) (files : List OpenFile) (file : OpenFile) → Each P files → P file → Each P (files ++ file ∷ [])
-each_more P files file all here k f h = elim (one_more files file f k h) [
-  | inl was ↦ all k f was
-  | inr same ↦ subst P (sym same) here
-]
-
 -- one more file, where memory was found for it
 pub each_pushed : (P : OpenFile → Type 0) (files new : List OpenFile) (file : OpenFile) (b : Bool) →
     new ≡ (if b then files ++ file ∷ [] else files) → Each P files → P file → Each P new
-each_pushed P files new file true e all here = subst (Each P) (sym e) (each_more P files file all here)
+each_pushed P files new file true e all here = subst (Each P) (sym e) (λ k f h. elim (one_more files file f k h) [
+  | inl was ↦ all k f was
+  | inr same ↦ subst P (sym same) here
+])
 each_pushed P files new file false e all here = subst (Each P) (sym e) all
 
 -- the path of one more file

@@ -60,6 +60,14 @@ all_read file_system None start k part same read = read
 all_read file_system (Some file) start k part same read = ap (λ n. take n part) same ∙ take-length part ∙ read
     ∙ ap (λ n. take n (drop start (bytes_at file_system (string_bytes file.path)))) (sym same)
 
+-- all of a range was read
+pub read_to_end : (file_system : FileSystem) (slot : Option OpenFile) (start done : ℕ) (out : List ℕ) → done ≡ length out →
+    IsSomeAnd slot (λ file. take done out ≡ take done (drop start (bytes_at file_system (string_bytes file.path)))) →
+    AreRead file_system slot start out
+read_to_end file_system None start done out all read = read
+read_to_end file_system (Some file) start done out all read = sym (take-length out) ∙ ap (λ n. take n out) (sym all) ∙ read
+    ∙ ap (λ n. take n (drop start (bytes_at file_system (string_bytes file.path)))) all
+
 -- bytes that were read of the file that the device reported are those of the file in its place, where the read didn't fail
 pub read_of_reported : {A E : Type 0} (r : Result A E) (file_system : FileSystem) (reported : Option (List ℕ × ℕ)) (slot : Option OpenFile)
     (file : OpenFile) (start : ℕ) (out : List ℕ) → reported ≡ Some (reported_of file) → slot ≡ Some file →

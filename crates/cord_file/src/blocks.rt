@@ -1,8 +1,9 @@
 // Blocks of files, and those that are kept.
 ghost use Rattle.std.specs.Prelude.{◌≡◌, ◌+◌, ◌*◌, ◌<◌, ◌≤◌, ℕ, List, length, take, drop, true, is_err, Contains, OnOk};
 ghost use Rattle.std.specs.Prelude.{IsSomeAnd, IfSome, ◌⊎◌};
-ghost use Rattle.cord_io.specs.Device.{FileSystem, bytes_at, count_after};
+ghost use Rattle.cord_io.specs.Device.{FileSystem, bytes_at};
 ghost use Rattle.cord_file.specs.Blocks.{HeapBlock, Slotted, IsBlock};
+ghost use Rattle.cord_file.specs.inner.Reading.{LeavesDevice};
 
 use crate::reading::read_range;
 use crate::slots::Slots;
@@ -47,10 +48,7 @@ pub(crate) fn read_block<F: Files>(
     requires reported { IsSomeAnd (F.opened files.old no.0) (λ reported. len ≡ reported.1) }
     requires inside { number * BLOCK < len }
     requires limit { len ≤ MAX_LEN }
-    ensures earlier { (file_system : FileSystem) → F.consistent files.new file_system → F.consistent files.old
-        file_system }
-    ensures opened { (n : ℕ) → F.opened files.new n ≡ F.opened files.old n }
-    ensures count { F.failures files.new ≡ count_after (is_err result) (F.failures files.old) }
+    ensures device { LeavesDevice ⟦<F as Files>⟧ (is_err result) files.old files.new }
     ensures block { (file_system : FileSystem) → F.consistent files.new file_system → OnOk result
         (IsSomeAnd (F.opened files.old no.0) (λ reported. IsBlock len (bytes_at file_system reported.0) number
         block.new)) }

@@ -1,12 +1,12 @@
 // Reading ranges of files.
-ghost use Rattle.std.specs.Prelude.{◌≡◌, ◌+◌, ◌*◌, ◌%◌, ◌<◌, ◌≤◌, ℕ, length, take, drop, is_err, slice_get, vec_len};
+ghost use Rattle.std.specs.Prelude.{◌≡◌, ◌+◌, ◌*◌, ◌%◌, ◌<◌, ◌≤◌, length, take, drop, is_err, slice_get, vec_len};
 ghost use Rattle.std.specs.Prelude.{IfErr};
 ghost use Rattle.std.specs.Prelude.{IfOk, OnOk, IsSomeAnd};
-ghost use Rattle.cord_io.specs.Device.{FileSystem, bytes_at, count_after};
+ghost use Rattle.cord_io.specs.Device.{FileSystem, bytes_at};
 ghost use Rattle.cord_file.specs.inner.Blocks.{AreRead, BeginsWithFile, IsBlockIn};
 ghost use Rattle.cord_file.specs.Faults.{has_failed};
 ghost use Rattle.cord_file.specs.FileCords.{IsReadRefusal};
-ghost use Rattle.cord_file.specs.inner.Reading.{IsInsideFile, LeavesFiles};
+ghost use Rattle.cord_file.specs.inner.Reading.{IsInsideFile, IsInsideBlock, LeavesDevice, LeavesFiles, Reads};
 ghost use Rattle.cord_file.specs.declared.blocks.TheConstants.{BLOCK};
 
 use crate::blocks::{BLOCK, BlockKey, MAX_BLOCKS, copy_kept, keep, read_block, room_for};
@@ -56,10 +56,7 @@ pub(crate) fn read_range<F: Files>(
 ) -> Result<(), ReadFault>
     requires inside { IsSomeAnd (F.opened files.old no.0) (λ reported. start + length out.old ≤ reported.1) }
     requires limit { start + length out.old ≤ MAX_LEN }
-    ensures earlier { (file_system : FileSystem) → F.consistent files.new file_system → F.consistent files.old
-        file_system }
-    ensures opened { (n : ℕ) → F.opened files.new n ≡ F.opened files.old n }
-    ensures count { F.failures files.new ≡ count_after (is_err result) (F.failures files.old) }
+    ensures device { LeavesDevice ⟦<F as Files>⟧ (is_err result) files.old files.new }
     ensures bytes { (file_system : FileSystem) → F.consistent files.new file_system → OnOk result
         (IsSomeAnd (F.opened files.old no.0) (λ reported.
         out.new ≡ take (length out.new) (drop start (bytes_at file_system reported.0)))) }
@@ -82,10 +79,7 @@ fn read_after<F: Files>(
     requires inside { IsSomeAnd (F.opened files.old no.0) (λ reported. done < reported.1) }
     ensures some { IfOk result (λ k. (0 < k) × (done + k ≤ length out.new)) }
     ensures len { length out.new ≡ length out.old }
-    ensures earlier { (file_system : FileSystem) → F.consistent files.new file_system → F.consistent files.old
-        file_system }
-    ensures opened { (n : ℕ) → F.opened files.new n ≡ F.opened files.old n }
-    ensures count { F.failures files.new ≡ count_after (is_err result) (F.failures files.old) }
+    ensures device { LeavesDevice ⟦<F as Files>⟧ (is_err result) files.old files.new }
     ensures bytes { (file_system : FileSystem) → F.consistent files.new file_system →
         BeginsWithFile file_system (F.opened files.old no.0) done out.old →
         IfOk result (λ k. BeginsWithFile file_system (F.opened files.old no.0) (done + k) out.new) }
@@ -124,10 +118,7 @@ fn read_all<F: Files>(
 ) -> Result<(), FileError>
     requires inside { IsSomeAnd (F.opened files.old no.0) (λ reported. len ≤ reported.1) }
     requires empty { vec_len bytes.old ≡ 0 }
-    ensures earlier { (file_system : FileSystem) → F.consistent files.new file_system → F.consistent files.old
-        file_system }
-    ensures opened { (n : ℕ) → F.opened files.new n ≡ F.opened files.old n }
-    ensures count { F.failures files.new ≡ count_after (has_failed result) (F.failures files.old) }
+    ensures device { LeavesDevice ⟦<F as Files>⟧ (has_failed result) files.old files.new }
     ensures len { OnOk result (vec_len bytes.new ≡ len) }
     ensures bytes { (file_system : FileSystem) → F.consistent files.new file_system →
         OnOk result (BeginsWithFile file_system (F.opened files.old no.0) len bytes.new.items) }
@@ -185,9 +176,7 @@ impl<F: Files> Sources<F> {
         out: &mut [u8],
     ) -> Result<(), ReadFault>
         requires inside { IsInsideFile (slice_get self.old.open_files.items place) start (length out.old) }
-        ensures files { LeavesFiles (is_err result) self.old self.new }
-        ensures bytes { (file_system : FileSystem) → F.consistent (device_in self.new) file_system →
-            OnOk result (AreRead file_system (slice_get self.old.open_files.items place) start out.new) }
+        ensures { Reads place start self.old self.new out.new result }
     {
         let left = BLOCK - (start % BLOCK as u64) as usize;
         if !out.is_empty() && out.len() <= left {
@@ -203,9 +192,7 @@ impl<F: Files> Sources<F> {
     #[inline(never)]
     fn read_blocks(&mut self, place: usize, start: u64, out: &mut [u8]) -> Result<(), ReadFault>
         requires inside { IsInsideFile (slice_get self.old.open_files.items place) start (length out.old) }
-        ensures files { LeavesFiles (is_err result) self.old self.new }
-        ensures bytes { (file_system : FileSystem) → F.consistent (device_in self.new) file_system →
-            OnOk result (AreRead file_system (slice_get self.old.open_files.items place) start out.new) }
+        ensures { Reads place start self.old self.new out.new result }
     {
         let way = self.way_of(place, start, out.len());
         let mut done = 0;
@@ -227,9 +214,7 @@ impl<F: Files> Sources<F> {
         out: &mut [u8],
     ) -> Result<(), ReadFault>
         requires inside { IsInsideFile (slice_get self.old.open_files.items place) start (length out.old) }
-        ensures files { LeavesFiles (is_err result) self.old self.new }
-        ensures bytes { (file_system : FileSystem) → F.consistent (device_in self.new) file_system →
-            OnOk result (AreRead file_system (slice_get self.old.open_files.items place) start out.new) }
+        ensures { Reads place start self.old self.new out.new result }
     {
         let file = &self.open_files[place];
         read_range(&mut self.files, file.no, start, out)
@@ -246,9 +231,7 @@ impl<F: Files> Sources<F> {
         requires inside { IsInsideFile (slice_get self.old.open_files.items place) start (length out.old) }
         requires some { 0 < length out.old }
         requires part { length out.old ≤ BLOCK → start % BLOCK + length out.old ≤ BLOCK }
-        ensures files { LeavesFiles (is_err result) self.old self.new }
-        ensures bytes { (file_system : FileSystem) → F.consistent (device_in self.new) file_system →
-            OnOk result (AreRead file_system (slice_get self.old.open_files.items place) start out.new) }
+        ensures { Reads place start self.old self.new out.new result }
     {
         if BLOCK < out.len() {
             return self.read_past_blocks(place, start, out);
@@ -265,12 +248,8 @@ impl<F: Files> Sources<F> {
     // Fills `out` with bytes of one block of an opened file: of the block that is kept, or else of one that is read
     // and then kept.
     fn read_part(&mut self, place: usize, start: u64, out: &mut [u8]) -> Result<(), ReadFault>
-        requires inside { IsInsideFile (slice_get self.old.open_files.items place) start (length out.old) }
-        requires some { 0 < length out.old }
-        requires part { start % BLOCK + length out.old ≤ BLOCK }
-        ensures files { LeavesFiles (is_err result) self.old self.new }
-        ensures bytes { (file_system : FileSystem) → F.consistent (device_in self.new) file_system →
-            OnOk result (AreRead file_system (slice_get self.old.open_files.items place) start out.new) }
+        requires { IsInsideBlock (slice_get self.old.open_files.items place) start (length out.old) }
+        ensures { Reads place start self.old self.new out.new result }
     {
         let number = start / BLOCK as u64;
         let from = (start % BLOCK as u64) as usize;
@@ -283,12 +262,8 @@ impl<F: Files> Sources<F> {
 
     // Fills `out` with bytes of one block of an opened file, which is read and then kept.
     fn read_new(&mut self, place: usize, start: u64, out: &mut [u8]) -> Result<(), ReadFault>
-        requires inside { IsInsideFile (slice_get self.old.open_files.items place) start (length out.old) }
-        requires some { 0 < length out.old }
-        requires part { start % BLOCK + length out.old ≤ BLOCK }
-        ensures files { LeavesFiles (is_err result) self.old self.new }
-        ensures bytes { (file_system : FileSystem) → F.consistent (device_in self.new) file_system →
-            OnOk result (AreRead file_system (slice_get self.old.open_files.items place) start out.new) }
+        requires { IsInsideBlock (slice_get self.old.open_files.items place) start (length out.old) }
+        ensures { Reads place start self.old self.new out.new result }
     {
         let number = start / BLOCK as u64;
         let from = (start % BLOCK as u64) as usize;
@@ -304,12 +279,8 @@ impl<F: Files> Sources<F> {
 
     // Fills `out` with bytes of one block of an opened file, which is read and not kept.
     fn read_unkept(&mut self, place: usize, start: u64, out: &mut [u8]) -> Result<(), ReadFault>
-        requires inside { IsInsideFile (slice_get self.old.open_files.items place) start (length out.old) }
-        requires some { 0 < length out.old }
-        requires part { start % BLOCK + length out.old ≤ BLOCK }
-        ensures files { LeavesFiles (is_err result) self.old self.new }
-        ensures bytes { (file_system : FileSystem) → F.consistent (device_in self.new) file_system →
-            OnOk result (AreRead file_system (slice_get self.old.open_files.items place) start out.new) }
+        requires { IsInsideBlock (slice_get self.old.open_files.items place) start (length out.old) }
+        ensures { Reads place start self.old self.new out.new result }
     {
         let from = (start % BLOCK as u64) as usize;
         let mut block = [0; BLOCK];

@@ -1,8 +1,8 @@
 -- Walks from a place down, by positions.
-use Rattle.std.proofs.Common.{◌≡◌, ℕ, ◌+◌, ◌-◌, ◌<◌, ◌≤◌, Bool, true, false, List, [], ◌∷◌, ◌++◌, length, take, drop, get_or, None, Some}
-use Rattle.std.proofs.Common.{refl, sym, ◌∙◌, ap, subst, arith, zero, suc}
+use Rattle.std.proofs.Common.{◌≡◌, ℕ, ◌+◌, ◌-◌, ◌<◌, ◌≤◌, Bool, false, List, [], ◌∷◌, ◌++◌, length, take, drop, get_or, None, Some}
+use Rattle.std.proofs.Common.{sym, ◌∙◌, ap, arith, zero, suc}
 use Rattle.std.specs.Prelude.{Option, reverse, slice_get, unwrap_or}
-use Rattle.std.proofs.lemmas.List.{take_more, get_or-reverse, get_or-take, length-reverse, length-take-le, take-append-drop, take_all}
+use Rattle.std.proofs.lemmas.List.{take_more, get_or-reverse, get_or-take, length-reverse, length-take-le, take-append-drop, take_all, nil_from_length}
 use Rattle.std.proofs.lemmas.Option.{unwrap_or-slice_get}
 use Rattle.cord_io.specs.Table.{Table, Lengths, HasLengths}
 use Rattle.cord_node.specs.declared.Node.{Node}
@@ -11,7 +11,7 @@ use Rattle.cord_core.proofs.OverLemmas.{length-bytes, CordFits-reported}
 use Rattle.cord_pos.specs.Position.{prev_index, IsByteAt}
 use Rattle.cord_iter.specs.Walk.{walk, WalkedPrefix}
 use Rattle.cord_iter.specs.inner.Walk.{places_up_to}
-use Rattle.cord_iter.proofs.Walks.{walk_on, walk_one, walk_stop_in}
+use Rattle.cord_iter.proofs.Walks.{walk_on, walk_one}
 
 -- a cord that fits has as long a text as it stores
 pub cord_len : (ls : Lengths) (t : Table) (c : Option Node) → HasLengths ls t → IsCord c → CordFitsIn ls c →
@@ -54,26 +54,14 @@ next_at t c i (Some (suc j)) b inside below e =
     rw (m, n) (next_down (bytes_of t c) i (suc j) b inside h e)
 
 -- one byte further down
-pub back_on : {S : Type 0} (step : S → ℕ → S × Bool) (s a d : S) (t : Table) (c : Option Node) (i : ℕ) (index : Option ℕ) (b : ℕ) →
-    length (bytes_of t c) ≡ text_len c → i < text_len c → places_up_to index ≤ i + 1 → IsByteAt t c index b → (d, false) ≡ step a b →
-    walk step s (take (i + 1 - places_up_to index) (downward (bytes_of t c) i)) ≡ (a, false) →
-    walk step s (take (i + 1 - places_up_to (prev_index index)) (downward (bytes_of t c) i)) ≡ (d, false)
-back_on step s a d t c i index b len inside below byte e h =
+pub back_next : {S : Type 0} (step : S → ℕ → S × Bool) (s a d : S) (stop : Bool) (t : Table) (c : Option Node) (i : ℕ) (index : Option ℕ)
+    (b : ℕ) → length (bytes_of t c) ≡ text_len c → i < text_len c → places_up_to index ≤ i + 1 → IsByteAt t c index b →
+    (d, stop) ≡ step a b → walk step s (take (i + 1 - places_up_to index) (downward (bytes_of t c) i)) ≡ (a, false) →
+    walk step s (take (i + 1 - places_up_to (prev_index index)) (downward (bytes_of t c) i)) ≡ (d, stop)
+back_next step s a d stop t c i index b len inside below byte e h =
     let k : i < length (bytes_of t c) = rw len inside in
     ap (λ (l : List ℕ). walk step s l) (next_at t c i index b k below byte)
-    ∙ walk_on step s a (d, false) (take (i + 1 - places_up_to index) (downward (bytes_of t c) i)) (b ∷ []) h (walk_one step a d false b e)
-
--- a stop at one
-pub back_stop : {S : Type 0} (step : S → ℕ → S × Bool) (s a d : S) (t : Table) (c : Option Node) (i : ℕ) (index : Option ℕ) (b : ℕ) →
-    length (bytes_of t c) ≡ text_len c → i < text_len c → places_up_to index ≤ i + 1 → IsByteAt t c index b → (d, true) ≡ step a b →
-    walk step s (take (i + 1 - places_up_to index) (downward (bytes_of t c) i)) ≡ (a, false) →
-    walk step s (downward (bytes_of t c) i) ≡ (d, true)
-back_stop step s a d t c i index b len inside below byte e h =
-    let k : i < length (bytes_of t c) = rw len inside in
-    let whole = downward (bytes_of t c) i in
-    let n = i + 1 - places_up_to (prev_index index) in
-    walk_stop_in step s d whole n (ap (λ (l : List ℕ). walk step s l) (next_at t c i index b k below byte)
-    ∙ walk_on step s a (d, true) (take (i + 1 - places_up_to index) whole) (b ∷ []) h (walk_one step a d true b e))
+    ∙ walk_on step s a (d, stop) (take (i + 1 - places_up_to index) (downward (bytes_of t c) i)) (b ∷ []) h (walk_one step a d stop b e)
 
 -- the next one could not be read
 pub back_prefix : {S : Type 0} (step : S → ℕ → S × Bool) (s a : S) (t : Table) (c : Option Node) (i n : ℕ) →
@@ -91,25 +79,12 @@ left_prev None n h = h
 left_prev (Some zero) n h = omega arith
 left_prev (Some (suc j)) n h = omega arith
 
-none_left : (xs : List ℕ) → length xs ≡ 0 → xs ≡ []
-none_left [] h = refl
-none_left (x ∷ xs) h = absurd (omega arith)
-
 -- a walk over the empty cord
 pub empty_walk : {S : Type 0} (step : S → ℕ → S × Bool) (s : S) (t : Table) (c : Option Node) → length (bytes_of t c) ≡ text_len c →
     text_len c ≡ 0 → walk step s (reverse (bytes_of t c)) ≡ (s, false)
-empty_walk step s t c len e = ap (λ (l : List ℕ). walk step s (reverse l)) (none_left (bytes_of t c) (len ∙ e))
+empty_walk step s t c len e = ap (λ (l : List ℕ). walk step s (reverse l)) (nil_from_length (bytes_of t c) (len ∙ e))
 
--- from the last place down
-whole_down : (xs : List ℕ) (n : ℕ) → length xs ≡ n → 0 < n → reverse (take (n - 1 + 1) xs) ≡ reverse xs
-whole_down xs n h k = ap (λ (l : List ℕ). reverse l) (take_all (n - 1 + 1) xs (omega arith))
-
-pub all_walk : {S : Type 0} (step : S → ℕ → S × Bool) (s : S) (p : S × Bool) (t : Table) (c : Option Node) (n : ℕ) →
-    length (bytes_of t c) ≡ text_len c → n ≡ text_len c → 0 < n → walk step s (reverse (take (n - 1 + 1) (bytes_of t c))) ≡ p →
-    walk step s (reverse (bytes_of t c)) ≡ p
-all_walk step s p t c n len e k h = rw (← whole_down (bytes_of t c) n (len ∙ sym e) k) h
-
-pub all_prefix : {S : Type 0} (step : S → ℕ → S × Bool) (s a : S) (t : Table) (c : Option Node) (n : ℕ) →
-    length (bytes_of t c) ≡ text_len c → n ≡ text_len c → 0 < n → WalkedPrefix step s a (reverse (take (n - 1 + 1) (bytes_of t c))) →
-    WalkedPrefix step s a (reverse (bytes_of t c))
-all_prefix step s a t c n len e k h = subst (WalkedPrefix step s a) (whole_down (bytes_of t c) n (len ∙ sym e) k) h
+-- the bytes from the last place down
+pub all_down : (t : Table) (c : Option Node) (n : ℕ) → length (bytes_of t c) ≡ text_len c → n ≡ text_len c → 0 < n →
+    reverse (take (n - 1 + 1) (bytes_of t c)) ≡ reverse (bytes_of t c)
+all_down t c n len e some = ap (λ (l : List ℕ). reverse l) (take_all (n - 1 + 1) (bytes_of t c) (omega (arith, len, e, some)))

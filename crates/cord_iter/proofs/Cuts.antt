@@ -1,5 +1,5 @@
 -- Walks over a text in pieces, over the tables of a source.
-use Rattle.std.proofs.Common.{◌≡◌, ℕ, ◌-◌, ◌≤◌, Bool, true, false, List, [], ◌++◌, length, drop, Ok, Err, Some, refl, sym, ◌∙◌, ap, subst, arith}
+use Rattle.std.proofs.Common.{◌≡◌, ℕ, ◌+◌, ◌-◌, ◌≤◌, Bool, true, false, List, [], ◌++◌, length, take, drop, Ok, Err, Some, refl, sym, ◌∙◌, ap, subst, arith}
 use Rattle.std.specs.Prelude.{IsErr}
 use Rattle.std.specs.Result.{IfOk, OnErr}
 use Rattle.std.specs.declared.result.Result.{Result}
@@ -22,7 +22,7 @@ use Rattle.cord_node.proofs.Ranges.{drop-append_right}
 use Rattle.cord_core.proofs.OverLemmas.{length-bytes}
 use Rattle.cord_iter.specs.Walk.{walk, WalkedPrefix}
 use Rattle.cord_iter.specs.inner.Walk.{Walks}
-use Rattle.cord_iter.proofs.Walks.{walk_on, walk_stop, prefix_first, prefix_second}
+use Rattle.cord_iter.proofs.Walks.{walk_on, walk_stop, prefix_first, prefix_second, range_next, range_split}
 
 -- the text of a concatenation from a place in its left side on, and from one in its right side on
 pub record IsCut (t : Table) (l r n : Node) (from : ℕ) : Type 0 where
@@ -123,3 +123,28 @@ module _ {S V E : Type 0} {s : Ghosts S} {step : V → ℕ → V × Bool} where
           earlier = λ file_system agrees. w.source.earlier file_system (v.source.earlier file_system agrees);
         };
       }
+
+  -- a range of a source: what was walked over of it, and the next piece
+  module _ (source : Table → List ℕ) (start done : ℕ) where
+    pub next_piece : (count : ℕ) {old mid new : S} {a m b : V} {r : Result Bool E} →
+        Walks {E = E} s step (λ t. take done (drop start (source t))) old mid a m (Ok false) →
+        Walks s step (λ t. take count (drop (start + done) (source t))) mid new m b r →
+        Walks s step (λ t. take (done + count) (drop start (source t))) old new a b r
+    next_piece count {old} w v = then_second _ (λ (t : Table). take done (drop start (source t)))
+        (λ (t : Table). take count (drop (start + done) (source t)))
+        (λ file_system agrees. range_next (source (s.table old file_system)) start done count) w v
+
+    -- a stop in what was walked over, and a read there that failed
+    pub stopped_piece : (len : ℕ) {old new : S} {a b : V} → done ≤ len →
+        Walks {E = E} s step (λ t. take done (drop start (source t))) old new a b (Ok true) →
+        Walks {E = E} s step (λ t. take len (drop start (source t))) old new a b (Ok true)
+    stopped_piece len {old} inside w = stopped_first _ (λ (t : Table). take done (drop start (source t)))
+        (λ (t : Table). take (len - done) (drop (start + done) (source t)))
+        (λ file_system agrees. range_split (source (s.table old file_system)) start done len inside) w
+
+    pub failed_piece : (len : ℕ) {old new : S} {a b : V} {e : E} {r : Result Bool E} → done ≤ len → IsErr r →
+        Walks s step (λ t. take done (drop start (source t))) old new a b (Err e) →
+        Walks s step (λ t. take len (drop start (source t))) old new a b r
+    failed_piece len {old} inside is w = failed_first _ (λ (t : Table). take done (drop start (source t)))
+        (λ (t : Table). take (len - done) (drop (start + done) (source t)))
+        (λ file_system agrees. range_split (source (s.table old file_system)) start done len inside) is w

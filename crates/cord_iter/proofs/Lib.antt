@@ -1,4 +1,4 @@
-pub mod Takes
 pub mod Walks
+pub mod Takes
 pub mod Cuts
 pub mod Backs

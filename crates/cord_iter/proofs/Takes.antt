@@ -22,6 +22,7 @@ use Rattle.cord_node.specs.Tree.{len_of, IsSound}
 use Rattle.cord_node.specs.Tables.{bytes_over}
 use Rattle.cord_iter.specs.Output.{IsPrefixOf, Takes, Writes, FailureCounts, CountsFaults, failures_of}
 use Rattle.cord_iter.specs.inner.Output.{IsTextRead, IsPrefixOver, Puts}
+use Rattle.cord_iter.proofs.Walks.{run_split}
 
 -- bytes after bytes
 pub appends_both : (a b c x y : List ℕ) → b ≡ a ++ x → c ≡ b ++ y → c ≡ a ++ (x ++ y)
@@ -168,14 +169,9 @@ writes_err {r = Err e} is taken count finished = record { ok = tt; err = (taken,
 run_prefix : (byte len done count : ℕ) (y : List ℕ) → done + count ≤ len → IsPrefixOf (replicate count byte) y →
     IsPrefixOf (replicate len byte) (replicate done byte ++ y)
 run_prefix byte len done count y h k =
-    let e : done + (len - done) ≡ len = omega arith in
-    let f : count + (len - done - count) ≡ len - done = omega arith in
-    let first : replicate len byte ≡ replicate done byte ++ replicate (len - done) byte =
-    sym (replicate-append-replicate done (len - done) byte ∙ ap (λ (n : ℕ). replicate n byte) e) in
-    let next : replicate (len - done) byte ≡ replicate count byte ++ replicate (len - done - count) byte =
-    sym (replicate-append-replicate count (len - done - count) byte ∙ ap (λ (n : ℕ). replicate n byte) f) in
-    prefix_join (replicate len byte) (replicate done byte) (replicate (len - done) byte) y first
-    (prefix_more (replicate (len - done) byte) (replicate count byte) (replicate (len - done - count) byte) y next k)
+    prefix_join (replicate len byte) (replicate done byte) (replicate (len - done) byte) y (run_split byte len done (omega arith))
+    (prefix_more (replicate (len - done) byte) (replicate count byte) (replicate (len - done - count) byte) y
+    (run_split byte (len - done) count (omega arith)) k)
 
 -- some of a run, and a prefix of the next piece of it
 pub run_stopped : (a b c : List ℕ) (byte len done count n : ℕ) → done + count ≤ len → count ≤ n → b ≡ a ++ replicate done byte →

@@ -52,12 +52,6 @@ pub walk_stop_in : {S : Type 0} (step : S → ℕ → S × Bool) (a d : S) (xs :
 walk_stop_in {S} step a d xs i h = ap (λ (l : List ℕ). walk step a l) (sym (take-append-drop i xs))
     ∙ walk_stop step a d (take i xs) (drop i xs) h
 
--- a stop in the second of three
-pub walk_stop_between : {S : Type 0} (step : S → ℕ → S × Bool) (a b c : S) (whole x y z : List ℕ) → whole ≡ (x ++ y) ++ z →
-    walk step a x ≡ (b, false) → walk step b y ≡ (c, true) → walk step a whole ≡ (c, true)
-walk_stop_between step a b c whole x y z e h k = ap (λ (l : List ℕ). walk step a l) e
-    ∙ walk_stop step a c (x ++ y) z (walk_on step a b (c, true) x y h k)
-
 -- a prefix of the first of two lists
 pub prefix_first : {S : Type 0} (step : S → ℕ → S × Bool) (a b : S) (whole x y : List ℕ) → whole ≡ x ++ y → WalkedPrefix step a b x →
     WalkedPrefix step a b whole
@@ -78,38 +72,37 @@ prefix_second step a b c whole x y e h k = record {
   walked = walk_on step a b (c, false) x k.prefix h k.walked;
 }
 
--- a run: some of it, a piece, and the rest
-run_split : (byte len done count : ℕ) → done + count ≤ len → replicate len byte ≡ (replicate done byte ++ replicate count byte)
-    ++ replicate (len - (done + count)) byte
-run_split byte len done count h =
-    let e : (done + count) + (len - (done + count)) ≡ len = omega arith in
-    sym (ap (λ (l : List ℕ). l ++ replicate (len - (done + count)) byte) (replicate-append-replicate done count byte)
-    ∙ replicate-append-replicate (done + count) (len - (done + count)) byte ∙ ap (λ (n : ℕ). replicate n byte) e)
+-- a run: some of it, and the rest
+pub run_split : (byte len k : ℕ) → k ≤ len → replicate len byte ≡ replicate k byte ++ replicate (len - k) byte
+run_split byte len k h =
+    let e : k + (len - k) ≡ len = omega arith in
+    sym (replicate-append-replicate k (len - k) byte ∙ ap (λ (n : ℕ). replicate n byte) e)
 
-pub run_stop : {S : Type 0} (step : S → ℕ → S × Bool) (a b c : S) (byte len done count n : ℕ) → done + count ≤ len → count ≤ n →
-    walk step a (replicate done byte) ≡ (b, false) → walk step b (take count (replicate n byte)) ≡ (c, true) →
-    walk step a (replicate len byte) ≡ (c, true)
-run_stop step a b c byte len done count n inside piece h k = walk_stop_between step a b c (replicate len byte) (replicate done byte)
-    (replicate count byte) (replicate (len - (done + count)) byte) (run_split byte len done count inside) h
-    (rw (take-replicate count n byte piece) at k)
-
+-- some of it, and a piece
 pub run_on : {S : Type 0} (step : S → ℕ → S × Bool) (a b : S) (p : S × Bool) (byte done count n : ℕ) → count ≤ n →
     walk step a (replicate done byte) ≡ (b, false) → walk step b (take count (replicate n byte)) ≡ p →
     walk step a (replicate (done + count) byte) ≡ p
 run_on step a b p byte done count n piece h k = ap (λ (l : List ℕ). walk step a l) (sym (replicate-append-replicate done count byte))
     ∙ walk_on step a b p (replicate done byte) (replicate count byte) h (rw (take-replicate count n byte piece) at k)
 
+-- a stop in the piece
+pub run_stop : {S : Type 0} (step : S → ℕ → S × Bool) (a b c : S) (byte len done count n : ℕ) → done + count ≤ len → count ≤ n →
+    walk step a (replicate done byte) ≡ (b, false) → walk step b (take count (replicate n byte)) ≡ (c, true) →
+    walk step a (replicate len byte) ≡ (c, true)
+run_stop step a b c byte len done count n inside piece h k =
+    ap (λ (l : List ℕ). walk step a l) (run_split byte len (done + count) inside)
+    ∙ walk_stop step a c (replicate (done + count) byte) (replicate (len - (done + count)) byte)
+    (run_on step a b (c, true) byte done count n piece h k)
+
 -- a range: some of it, and a piece
 pub range_next : (xs : List ℕ) (s a b : ℕ) → take (a + b) (drop s xs) ≡ take a (drop s xs) ++ take b (drop (s + a) xs)
 range_next xs s a b = take-add a b (drop s xs) ∙ ap (λ (l : List ℕ). take a (drop s xs) ++ take b l) (drop-drop a s xs)
 
 -- the same, and the rest
-pub range_split : (xs : List ℕ) (s a b n : ℕ) → a + b ≤ n → take n (drop s xs) ≡ (take a (drop s xs) ++ take b (drop (s + a) xs))
-    ++ take (n - (a + b)) (drop (s + (a + b)) xs)
-range_split xs s a b n h =
-    let e : n ≡ (a + b) + (n - (a + b)) = omega arith in
-    ap (λ (k : ℕ). take k (drop s xs)) e ∙ range_next xs s (a + b) (n - (a + b))
-    ∙ ap (λ (l : List ℕ). l ++ take (n - (a + b)) (drop (s + (a + b)) xs)) (range_next xs s a b)
+pub range_split : (xs : List ℕ) (s a n : ℕ) → a ≤ n → take n (drop s xs) ≡ take a (drop s xs) ++ take (n - a) (drop (s + a) xs)
+range_split xs s a n h =
+    let e : n ≡ a + (n - a) = omega arith in
+    ap (λ (k : ℕ). take k (drop s xs)) e ∙ range_next xs s a (n - a)
 
 -- what is after a place in a range
 pub range_rest : (xs : List ℕ) (s len from : ℕ) → from ≤ len → take (len - from) (drop (s + from) xs) ≡ drop from (take len (drop s xs))

@@ -1,29 +1,34 @@
 -- The part that holds an index of a node, and the byte there.
-use Rattle.std.proofs.Common.{◌≡◌, ℕ, ◌+◌, ◌-◌, ◌<◌, ◌≤◌, List, [], ◌∷◌, take, drop, refl, sym, ◌∙◌, ap, arith, zero, suc, true}
+use Rattle.std.proofs.Common.{◌≡◌, ℕ, ◌+◌, ◌-◌, ◌<◌, List, [], ◌∷◌, take, drop, refl, sym, ◌∙◌, ap, arith, zero, suc, true}
 use Rattle.std.specs.Prelude.{slice_get}
-use Rattle.std.proofs.Math.Logic.{⊎_elim}
-use Rattle.std.proofs.lemmas.Bool.{cases_lt}
 use Rattle.cord_io.specs.Table.{Table}
 use Rattle.cord_node.specs.declared.Node.{Node}
-use Rattle.cord_node.specs.declared.Node.TheVariants.{Leaf, Run, Func, Cat'}
-use Rattle.cord_node.specs.Tree.{len_of}
+use Rattle.cord_node.specs.Tree.{len_of, IsSound}
 use Rattle.cord_node.specs.Tables.{bytes_over, Fits}
 use Rattle.cord_pos.specs.inner.Path.{part_at}
 use Rattle.cord_pos.specs.inner.Parts.{HasByte}
 use Rattle.cord_pos.specs.inner.Spans.{IsWithin}
 use Rattle.cord_pos.specs.Spans.{is_part}
-use Rattle.cord_pos.proofs.Sides.{part_at-left, part_at-right}
+use Rattle.cord_pos.proofs.Within.{within_self, within_on}
+use Rattle.cord_pos.proofs.Sides.{by_sides}
 
 -- what a way ends at is a part
-pub part_is : (n : Node) (s i : ℕ) → is_part (part_at n s i).0 ≡ true
-part_is (Leaf len bytes from mark) s i = refl
-part_is (Run byte len) s i = refl
-part_is (Func id len from) s i = refl
-part_is (Cat' mark depth len p left q right count) s i =
-    ⊎_elim
-    (λ (k : i < len_of left). rw (part_at-left p q left right len depth count mark s i k) (part_is left s i))
-    (λ (k : len_of left ≤ i). rw (part_at-right p q left right len depth count mark s i k) (part_is right (s + len_of left) (i - len_of left)))
-    (cases_lt i (len_of left))
+pub part_is : (n : Node) (i s : ℕ) → is_part (part_at n s i).0 ≡ true
+part_is = by_sides (λ n i. (s : ℕ) → is_part (part_at n s i).0 ≡ true) (λ n i part s. rw (part.part s i) part.is)
+    (λ n i t below s. rw (t.step.part s) (below (s + t.offset)))
+
+-- an index of a node is one of the part that holds it
+pub part_within : (n : Node) (i s at : ℕ) → at ≡ s + i → IsSound n → i < len_of n → IsWithin n i (part_at n s i).0 (at - (part_at n s i).1)
+part_within = by_sides
+    (λ n i. (s at : ℕ) → at ≡ s + i → IsSound n → i < len_of n → IsWithin n i (part_at n s i).0 (at - (part_at n s i).1))
+    (λ n i part s at z h k.
+    let a : at - s ≡ i = omega (arith, z) in
+    let here : IsWithin n i n (at - s) = rw a (within_self n i h) in
+    rw (part.part s i) here)
+    (λ n i t below s at z h k.
+    let side = t.sound h in
+    rw (t.step.part s) (within_on n i t.side (i - t.offset) _ _ (side.within i t.step.from)
+    (below (s + t.offset) at (omega (arith, z, t.step.from)) side.sound (t.step.inside h k))))
 
 -- the element at a place is the first one from there on
 first_from : (xs : List ℕ) (i : ℕ) → slice_get xs i ≡ slice_get (take 1 (drop i xs)) 0

@@ -1,36 +1,32 @@
 -- A climb and a descent take the way to another index.
 use Rattle.std.proofs.Common.{◌≡◌, ℕ, ◌+◌, ◌-◌, ◌^◌, ◌≤◌, min, List, [], ◌∷◌, ◌++◌, length, refl, sym, ◌∙◌, ap, arith, Some, append_assoc}
 use Rattle.std.proofs.Common.{length-append}
-use Rattle.cord_io.specs.declared.TheConstants.{MAX_LEN, MAX_DEPTH}
 use Rattle.cord_node.specs.declared.Node.{Node}
-use Rattle.cord_node.specs.Tree.{len_of, depth_of, IsSound}
 use Rattle.cord_node.specs.Occurrences.{level, shared_level}
 use Rattle.cord_node.proofs.TreeLemmas.{len_limit}
-use Rattle.cord_pos.specs.inner.Path.{Place, below, part_at, IsClimb, EndsIn, IsOnWay, IsTakenTo}
+use Rattle.cord_pos.specs.inner.Path.{Place, below, part_at, CanDescend, IsClimb, EndsIn, IsOnWay, IsTakenTo}
 use Rattle.cord_pos.proofs.Counts.{depth_limit}
-use Rattle.cord_pos.proofs.Moves.{IsUnder, under_root, IsMove, moved}
+use Rattle.cord_pos.proofs.Moves.{IsUnder, under_root, LiesIn, lies_in, IsMove, moved}
 
 -- the old way, with the node at which the climb stopped
 found_split : (old new : List Place) (n : Node) (t at : ℕ) (c : IsClimb old new at) (e : EndsIn new n t at) →
     old ≡ e.prefix ++ (Some n, t) ∷ c.left_out
 found_split old new n t at c e = c.split ∙ (rw (e.split, append_assoc) refl)
 
--- the node at which a climb stopped is sound, lies inside the limits and leaves room for the way down
-pub record IsFound (new : List Place) (n : Node) (t : ℕ) : Type 0 where
-  pub sound : IsSound n
-  pub fits : t + len_of n ≤ MAX_LEN
-  pub room : length new + depth_of n ≤ MAX_DEPTH + 1
-
--- so is the node at which a climb from a way stopped
-pub found : (old new : List Place) (n : Node) (t at : ℕ) → IsOnWay old at → IsClimb old new at → EndsIn new n t at → IsFound new n t
-found old new n t at w c e =
+-- from the node at which a climb from a way stopped one can step down
+pub found : (old new : List Place) (n : Node) (t at count visits : ℕ) → IsOnWay old at → IsClimb old new at → EndsIn new n t at →
+    count ≡ length new → visits ≤ 2 ^ 64 - 1 → CanDescend n t (at - t) count visits
+found old new n t at count visits w c e z counted =
     let u : IsUnder w.root 0 (length e.prefix) n t =
     under_root w.root 0 w.from e.prefix c.left_out n t w.sound (sym w.way ∙ found_split old new n t at c e) in
     let k : length new ≡ length e.prefix + 1 = ap length e.split ∙ length-append e.prefix ((Some n, t) ∷ []) in
+    let l : LiesIn n t at = lies_in n t at e.holds in
     record {
       sound = u.sound;
+      inside = omega (arith, l.from, l.to);
       fits = omega (arith, u.to, len_limit w.root w.sound);
-      room = omega (arith, u.depth, depth_limit w.root w.sound);
+      room = omega (arith, z, k, u.depth, depth_limit w.root w.sound);
+      counted = counted;
     }
 
 -- a climb and the descent from where it stopped take the way to the index

@@ -1,3 +1,4 @@
+pub mod Within
 pub mod Sides
 pub mod Steps
 pub mod Moves
@@ -6,5 +7,4 @@ pub mod SamePart
 pub mod GoTo
 pub mod Standings
 pub mod Bytes
-pub mod Within
 pub mod SpotBytes

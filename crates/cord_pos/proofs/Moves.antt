@@ -1,15 +1,11 @@
 -- How a way is left and taken again: where the ways to two indices part, and what a climb and a descent together visit.
-use Rattle.std.proofs.Common.{◌≡◌, ℕ, ◌+◌, ◌-◌, ◌<◌, ◌≤◌, List, [], ◌∷◌, ◌++◌, length, refl, sym, ◌∙◌, ap, arith, true, false, Some}
-use Rattle.std.proofs.Math.Logic.{⊎_elim}
-use Rattle.std.proofs.lemmas.Bool.{cases_lt}
+use Rattle.std.proofs.Common.{◌≡◌, ℕ, ◌+◌, ◌-◌, ◌<◌, ◌≤◌, inl, inr, List, [], ◌∷◌, ◌++◌, length, refl, sym, ◌∙◌, ap, arith, true, false, Some}
 use Rattle.std.proofs.lemmas.Bool.Decides.{nat_tests}
 use Rattle.cord_node.specs.declared.Node.{Node}
-use Rattle.cord_node.specs.declared.Node.TheVariants.{Leaf, Run, Func, Cat'}
 use Rattle.cord_node.specs.Tree.{len_of, depth_of, IsSound}
 use Rattle.cord_node.specs.Occurrences.{level, shared_level}
 use Rattle.cord_pos.specs.inner.Path.{Place, below, way, part_at, holds, NoneHolds}
-use Rattle.cord_pos.proofs.Sides.{below-left, below-right, level-left, level-right, part_at-left, part_at-right, shared-left, shared-right}
-use Rattle.cord_pos.proofs.Sides.{shared-parted, shared-parted_back}
+use Rattle.cord_pos.proofs.Sides.{part_or_side}
 
 -- a node that stands k steps below a root, where its text begins
 pub record IsUnder (root : Node) (s k : ℕ) (n : Node) (t : ℕ) : Type 0 where
@@ -40,22 +36,15 @@ under_self root n s t h e f = rw (← e, ← f) (record { sound = h; from = omeg
 pub under_root : (root : Node) (s i : ℕ) (prefix rest : List Place) (n : Node) (t : ℕ) → IsSound root →
     way root s i ≡ prefix ++ (Some n, t) ∷ rest → IsUnder root s (length prefix) n t
 under_root root s i [] rest n t h e = let f : SamePlace root s n t = same_place root s n t (cc) in under_self root n s t h f.node f.start
-under_root (Leaf len bytes from mark) s i (x ∷ prefix) rest n t h e = absurd (not_empty prefix rest (Some n, t) (cc))
-under_root (Run byte len) s i (x ∷ prefix) rest n t h e = absurd (not_empty prefix rest (Some n, t) (cc))
-under_root (Func id len from) s i (x ∷ prefix) rest n t h e = absurd (not_empty prefix rest (Some n, t) (cc))
-under_root (Cat' mark depth len p left q right count) s i (x ∷ prefix) rest n t h e =
-    ⊎_elim
-    (λ (k : i < len_of left).
-    let b : below (Cat' mark depth len p left q right count) s i ≡ way left s i = below-left p q left right len depth count mark s i k in
-    let u : IsUnder left s (length prefix) n t = under_root left s i prefix rest n t h.0 (cc) in
-    record { sound = u.sound; from = u.from; to = omega (arith, h.2); depth = omega (arith, h.3) })
-    (λ (k : len_of left ≤ i).
-    let b : below (Cat' mark depth len p left q right count) s i ≡ way right (s + len_of left) (i - len_of left) =
-    below-right p q left right len depth count mark s i k in
-    let u : IsUnder right (s + len_of left) (length prefix) n t =
-    under_root right (s + len_of left) (i - len_of left) prefix rest n t h.1 (cc) in
-    record { sound = u.sound; from = omega arith; to = omega (arith, h.2); depth = omega (arith, h.3) })
-    (cases_lt i (len_of left))
+under_root root s i (x ∷ prefix) rest n t h e = elim (part_or_side root i) [
+  | inl part ↦ let none : below root s i ≡ [] = part.below s i in absurd (not_empty prefix rest (Some n, t) (cc))
+  | inr side ↦
+      let b : below root s i ≡ way side.side (s + side.offset) (i - side.offset) = side.step.below s in
+      let is = side.sound h in
+      let u : IsUnder side.side (s + side.offset) (length prefix) n t =
+      under_root side.side (s + side.offset) (i - side.offset) prefix rest n t is.sound (cc) in
+      record { sound = u.sound; from = omega (arith, u.from); to = omega (arith, u.to, is.to); depth = omega (arith, u.depth, is.depth) }
+]
 
 -- an index of the root lies in the text of a node that begins at t
 pub record LiesIn (n : Node) (t at : ℕ) : Type 0 where
@@ -73,24 +62,17 @@ lies_outside n t at h k = grind (arith, nat_tests)
 -- where no place below the root holds the second index, the ways part at the root
 parted : (root : Node) (s i j at : ℕ) → at ≡ s + j → j < len_of root → IsSound root → NoneHolds at (below root s i) →
     shared_level root i j ≡ 0
-parted (Leaf len bytes from mark) s i j at z b h out = refl
-parted (Run byte len) s i j at z b h out = refl
-parted (Func id len from) s i j at z b h out = refl
-parted (Cat' mark depth len p left q right count) s i j at z b h out =
-    ⊎_elim
-    (λ (k : i < len_of left).
-    let out' : NoneHolds at (way left s i) = rw (below-left p q left right len depth count mark s i k) at out in
-    let o : s + len_of left ≤ at = lies_outside left s at out'.0 (omega arith) in
-    shared-parted p q left right len depth count mark i j k (omega arith))
-    (λ (k : len_of left ≤ i).
-    let out' : NoneHolds at (way right (s + len_of left) (i - len_of left)) = rw (below-right p q left right len depth count mark s i k) at out in
-    ⊎_elim
-    (λ (m : j < len_of left). shared-parted_back p q left right len depth count mark i j k m)
-    (λ (m : len_of left ≤ j).
-    let o : s + len_of left + len_of right ≤ at = lies_outside right (s + len_of left) at out'.0 (omega arith) in
-    absurd (omega (arith, h.2)))
-    (cases_lt j (len_of left)))
-    (cases_lt i (len_of left))
+parted root s i j at z b h out = elim (part_or_side root i) [
+  | inl part ↦ part.shared i j
+  | inr side ↦ elim (side.other j) [
+    | inl on ↦
+        let out' : NoneHolds at (way side.side (s + side.offset) (i - side.offset)) = rw (side.step.below s) at out in
+        let o : s + side.offset + len_of side.side ≤ at =
+        lies_outside side.side (s + side.offset) at out'.0 (omega (arith, z, on.step.from)) in
+        absurd (omega (arith, z, o, on.step.from, on.step.inside h b))
+    | inr off ↦ off.shared
+  ]
+]
 
 -- the way to a second index: it parts from the way to the first below the node n
 pub record IsMove (root : Node) (s i j : ℕ) (prefix : List Place) (n : Node) (t at : ℕ) : Type 0 where
@@ -113,43 +95,28 @@ moved root s i j at [] rest n t z b h e g out =
     let r : rest ≡ below root s i = cc in
     let out' : NoneHolds at (below root s i) = rw r at out in
     moved_self root n s i j t at z (parted root s i j at z b h out') f.node f.start
-moved (Leaf len bytes from mark) s i j at (x ∷ prefix) rest n t z b h e g out = absurd (not_empty prefix rest (Some n, t) (cc))
-moved (Run byte len) s i j at (x ∷ prefix) rest n t z b h e g out = absurd (not_empty prefix rest (Some n, t) (cc))
-moved (Func id len from) s i j at (x ∷ prefix) rest n t z b h e g out = absurd (not_empty prefix rest (Some n, t) (cc))
-moved (Cat' mark depth len p left q right count) s i j at (x ∷ prefix) rest n t z b h e g out =
-    let l : LiesIn n t at = lies_in n t at g in
-    ⊎_elim
-    (λ (k : i < len_of left).
-    let f : below (Cat' mark depth len p left q right count) s i ≡ way left s i = below-left p q left right len depth count mark s i k in
-    let w : way left s i ≡ prefix ++ (Some n, t) ∷ rest = cc in
-    let u : IsUnder left s (length prefix) n t = under_root left s i prefix rest n t h.0 w in
-    let a : j < len_of left = omega arith in
-    let m : IsMove left s i j prefix n t at = moved left s i j at prefix rest n t z a h.0 w g out in
-    let mw : prefix ++ way n t (at - t) ≡ way left s j = m.way in
-    let fj : below (Cat' mark depth len p left q right count) s j ≡ way left s j = below-left p q left right len depth count mark s j a in
-    record {
-      way = cc;
-      shared = omega (arith, m.shared, shared-left p q left right len depth count mark i j k a);
-      level = omega (arith, m.level, level-left p q left right len depth count mark j a);
-      part = m.part ∙ sym (part_at-left p q left right len depth count mark s j a);
-    })
-    (λ (k : len_of left ≤ i).
-    let f : below (Cat' mark depth len p left q right count) s i ≡ way right (s + len_of left) (i - len_of left) =
-    below-right p q left right len depth count mark s i k in
-    let w : way right (s + len_of left) (i - len_of left) ≡ prefix ++ (Some n, t) ∷ rest = cc in
-    let u : IsUnder right (s + len_of left) (length prefix) n t =
-    under_root right (s + len_of left) (i - len_of left) prefix rest n t h.1 w in
-    let a : len_of left ≤ j = omega arith in
-    let m : IsMove right (s + len_of left) (i - len_of left) (j - len_of left) prefix n t at =
-    moved right (s + len_of left) (i - len_of left) (j - len_of left) at prefix rest n t (omega arith)
-    (omega (arith, h.2)) h.1 w g out in
-    let mw : prefix ++ way n t (at - t) ≡ way right (s + len_of left) (j - len_of left) = m.way in
-    let fj : below (Cat' mark depth len p left q right count) s j ≡ way right (s + len_of left) (j - len_of left) =
-    below-right p q left right len depth count mark s j a in
-    record {
-      way = cc;
-      shared = omega (arith, m.shared, shared-right p q left right len depth count mark i j k a);
-      level = omega (arith, m.level, level-right p q left right len depth count mark j a);
-      part = m.part ∙ sym (part_at-right p q left right len depth count mark s j a);
-    })
-    (cases_lt i (len_of left))
+moved root s i j at (x ∷ prefix) rest n t z b h e g out = elim (part_or_side root i) [
+  | inl part ↦ let none : below root s i ≡ [] = part.below s i in absurd (not_empty prefix rest (Some n, t) (cc))
+  | inr side ↦
+      let m = side.side in
+      let o = side.offset in
+      let f : below root s i ≡ way m (s + o) (i - o) = side.step.below s in
+      let w : way m (s + o) (i - o) ≡ prefix ++ (Some n, t) ∷ rest = cc in
+      let is = side.sound h in
+      let l : LiesIn n t at = lies_in n t at g in
+      let u : IsUnder m (s + o) (length prefix) n t = under_root m (s + o) (i - o) prefix rest n t is.sound w in
+      elim (side.other j) [
+        | inl on ↦
+            let there : IsMove m (s + o) (i - o) (j - o) prefix n t at =
+            moved m (s + o) (i - o) (j - o) at prefix rest n t (omega (arith, z, on.step.from)) (on.step.inside h b) is.sound w g out in
+            let mw : prefix ++ way n t (at - t) ≡ way m (s + o) (j - o) = there.way in
+            let fj : below root s j ≡ way m (s + o) (j - o) = on.step.below s in
+            record {
+              way = cc;
+              shared = omega (arith, there.shared, on.shared);
+              level = omega (arith, there.level, on.step.level);
+              part = there.part ∙ sym (on.step.part s);
+            }
+        | inr off ↦ absurd (omega (arith, z, l.from, l.to, u.from, u.to, off.outside (omega (arith, z, l.from, u.from))))
+      ]
+]

@@ -11,14 +11,14 @@ use Rattle.cord_pos.specs.declared.path.Path.{Path}
 use Rattle.cord_pos.specs.declared.Spot.{Spot}
 use Rattle.cord_pos.specs.inner.Path.{node_of, places, part_at}
 use Rattle.cord_pos.specs.inner.Parts.{HasByte}
-use Rattle.cord_pos.specs.inner.Spans.{IsWithin}
+use Rattle.cord_pos.specs.inner.Spans.{IsWithin, HasSpan}
 use Rattle.cord_pos.specs.Spans.{is_part}
 use Rattle.cord_pos.specs.Position.{IsByteAt}
 use Rattle.cord_pos.specs.inner.Invariant.{IsOnPart, IsPosition}
-use Rattle.cord_pos.specs.Spans.{span_len, IsSpanAt, IsAheadOf, IsBehindOf, IsRestAhead, IsRestBehind}
+use Rattle.cord_pos.specs.Spans.{span_len, IsAheadOf, IsBehindOf, IsRestAhead, IsRestBehind}
 use Rattle.cord_pos.specs.declared.span.Span.{Span}
-use Rattle.cord_pos.proofs.Bytes.{part_is, within_byte}
-use Rattle.cord_pos.proofs.Within.{part_within, within_end, span_on, span_back}
+use Rattle.cord_pos.proofs.Bytes.{part_is, part_within, within_byte}
+use Rattle.cord_pos.proofs.Within.{within_end, span_on, span_back}
 use Rattle.cord_pos.proofs.SamePart.{has_range, HasRange, number_in, in_number}
 
 -- what the part at which a valid position stands is of its cord's root
@@ -39,24 +39,24 @@ pub spot_part : (c : Option Node) (spot : Spot) (path : Path) → IsPosition c (
 spot_part None spot path on = absurd on.on_spot
 spot_part (Some n) spot path on =
     let p : IsOnPart n spot.index spot.part (places path.stops.items) = on.on_spot in
+    let r : HasRange (node_of spot.part.node, spot.part.start) n 0 spot.index = rw p.holder (has_range n spot.index 0 p.sound p.inside) in
     let start : spot.part.start ≡ (part_at n 0 spot.index).1 = ap (λ (x : Node × ℕ). x.1) p.holder in
     let node : node_of spot.part.node ≡ (part_at n 0 spot.index).0 = ap (λ (x : Node × ℕ). x.0) p.holder in
     let len : len_of (node_of spot.part.node) ≡ len_of (part_at n 0 spot.index).0 = ap len_of node in
-    let r : HasRange n 0 spot.index = has_range n 0 spot.index p.sound p.inside in
     record {
       root = n;
       is = refl;
       sound = p.sound;
-      part = rw node (part_is n 0 spot.index);
-      within = rw (node, start) (part_within n 0 spot.index spot.index (omega arith) p.sound p.inside);
+      part = rw node (part_is n spot.index 0);
+      within = rw (node, start) (part_within n spot.index 0 spot.index (omega arith) p.sound p.inside);
       from = omega (arith, r.first);
       inside = omega (arith, r.first, r.last);
       to = omega (arith, r.to);
       end = p.end;
       number = λ j k. (
-        λ (h : (spot.part.start ≤ j) × (j < spot.part.end)).
-            in_number n spot.index j p.sound p.inside (omega (arith, h.0)) (omega (arith, h.1, p.end)),
-        λ e. let i = number_in n spot.index j p.sound k e in (omega (arith, i.from), omega (arith, i.to, p.end)),
+        λ (h : (spot.part.start ≤ j) × (j < spot.part.end)). in_number n spot.index j p.sound p.inside
+            (record { from = omega (arith, h.0, start); to = omega (arith, h.1, p.end, start, len) }),
+        λ e. let i = number_in n spot.index j p.sound k e in (omega (arith, i.from, start), omega (arith, i.to, p.end, start, len)),
       );
     }
 
@@ -69,23 +69,24 @@ module _ (c : Option Node) (spot : Spot) (path : Path) (on : IsPosition c (Some 
       rw h.is (within_byte t h.root spot.index _ _ b h.within (Fits-reported lengths t h.root reported (rw h.is at fits)) h.inside e)
 
   -- what the part has from the index on is what the cord has there
-  pub spot_ahead : (r : Option Span) → is_some r ≡ true →
-      IfSome r (IsSpanAt (node_of spot.part.node) (spot.index - spot.part.start)) → IsAheadOf c (Some spot.index) r
-  spot_ahead None is s = let bad : false ≡ true = is in cc
-  spot_ahead (Some span) is s =
+  pub spot_ahead : {to : ℕ} (r : Option Span) → HasSpan (node_of spot.part.node) (spot.index - spot.part.start) to r →
+      IsAheadOf c (Some spot.index) r
+  spot_ahead None s = let bad : false ≡ true = s.is in cc
+  spot_ahead (Some span) s =
       let h : IsSpotPart c spot = spot_part c spot path on in
-      rw h.is (span_on h.root spot.index _ _ span h.within s)
+      rw h.is (span_on h.root spot.index _ _ span h.within s.span)
 
   -- and what it has up to the index
-  pub spot_behind : (r : Option Span) → is_some r ≡ true → IfSome r (IsSpanAt (node_of spot.part.node) 0) →
-      IfSome r (λ s. span_len s ≡ spot.index - spot.part.start + 1 - 0) → IsBehindOf c (Some spot.index) r
-  spot_behind None is s long = let bad : false ≡ true = is in cc
-  spot_behind (Some span) is s long =
+  pub spot_behind : (r : Option Span) → HasSpan (node_of spot.part.node) 0 (spot.index - spot.part.start + 1) r →
+      IsBehindOf c (Some spot.index) r
+  spot_behind None s = let bad : false ≡ true = s.is in cc
+  spot_behind (Some span) s =
       let h : IsSpotPart c spot = spot_part c spot path on in
+      let long : span_len span ≡ spot.index - spot.part.start + 1 - 0 = s.len in
       record {
         inside = omega (arith, long);
         span = rw h.is (span_back h.root (spot.index + 1) _ _ 0 span (omega (arith, long))
-            (within_end h.root spot.index _ _ h.within) s);
+            (within_end h.root spot.index _ _ h.within) s.span);
       }
 
   -- all that the part has from the index on: the places after it with the index's preorder number

@@ -1,5 +1,5 @@
 -- Where a position stands, and what it takes to set or move it.
-use Rattle.std.proofs.Common.{◌≡◌, ℕ, ◌+◌, ◌-◌, ◌^◌, ◌<◌, ◌≤◌, min, List, refl, sym, ◌∙◌, ap, arith, Some, None, zero, suc}
+use Rattle.std.proofs.Common.{◌≡◌, ℕ, ◌+◌, ◌-◌, ◌^◌, ◌<◌, ◌≤◌, min, refl, sym, ◌∙◌, ap, arith, Some, None, zero, suc}
 use Rattle.std.specs.Prelude.{Option}
 use Rattle.std.proofs.lemmas.Bool.{lt-ltb}
 use Rattle.std.proofs.lemmas.Bool.Decides.{nat_tests}
@@ -10,21 +10,15 @@ use Rattle.cord_io.specs.declared.TheConstants.{MAX_DEPTH}
 use Rattle.cord_core.specs.Cord.{text_len, depth, IsCord}
 use Rattle.cord_pos.specs.declared.path.Path.{Path}
 use Rattle.cord_pos.specs.declared.Spot.{Spot}
-use Rattle.cord_pos.specs.declared.path.Part.{Part}
-use Rattle.cord_pos.specs.inner.Path.{Place, node_of, places, part_at}
+use Rattle.cord_pos.specs.inner.Path.{node_of, places, part_at}
 use Rattle.cord_pos.specs.Position.{set_visits, move_visits, number_at, occurrences, index_at, moved_index, moved_visits, next_index}
 use Rattle.cord_pos.specs.Position.{next_visits, prev_visits, IsNoEarlier, IsOnePart}
-use Rattle.cord_pos.specs.inner.Invariant.{IsOnPart, IsOnCord, IsPosition}
-use Rattle.cord_pos.proofs.Counts.{level_depth, depth_limit, preorder_first, preorder_last, preorder_below, preorder_next, shared_same}
-use Rattle.cord_pos.proofs.Counts.{shared_below, size_len}
+use Rattle.cord_pos.specs.inner.Invariant.{IsOnPart, IsPosition}
+use Rattle.cord_pos.proofs.Sides.{preorder_first, preorder_last, preorder_below}
+use Rattle.cord_pos.proofs.Counts.{level_depth, depth_limit, preorder_next, shared_same, shared_below, size_len}
 use Rattle.cord_node.proofs.TreeLemmas.{len_limit, len_positive}
-use Rattle.cord_pos.proofs.SamePart.{HasRange, has_range, IsSamePart, same_part}
+use Rattle.cord_pos.proofs.SamePart.{has_range, IsSamePart, same_part}
 use Rattle.cord_pos.proofs.SpotBytes.{IsSpotPart, spot_part}
-
--- the part at the end of a way from a root is that of the cord
-pub on_cord : (c : Option Node) (n : Node) (index : ℕ) (part : Part) (ps : List Place) → c ≡ Some n → IsOnPart n index part ps →
-    IsOnCord c index part ps
-on_cord c n index part ps e on = rw e on
 
 -- inside, one more than the level
 pub set_inside : (c : Option Node) (n : Node) (i : ℕ) → c ≡ Some n → i < len_of n → set_visits c i ≡ level n i + 1
@@ -59,13 +53,9 @@ still None spot path j on a b = absurd on.on_spot
 still (Some n) spot path j on a b =
     let p : IsOnPart n spot.index spot.part (places path.stops.items) = on.on_spot in
     let start : spot.part.start ≡ (part_at n 0 spot.index).1 = ap (λ (x : Node × ℕ). x.1) p.holder in
-    let node : (node_of spot.part.node) ≡ (part_at n 0 spot.index).0 = ap (λ (x : Node × ℕ). x.0) p.holder in
-    let len : len_of (node_of spot.part.node) ≡ len_of (part_at n 0 spot.index).0 = ap len_of node in
-    let m : IsSamePart n 0 spot.index j =
-    same_part n 0 spot.index j j (omega arith) p.sound p.inside (omega arith) (omega (arith, p.end)) in
-    let shared : shared_level n spot.index j ≡ level n j = shared_same n spot.index j (sym m.preorder) in
-    let r : HasRange n 0 spot.index = has_range n 0 spot.index p.sound p.inside in
-    let inside : j < len_of n = omega (arith, p.end, r.to) in
+    let len : len_of (node_of spot.part.node) ≡ len_of (part_at n 0 spot.index).0 = ap (λ (x : Node × ℕ). len_of x.0) p.holder in
+    let m : IsSamePart n 0 spot.index j = same_part n spot.index 0 j p.sound p.inside (omega (arith, start)) (omega (arith, start, len, p.end)) in
+    let inside : j < len_of n = omega (arith, len, start, p.end, (has_range n spot.index 0 p.sound p.inside).to) in
     record {
       position = record {
         on_spot = record { sound = p.sound; inside = inside; way = p.way ∙ sym m.way; holder = p.holder ∙ sym m.part; end = p.end };
@@ -73,7 +63,7 @@ still (Some n) spot path j on a b =
       };
       inside = inside;
       number = m.preorder;
-      visits_none = omega arith;
+      visits_none = omega (arith, shared_same n spot.index j (sym m.preorder));
     }
 
 -- a `prev` is a move to the index before
@@ -118,6 +108,10 @@ prev_still_visits c spot path on k =
 pub move_bound : (c : Option Node) (i j : ℕ) → IsCord c → move_visits c i j ≤ MAX_DEPTH
 move_bound None i j h = omega arith
 move_bound (Some n) i j h = omega (arith, level_depth n j h, depth_limit n h)
+
+-- so the count grows by no more
+pub bound_moved : (c : Option Node) (i j old new : ℕ) → IsCord c → new ≡ min (old + move_visits c i j) (2 ^ 64 - 1) → new ≤ old + MAX_DEPTH
+bound_moved c i j old new h e = omega (arith, e, move_bound c i j h)
 
 -- a move inside one part visits nothing
 pub move_one_part : (c : Option Node) (i j : ℕ) → IsOnePart c (Some i) (Some j) → move_visits c i j ≡ 0

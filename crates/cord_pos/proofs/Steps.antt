@@ -1,17 +1,12 @@
--- A step down to a side, and what is said of a node by what is said of the side.
-use Rattle.std.proofs.Common.{◌≡◌, ℕ, ◌+◌, ◌-◌, ◌<◌, ◌≤◌, [], ◌∷◌, refl, ap, arith, Option, Some, None, true}
-use Rattle.std.proofs.Math.Logic.{⊎_elim}
-use Rattle.std.proofs.lemmas.Bool.{cases_lt, lt-ltb}
+-- A step down to a side.
+use Rattle.std.proofs.Common.{◌≡◌, ℕ, ◌+◌, ◌-◌, ◌<◌, ◌≤◌, inl, inr, sym, ◌∙◌, ap, Option, Some, None}
 use Rattle.cord_node.specs.declared.Node.{Node}
-use Rattle.cord_node.specs.declared.Node.TheVariants.{Leaf, Run, Func, Cat'}
 use Rattle.cord_node.specs.Tree.{len_of, depth_of, IsSound}
 use Rattle.cord_node.specs.Occurrences.{level}
-use Rattle.cord_node.proofs.TreeLemmas.{len_positive}
-use Rattle.cord_pos.specs.Spans.{is_part, side_at}
-use Rattle.cord_pos.specs.inner.Path.{below, part_at}
+use Rattle.cord_pos.specs.Spans.{side_at}
+use Rattle.cord_pos.specs.inner.Path.{way, below, part_at}
 use Rattle.cord_pos.specs.inner.Spans.{IsWithin}
-use Rattle.cord_pos.proofs.Sides.{not_less, below-left, below-right, level-left, level-right, part_at-left, part_at-right}
-use Rattle.cord_pos.proofs.Within.{within_left, within_right}
+use Rattle.cord_pos.proofs.Sides.{IsPart, part_or_side}
 
 -- the side m of a node that holds its index i begins at the offset o
 pub record IsSide (n : Node) (i : ℕ) (m : Node) (o : ℕ) : Type 0 where
@@ -22,7 +17,7 @@ pub record IsSide (n : Node) (i : ℕ) (m : Node) (o : ℕ) : Type 0 where
   pub shorter : len_of m < len_of n
   pub within : IsWithin n i m (i - o)
   pub depth : depth_of m + 1 ≤ depth_of n
-  pub below : (start : ℕ) → below n start i ≡ (Some m, start + o) ∷ below m (start + o) (i - o)
+  pub below : (start : ℕ) → below n start i ≡ way m (start + o) (i - o)
   pub level : level n i ≡ 1 + level m (i - o)
   pub part : (start : ℕ) → part_at n start i ≡ part_at m (start + o) (i - o)
 
@@ -38,59 +33,28 @@ same_side m o l k e = let f : ◌≡◌ {A = Node × ℕ} (m, o) (l, k) = cc in
 
 -- a side that a step leads to is so
 pub is_side : (n : Node) (i : ℕ) (m : Node) (o : ℕ) → IsSound n → i < len_of n → side_at n i ≡ Some (m, o) → IsSide n i m o
-is_side (Leaf len bytes s mark) i m o h k e = absurd (cc)
-is_side (Run byte len) i m o h k e = absurd (cc)
-is_side (Func id len s) i m o h k e = absurd (cc)
-is_side (Cat' mark depth len p left q right count) i m o h k e =
-    ⊎_elim
-    (λ (a : i < len_of left).
-    let f : ◌≡◌ {A = Option (Node × ℕ)} (Some (left, 0)) (Some (m, o)) = rw (lt-ltb i (len_of left) a) at e in
-    let same : SameSide left 0 m o = same_side left 0 m o f in
-    let z : i - 0 ≡ i = omega arith in
-    rw (← same.node, ← same.offset) (record {
-      sound = h.0;
-      from = omega arith;
-      inside = omega arith;
-      to = omega (arith, h.2);
-      shorter = omega (arith, h.2, len_positive right h.1);
-      within = rw z (within_left p q left right len depth count mark h i);
-      depth = omega (arith, h.3);
-      below = λ start. let y : start + 0 ≡ start = omega arith in rw (y, z) (below-left p q left right len depth count mark start i a);
-      level = rw z (level-left p q left right len depth count mark i a);
-      part = λ start. let y : start + 0 ≡ start = omega arith in rw (y, z) (part_at-left p q left right len depth count mark start i a);
-    }))
-    (λ (a : len_of left ≤ i).
-    let f : ◌≡◌ {A = Option (Node × ℕ)} (Some (right, len_of left)) (Some (m, o)) = rw (not_less i (len_of left) a) at e in
-    let same : SameSide right (len_of left) m o = same_side right (len_of left) m o f in
-    rw (← same.node, ← same.offset) (record {
-      sound = h.1;
-      from = omega arith;
-      inside = omega (arith, h.2);
-      to = omega (arith, h.2);
-      shorter = omega (arith, h.2, len_positive left h.0);
-      within = within_right p q left right len depth count mark h i a;
-      depth = omega (arith, h.3);
-      below = λ start. below-right p q left right len depth count mark start i a;
-      level = level-right p q left right len depth count mark i a;
-      part = λ start. part_at-right p q left right len depth count mark start i a;
-    }))
-    (cases_lt i (len_of left))
+is_side n i m o h k e = elim (part_or_side n i) [
+  | inl part ↦ let none : side_at n i ≡ None = part.side i in absurd (cc)
+  | inr t ↦
+      let s = t.sound h in
+      let same : SameSide t.side t.offset m o = same_side t.side t.offset m o (sym t.step.side ∙ e) in
+      rw (← same.node, ← same.offset) (record {
+        sound = s.sound;
+        from = t.step.from;
+        inside = t.step.inside h k;
+        to = s.to;
+        shorter = s.shorter;
+        within = s.within i t.step.from;
+        depth = s.depth;
+        below = t.step.below;
+        level = t.step.level;
+        part = t.step.part;
+      })
+]
 
--- a way ends at a part
-pub record EndsAt (n : Node) (start i : ℕ) : Type 0 where
-  pub below : below n start i ≡ []
-  pub level : level n i ≡ 0
-  pub part : part_at n start i ≡ (n, start)
-  pub is : is_part n ≡ true
-
--- where no step leads on
-pub ends_at_part : (n : Node) (start i : ℕ) → side_at n i ≡ None → EndsAt n start i
-ends_at_part (Leaf len bytes s mark) start i h = record { below = refl; level = refl; part = refl; is = refl }
-ends_at_part (Run byte len) start i h = record { below = refl; level = refl; part = refl; is = refl }
-ends_at_part (Func id len s) start i h = record { below = refl; level = refl; part = refl; is = refl }
-ends_at_part (Cat' mark depth len p left q right count) start i h =
-    ⊎_elim
-    (λ (a : i < len_of left). let f : ◌≡◌ {A = Option (Node × ℕ)} (Some (left, 0)) None = rw (lt-ltb i (len_of left) a) at h in absurd (cc))
-    (λ (a : len_of left ≤ i). let f : ◌≡◌ {A = Option (Node × ℕ)} (Some (right, len_of left)) None = rw (not_less i (len_of left) a) at h in
-    absurd (cc))
-    (cases_lt i (len_of left))
+-- where no step leads on the node is a part
+pub ends_at_part : (n : Node) (i : ℕ) → side_at n i ≡ None → IsPart n
+ends_at_part n i e = elim (part_or_side n i) [
+  | inl part ↦ part
+  | inr t ↦ let some : side_at n i ≡ Some (t.side, t.offset) = t.step.side in absurd (cc)
+]

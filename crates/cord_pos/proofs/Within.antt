@@ -3,24 +3,20 @@ use Rattle.std.proofs.Common.{◌≡◌, ℕ, ◌+◌, ◌-◌, ◌<◌, ◌≤�
 use Rattle.std.specs.Prelude.{replicate}
 use Rattle.std.specs.declared.rc.Rc.{Rc}
 use Rattle.std.specs.Global.{Global}
-use Rattle.std.proofs.Math.Logic.{⊎_elim}
-use Rattle.std.proofs.lemmas.Bool.{cases_lt}
 use Rattle.std.proofs.lemmas.List.{drop-replicate, take-replicate, length-take-le}
 use Rattle.cord_io.specs.declared.SourceId.{SourceId}
 use Rattle.cord_io.specs.Table.{Table, Lengths, length_at}
 use Rattle.cord_io.specs.declared.TheConstants.{MAX_LEN}
 use Rattle.cord_node.specs.PartsFrom.{Part}
 use Rattle.cord_node.specs.declared.Node.{Node}
-use Rattle.cord_node.specs.declared.Node.TheVariants.{Leaf, Run, Func, Cat'}
+use Rattle.cord_node.specs.declared.Node.TheVariants.{Run, Func, Cat'}
 use Rattle.cord_node.specs.Tree.{len_of, IsSound}
 use Rattle.cord_node.specs.Tables.{bytes_over, lengths_of}
 use Rattle.cord_node.proofs.Ranges.{range_of_range, range_left, range_right}
 use Rattle.cord_core.proofs.OverLemmas.{length-bytes}
-use Rattle.cord_pos.specs.inner.Path.{part_at}
 use Rattle.cord_pos.specs.Spans.{span_len, span_bytes, SpanFitsIn, IsSpanAt}
 use Rattle.cord_pos.specs.inner.Spans.{IsWithin}
 use Rattle.cord_pos.specs.declared.span.Span.{Span}
-use Rattle.cord_pos.proofs.Sides.{part_at-left, part_at-right}
 
 -- a place of a node is one of that node
 pub within_self : (n : Node) (place : ℕ) → IsSound n → IsWithin n place n place
@@ -145,23 +141,6 @@ func_span m s id start len from at k e sound f h some count bytes fits =
       text = λ t _. bytes t ∙ ap (λ (j : ℕ). take k (drop j (t id.0))) f ∙ sym (range_of_range (t id.0) at k start len h)
           ∙ ap (λ (n : Node). take k (drop at (bytes_over t n))) (sym e) ∙ ap (λ (j : ℕ). take j (drop at (bytes_over t m))) (sym count);
     }
-
--- an index of a node is one of the part that holds it
-pub part_within : (n : Node) (s i at : ℕ) → at ≡ s + i → IsSound n → i < len_of n → IsWithin n i (part_at n s i).0 (at - (part_at n s i).1)
-part_within (Leaf len bytes from mark) s i at z h k = let a : at - s ≡ i = omega arith in rw a (within_self (Leaf len bytes from mark) i h)
-part_within (Run byte len) s i at z h k = let a : at - s ≡ i = omega arith in rw a (within_self (Run byte len) i h)
-part_within (Func id len from) s i at z h k = let a : at - s ≡ i = omega arith in rw a (within_self (Func id len from) i h)
-part_within (Cat' mark depth len p left q right count) s i at z h k =
-    let n : Node = Cat' mark depth len p left q right count in
-    ⊎_elim
-    (λ (a : i < len_of left).
-    rw (part_at-left p q left right len depth count mark s i a)
-    (within_on n i left i _ _ (within_left p q left right len depth count mark h i) (part_within left s i at z h.0 a)))
-    (λ (a : len_of left ≤ i).
-    rw (part_at-right p q left right len depth count mark s i a)
-    (within_on n i right (i - len_of left) _ _ (within_right p q left right len depth count mark h i a)
-    (part_within right (s + len_of left) (i - len_of left) at (omega arith) h.1 (omega (arith, h.2)))))
-    (cases_lt i (len_of left))
 
 -- the place after it, as an end
 pub within_end : (n : Node) (place : ℕ) (m : Node) (at : ℕ) → IsWithin n place m at → IsWithin n (place + 1) m (at + 1)

@@ -1,16 +1,15 @@
 // The way from a root to a part: where each occurrence on it begins, and how many were visited.
-ghost use Rattle.std.specs.Prelude.{◌≡◌, ◌+◌, ◌-◌, ◌<◌, ◌≤◌, min, [], ◌∷◌, ◌++◌, Some, MatchOption};
+ghost use Rattle.std.specs.Prelude.{◌≡◌, ◌+◌, ◌<◌, ◌≤◌, [], ◌∷◌, ◌++◌, Some, MatchOption};
 ghost use Rattle.arrayvec.specs.ArrayVec.{array_vec_len};
-ghost use Rattle.cord_node.specs.Tree.{len_of, depth_of, IsSound};
-ghost use Rattle.cord_node.specs.Occurrences.{level};
+ghost use Rattle.cord_node.specs.Tree.{len_of};
 ghost use Rattle.cord_core.specs.Cord.{text_len};
-ghost use Rattle.cord_pos.specs.inner.Path.{node_of, places, below, part_at, IsClimb, EndsIn, IsOnWay, IsTakenTo};
+ghost use Rattle.cord_pos.specs.inner.Path.{node_of, places, CanDescend, IsDescent, IsClimb, EndsIn, IsOnWay, IsTakenTo};
 ghost use Rattle.cord_pos.specs.Position.{set_visits};
 ghost use Rattle.cord_pos.specs.inner.Invariant.{IsOnCord};
 
 use crate::visited::{Tree, Visited, Visits};
 use arrayvec::ArrayVec;
-use cord_io::{MAX_DEPTH, MAX_LEN};
+use cord_io::MAX_DEPTH;
 
 /// The most occurrences on a way: a root, and a step for each level below it.
 pub(crate) const PATH_LEN: usize = MAX_DEPTH as usize + 1;
@@ -101,16 +100,8 @@ impl<'a> Path<'a> {
 
     // Steps down from a node that begins at `start` to the part that holds its index `index`.
     fn descend(&mut self, top: Visited<'a>, mut start: u64, mut index: u64) -> Part<'a>
-        requires sound { IsSound (node_of top) }
-        requires inside { index < len_of (node_of top) }
-        requires fits { start + len_of (node_of top) ≤ MAX_LEN }
-        requires room { array_vec_len self.old.stops + depth_of (node_of top) ≤ PATH_LEN }
-        requires counted { self.old.visits.count ≤ u64.MAX }
-        ensures places { places self.new.stops.items ≡ places self.old.stops.items
-            ++ below (node_of top.entry) start index }
-        ensures visits { self.new.visits.count ≡ min (self.old.visits.count + level (node_of top.entry) index) u64.MAX }
-        ensures part { (node_of result.node, result.start) ≡ part_at (node_of top.entry) start index }
-        ensures end { result.end ≡ result.start + len_of (node_of result.node) }
+        requires { CanDescend (node_of top) start index (array_vec_len self.old.stops) self.old.visits.count }
+        ensures { IsDescent self.old self.new (node_of top.entry) start index result }
     {
         let mut node = top;
         while let Some(side) = node.step(index, &mut self.visits) {

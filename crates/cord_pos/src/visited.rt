@@ -2,7 +2,7 @@
 // `span.rt` alone is given a node, a part whose bytes it lends, and gives none out. The fields of the two are
 // private to this file, and so is what makes a `Visited`, which counts it. So the one way to a root, or from a `Visited`
 // to its child, is a step that is counted. `side_of` counts none: other crates call it, with nodes of their own.
-ghost use Rattle.std.specs.Prelude.{◌≡◌, ◌+◌, ◌-◌, ◌<◌, ◌≤◌, min, true, is_err, is_some, IfOk, IfSome, Some, None};
+ghost use Rattle.std.specs.Prelude.{◌≡◌, ◌+◌, ◌-◌, ◌<◌, min, is_err, IfOk, IfSome, Some, None};
 ghost use Rattle.std.specs.Prelude.{MatchOption};
 ghost use Rattle.cord_io.specs.Device.{FileSystem, count_after};
 ghost use Rattle.cord_io.specs.Frames.{LeavesSource};
@@ -11,7 +11,8 @@ ghost use Rattle.cord_node.specs.Tables.{FitsIn};
 ghost use Rattle.cord_core.specs.Cord.{text_len, IsCord};
 ghost use Rattle.cord_pos.specs.inner.Path.{node_of};
 ghost use Rattle.cord_pos.specs.inner.Parts.{HasByte};
-ghost use Rattle.cord_pos.specs.Spans.{is_part, side_at, span_len, IsSpanAt};
+ghost use Rattle.cord_pos.specs.Spans.{side_at};
+ghost use Rattle.cord_pos.specs.inner.Spans.{IsPlaceOfPart, IsRangeOfPart, HasSpan};
 
 use crate::span::Span;
 use cord_core::Cord;
@@ -166,22 +167,15 @@ impl<'a> Visited<'a> {
 
     /// What a part has from one place on, up to another: the caller gets no node.
     pub(crate) fn span(self, from: u64, to: u64) -> Option<Span<'a>>
-        requires part { is_part (node_of self) ≡ true }
-        requires sound { IsSound (node_of self) }
-        requires some { from < to }
-        requires inside { to ≤ len_of (node_of self) }
-        ensures is { is_some result ≡ true }
-        ensures span { IfSome result (IsSpanAt (node_of self.entry) from) }
-        ensures len { IfSome result (λ s. span_len s ≡ to - from) }
+        requires { IsRangeOfPart (node_of self) from to }
+        ensures { HasSpan (node_of self.entry) from to result }
     {
         Span::of_part(self.node, from, to)
     }
 
     /// The byte of a part's text at a place, of a function part by one read of one byte.
     pub(crate) fn byte<S: Source>(self, place: u64, src: &mut S) -> Result<u8, ReadFault>
-        requires part { is_part (node_of self) ≡ true }
-        requires sound { IsSound (node_of self) }
-        requires inside { place < len_of (node_of self) }
+        requires place { IsPlaceOfPart (node_of self) place }
         requires fits { FitsIn (S.lengths src.old) (node_of self) }
         ensures byte { (file_system : FileSystem) → S.consistent src.new file_system →
             IfOk result (λ b. HasByte (S.table src.old file_system) (node_of self.entry) place b) }

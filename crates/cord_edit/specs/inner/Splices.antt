@@ -3,7 +3,8 @@ use Rattle.std.specs.Prelude.{◌≡◌, ℕ, ◌+◌, ◌-◌, ◌≤◌, List,
 use Rattle.cord_io.specs.declared.TheConstants.{MAX_LEN}
 use Rattle.cord_node.specs.declared.Node.{Node}
 use Rattle.cord_node.specs.Tree.{Cell, known}
-use Rattle.cord_core.specs.Cord.{text, parts_of, IsCord}
+use Rattle.cord_node.specs.PartsFrom.{AreFrom}
+use Rattle.cord_core.specs.Cord.{text, text_len, parts_of, IsCord}
 use Rattle.cord_ec.specs.Gathered.{Growth, Gathered, leaf_parts}
 
 -- a cord, and bytes in one leaf
@@ -34,6 +35,29 @@ pub record IsCordWith (leaves : ℕ) (all : Growth) (cord : Option Node) : Type 
   pub text : text cord ≡ all.text
   pub sound : IsCord cord
   pub gathered : Gathered leaves all.parts (parts_of cord)
+
+-- two cords, one after the other
+abbrev pub both_of : Option Node → Option Node → Growth
+both_of prefix back = record { text = text prefix ++ text back; parts = parts_of prefix ++ parts_of back }
+
+-- what a text of `len` bytes has up to `from` and from `until` on, as two cords, where at most one part is cut in two
+pub record AreHalves (from until len : ℕ) (all : Growth) (first last : Option Node) : Type 0 where
+  pub prefix : text first ≡ take from all.text
+  pub back : text last ≡ drop until all.text
+  pub prefix_sound : IsCord first
+  pub back_sound : IsCord last
+  pub prefix_len : text_len first ≡ from
+  pub back_len : text_len last ≡ len - until
+  pub few : length (parts_of first) + length (parts_of last) ≤ length all.parts + 1
+  pub prefix_from : AreFrom (parts_of first) all.parts
+  pub back_from : AreFrom (parts_of last) all.parts
+
+-- three cords joined to one, whose parts are no more than theirs
+pub record IsJoined (prefix middle back all : Option Node) : Type 0 where
+  pub text : text all ≡ text prefix ++ text middle ++ text back
+  pub sound : IsCord all
+  pub from_there : AreFrom (parts_of all) (parts_of prefix ++ parts_of middle ++ parts_of back)
+  pub few : length (parts_of all) ≤ length (parts_of prefix) + length (parts_of middle) + length (parts_of back)
 
 -- the text is the same one, made of its parts and at most one leaf
 pub record StaysText (old new : Growth) : Type 0 where

@@ -1,12 +1,16 @@
 -- The way from a root to the part that holds an index, and how it is left and taken again.
-use Rattle.std.specs.Prelude.{◌≡◌, ℕ, ◌+◌, ◌-◌, ◌^◌, min, ◌<◌, nat_lt, nat_le, ◌&&◌, Bool, true, false, if◌then◌else◌, List, [], ◌∷◌, ◌++◌}
+use Rattle.std.specs.Prelude.{◌≡◌, ℕ, ◌+◌, ◌-◌, ◌^◌, min, ◌<◌, ◌≤◌, nat_lt, nat_le, ◌&&◌, Bool, true, false, if◌then◌else◌, List, [], ◌∷◌, ◌++◌}
 use Rattle.std.specs.Prelude.{map, Option, Some, None, ⊤}
 use Rattle.std.specs.Option.{option_map}
 use Rattle.cord_node.specs.declared.Node.{Node}
 use Rattle.cord_node.specs.declared.Node.TheVariants.{Leaf, Run, Func, Cat'}
-use Rattle.cord_node.specs.Tree.{len_of, IsSound}
+use Rattle.cord_io.specs.declared.TheConstants.{MAX_LEN}
+use Rattle.cord_node.specs.Tree.{len_of, depth_of, IsSound}
 use Rattle.cord_node.specs.Occurrences.{level, shared_level}
 use Rattle.cord_pos.specs.declared.path.Occurrence.{Occurrence}
+use Rattle.cord_pos.specs.declared.path.Part.{Part}
+use Rattle.cord_pos.specs.declared.path.Path.{Path}
+use Rattle.cord_pos.specs.declared.path.TheConstants.{PATH_LEN}
 use Rattle.cord_pos.specs.declared.visited.Visited.{Visited}
 
 -- the node that was visited
@@ -66,6 +70,21 @@ pub record EndsIn (ps : List Place) (n : Node) (start at : ℕ) : Type 0 where
   pub prefix : List Place
   pub split : ps ≡ prefix ++ (Some n, start) ∷ []
   pub holds : holds at (Some n, start) ≡ true
+
+-- from a node that begins at a place one can step down to its index: there is room for so many places and those of the way
+pub record CanDescend (top : Node) (start index count visits : ℕ) : Type 0 where
+  pub sound : IsSound top
+  pub inside : index < len_of top
+  pub fits : start + len_of top ≤ MAX_LEN
+  pub room : count + depth_of top ≤ PATH_LEN
+  pub counted : visits ≤ 2 ^ 64 - 1
+
+-- the way down from it was taken to the part that holds the index
+pub record IsDescent (old new : Path) (top : Node) (start index : ℕ) (found : Part) : Type 0 where
+  pub places : places new.stops.items ≡ places old.stops.items ++ below top start index
+  pub visits : new.visits.count ≡ min (old.visits.count + level top index) (2 ^ 64 - 1)
+  pub part : (node_of found.node, found.start) ≡ part_at top start index
+  pub end : found.end ≡ found.start + len_of (node_of found.node)
 
 -- the places are those of a way from a sound root, which holds the index
 pub record IsOnWay (ps : List Place) (at : ℕ) : Type 0 where

@@ -11,20 +11,8 @@ unreachable-requires c =
     (places (λ own. own == c.args.byte) c.args.bytes.now) c.memchr_iter.ensures.value) in
     no_nth c.args.bytes.now c.args.byte c.args.n c.requires (sym (rw c.in_default.is at item))
 
-pub returns-clause-inside : goal.returns-clause-inside
-returns-clause-inside c =
+pub returns : goal.returns
+returns c =
     let item = nth_from_yields_List (Some c.in-Some.place) c.nth.new.self c.args.n c.in-Some.ensures.ran (YieldsList-from_first (λ (p : ℕ). p)
     (λ (rest : List ℕ). rest) (places (λ own. own == c.args.byte) c.args.bytes.now) c.memchr_iter.ensures.value) in
-    (nth_place c.args.bytes.now c.args.byte c.args.n c.in-Some.place (sym item)).inside
-
-pub returns-clause-here : goal.returns-clause-here
-returns-clause-here c =
-    let item = nth_from_yields_List (Some c.in-Some.place) c.nth.new.self c.args.n c.in-Some.ensures.ran (YieldsList-from_first (λ (p : ℕ). p)
-    (λ (rest : List ℕ). rest) (places (λ own. own == c.args.byte) c.args.bytes.now) c.memchr_iter.ensures.value) in
-    (nth_place c.args.bytes.now c.args.byte c.args.n c.in-Some.place (sym item)).here
-
-pub returns-clause-before : goal.returns-clause-before
-returns-clause-before c =
-    let item = nth_from_yields_List (Some c.in-Some.place) c.nth.new.self c.args.n c.in-Some.ensures.ran (YieldsList-from_first (λ (p : ℕ). p)
-    (λ (rest : List ℕ). rest) (places (λ own. own == c.args.byte) c.args.bytes.now) c.memchr_iter.ensures.value) in
-    (nth_place c.args.bytes.now c.args.byte c.args.n c.in-Some.place (sym item)).before
+    nth_place c.args.bytes.now c.args.byte c.args.n c.in-Some.place (sym item)

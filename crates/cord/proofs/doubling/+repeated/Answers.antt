@@ -1,4 +1,4 @@
-use Rattle.std.proofs.Common.{◌≡◌, ◌+◌, ◌/◌, ◌≤◌, ap, refl, arith, Err}
+use Rattle.std.proofs.Common.{◌≡◌, ◌+◌, ◌/◌, ap, refl, arith, Err}
 use Rattle.cord_io.specs.declared.CordError.{CordError}
 use Rattle.cord_io.specs.declared.CordError.TheVariants.{TooLong}
 use Rattle.cord_core.specs.Cord.{text_len}
@@ -9,21 +9,17 @@ use Rattle.cord.proofs.doubling.+repeated.Goals as goal
 
 pub returns-in_err-twice-clause-too_long : goal.returns-in_err-twice-clause-too_long
 returns-in_err-twice-clause-too_long t c = handed_on _ TooLong c.in_err-twice.field-0.0 c.from_residual-in_err-twice.result
-    c.from_residual-in_err-twice.ensures.1 (λ h.
-    let half = c.args.times / 2 in
-    let le : half + half ≤ c.args.times = omega arith in
-    omega (
+    c.from_residual-in_err-twice.ensures.1 (λ h. omega (
       arith,
       c.in_err-twice.ensures.too_long (ap (λ (y : CordError). Err y) h),
       c.in_ok-half.ensures.len,
-      most_len c.args.times half (text_len c.args.cord.now) le,
+      most_len c.args.times (text_len c.args.cord.now),
     ))
 
 pub returns-then-times-eq0-2-clause-over : goal.returns-then-times-eq0-2-clause-over
 returns-then-times-eq0-2-clause-over t c =
-    let even = c.if-times-eq0-2.true in
     let half = c.args.times / 2 in
-    let e : c.args.times ≡ half + half = omega (arith, even) in
+    let e : c.args.times ≡ half + half = omega (arith, c.if-times-eq0-2.true) in
     twice c.args.times half c.args.cord.now c.in_ok-half.half c.in_ok-twice.twice e c.in_ok-half.ensures.over c.in_ok-twice.ensures.over
 
 pub returns-then-times-eq0-2-clause-means : goal.returns-then-times-eq0-2-clause-means
@@ -32,37 +28,25 @@ returns-then-times-eq0-2-clause-means t c = λ ls bytes copies m e.
 
 pub returns-then-times-eq0-2-clause-len : goal.returns-then-times-eq0-2-clause-len
 returns-then-times-eq0-2-clause-len t c =
-    let even = c.if-times-eq0-2.true in
-    let half = c.args.times / 2 in
-    let e : c.args.times ≡ half + half = omega (arith, even) in
-    omega (arith, c.in_ok-twice.ensures.len, c.in_ok-half.ensures.len, even_len c.args.times half (text_len c.args.cord.now) e)
+    let even = even_len c.args.times (text_len c.args.cord.now) c.if-times-eq0-2.true in
+    omega (arith, even, c.in_ok-twice.ensures.len, c.in_ok-half.ensures.len)
 
 pub returns-then-times-eq0-2-clause-within_limit : goal.returns-then-times-eq0-2-clause-within_limit
 returns-then-times-eq0-2-clause-within_limit t c =
-    let even = c.if-times-eq0-2.true in
-    let half = c.args.times / 2 in
-    let e : c.args.times ≡ half + half = omega (arith, even) in
-    omega (arith, c.in_ok-twice.ensures.within_limit, c.in_ok-half.ensures.len, even_len c.args.times half (text_len c.args.cord.now) e)
+    let even = even_len c.args.times (text_len c.args.cord.now) c.if-times-eq0-2.true in
+    omega (arith, even, c.in_ok-twice.ensures.within_limit, c.in_ok-half.ensures.len)
 
 pub returns-in_err-odd-clause-too_long : goal.returns-in_err-odd-clause-too_long
 returns-in_err-odd-clause-too_long t c = handed_on _ TooLong c.in_err-odd.field-0.0 c.from_residual-in_err-odd.result
     c.from_residual-in_err-odd.ensures.1 (λ h.
-    let odd = c.if-times-eq0-2.false in
-    let half = c.args.times / 2 in
-    let e : c.args.times ≡ half + half + 1 = omega (arith, odd) in
-    omega (
-      arith,
-      c.in_err-odd.ensures.too_long (ap (λ (y : CordError). Err y) h),
-      c.in_ok-twice.ensures.len,
-      c.in_ok-half.ensures.len,
-      odd_len c.args.times half (text_len c.args.cord.now) e,
-    ))
+    let odd = odd_len c.args.times (text_len c.args.cord.now) c.if-times-eq0-2.false in
+    let more = c.in_err-odd.ensures.too_long (ap (λ (y : CordError). Err y) h) in
+    omega (arith, odd, more, c.in_ok-twice.ensures.len, c.in_ok-half.ensures.len))
 
 pub returns-clause-over : goal.returns-clause-over
 returns-clause-over t c =
-    let odd = c.if-times-eq0-2.false in
     let half = c.args.times / 2 in
-    let e : c.args.times ≡ half + half + 1 = omega (arith, odd) in
+    let e : c.args.times ≡ half + half + 1 = omega (arith, c.if-times-eq0-2.false) in
     let even = twice (half + half) half c.args.cord.now c.in_ok-half.half c.in_ok-twice.twice refl c.in_ok-half.ensures.over
     c.in_ok-twice.ensures.over in
     once_more c.args.times (half + half) c.args.cord.now c.in_ok-twice.twice c.in_ok-odd.odd e even c.in_ok-odd.ensures.over
@@ -73,26 +57,10 @@ returns-clause-means t c = λ ls bytes copies m e. means_repeated ls bytes copie
 
 pub returns-clause-len : goal.returns-clause-len
 returns-clause-len t c =
-    let odd = c.if-times-eq0-2.false in
-    let half = c.args.times / 2 in
-    let e : c.args.times ≡ half + half + 1 = omega (arith, odd) in
-    omega (
-      arith,
-      c.in_ok-odd.ensures.len,
-      c.in_ok-twice.ensures.len,
-      c.in_ok-half.ensures.len,
-      odd_len c.args.times half (text_len c.args.cord.now) e,
-    )
+    let odd = odd_len c.args.times (text_len c.args.cord.now) c.if-times-eq0-2.false in
+    omega (arith, odd, c.in_ok-odd.ensures.len, c.in_ok-twice.ensures.len, c.in_ok-half.ensures.len)
 
 pub returns-clause-within_limit : goal.returns-clause-within_limit
 returns-clause-within_limit t c =
-    let odd = c.if-times-eq0-2.false in
-    let half = c.args.times / 2 in
-    let e : c.args.times ≡ half + half + 1 = omega (arith, odd) in
-    omega (
-      arith,
-      c.in_ok-odd.ensures.within_limit,
-      c.in_ok-twice.ensures.len,
-      c.in_ok-half.ensures.len,
-      odd_len c.args.times half (text_len c.args.cord.now) e,
-    )
+    let odd = odd_len c.args.times (text_len c.args.cord.now) c.if-times-eq0-2.false in
+    omega (arith, odd, c.in_ok-odd.ensures.within_limit, c.in_ok-twice.ensures.len, c.in_ok-half.ensures.len)

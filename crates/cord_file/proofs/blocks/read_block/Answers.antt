@@ -1,7 +1,4 @@
 use Rattle.cord_file.proofs.blocks.read_block.Goals as goal
 
-pub returns-clause-opened : goal.returns-clause-opened
-returns-clause-opened g c = c.read_range.ensures.opened
-
-pub returns-clause-count : goal.returns-clause-count
-returns-clause-count g c = c.read_range.ensures.count
+pub returns-clause-device : goal.returns-clause-device
+returns-clause-device g c = c.read_range.ensures.device

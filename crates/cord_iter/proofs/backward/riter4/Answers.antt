@@ -1,7 +1,10 @@
-use Rattle.std.proofs.Common.{◌≡◌, ◌+◌, ◌∙◌, true, false}
+use Rattle.std.proofs.Common.{◌≡◌, ◌+◌, ◌-◌, ◌∙◌, true, false}
+use Rattle.cord_core.specs.Cord.{bytes_of}
 use Rattle.cord_pos.specs.Position.{IsByteAt, prev_index}
 use Rattle.cord_iter.proofs.Takes.{on_err}
-use Rattle.cord_iter.proofs.Backs.{cord_len, back_on, back_stop, back_prefix, left_prev}
+use Rattle.cord_iter.specs.inner.Walk.{places_up_to}
+use Rattle.cord_iter.proofs.Walks.{walk_stop_in}
+use Rattle.cord_iter.proofs.Backs.{cord_len, downward, back_next, back_prefix, left_prev}
 use Rattle.cord_iter.proofs.backward.riter4.Goals as goal
 
 pub returns-in_err-byte-clause-prefix : goal.returns-in_err-byte-clause-prefix
@@ -25,9 +28,10 @@ returns-then-byte-clause-walked g c file_system agrees =
     rw (c.loop-position.invariant.table, c.loop-position.invariant.cord) at c.in_ok-byte.ensures.byte file_system agrees in
     let stop : (state c.byte.new.self, true) ≡ step (state c.loop-position.visitor) c.in_ok-byte.byte =
     rw c.if-byte.true at c.byte.ensures in
-    back_stop step (state c.args.visitor.now) (state c.loop-position.visitor)
-    (state c.byte.new.self) t cord c.args.i index c.in_ok-byte.byte len c.requires.inside c.loop-position.invariant.below byte stop
-    (c.loop-position.invariant.walked file_system before)
+    walk_stop_in step (state c.args.visitor.now) (state c.byte.new.self) (downward (bytes_of t cord) c.args.i)
+    (c.args.i + 1 - places_up_to (prev_index index))
+    (back_next step (state c.args.visitor.now) (state c.loop-position.visitor) (state c.byte.new.self) true t cord c.args.i index
+    c.in_ok-byte.byte len c.requires.inside c.loop-position.invariant.below byte stop (c.loop-position.invariant.walked file_system before))
 
 pub loop-position-preserved : goal.loop-position-preserved
 loop-position-preserved g c =
@@ -50,8 +54,8 @@ loop-position-preserved g c =
           let len = cord_len (g.S.Source.lengths c.args.src.now) t cord reported c.set-position.ensures.sound c.requires.fits in
           let byte : IsByteAt t cord index c.in_ok-byte.byte =
           rw (c.loop-position.invariant.table, c.loop-position.invariant.cord) at c.in_ok-byte.ensures.byte file_system agrees in
-          rw to (back_on step (state c.args.visitor.now) (state c.loop-position.visitor)
-          (state c.byte.new.self) t cord c.args.i index c.in_ok-byte.byte len c.requires.inside c.loop-position.invariant.below byte on
+          rw to (back_next step (state c.args.visitor.now) (state c.loop-position.visitor) (state c.byte.new.self) false t cord c.args.i
+          index c.in_ok-byte.byte len c.requires.inside c.loop-position.invariant.below byte on
           (c.loop-position.invariant.walked file_system before));
       reads = c.in_ok-byte.ensures.count ∙ c.loop-position.invariant.reads;
       lengths = c.fetch.ensures.source.lengths ∙ c.loop-position.invariant.lengths;

@@ -1,4 +1,4 @@
-use Rattle.std.proofs.Common.{◌≡◌, ◌+◌, ◌-◌, ◌≤◌, ◌++◌, ℕ, length, take, drop, arith, subst, sym, ◌∙◌, refl, length-append, length-drop}
+use Rattle.std.proofs.Common.{◌≡◌, ◌+◌, ◌-◌, ◌≤◌, ℕ, length, take, drop, arith, subst, sym, ◌∙◌, refl, length-append, length-drop}
 use Rattle.std.proofs.lemmas.List.{length-take-le, length-replicate}
 use Rattle.cord_io.specs.Table.{Table}
 use Rattle.cord_iter.proofs.Takes.{puts_none, puts_both, puts_some}
@@ -36,13 +36,14 @@ returns-in_err-put_piece g c =
     let room : count ≤ length c.loop-done.buffer = subst (λ n. count ≤ n) (sym c.loop-done.invariant.room) most in
     let whole : length (take count c.loop-done.buffer) ≡ count = length-take-le count c.loop-done.buffer room in
     let source = λ (t : Table). t c.args.id.0 in
-    let piece = λ (t : Table). take count (drop (start + done) (source t)) in
     let inside : done + count ≤ c.args.len = omega (arith, c.piece_len-count.ensures.inside) in
-    let first = λ (t : Table). take done (drop start (source t)) in
-    puts_some _ (λ (t : Table). first t ++ piece t) (λ (t : Table). take (c.args.len - (done + count)) (drop (start + (done + count)) (source t)))
-    (λ file_system agrees. range_split (source (g.S.Source.table c.args.src.now file_system)) start done count c.args.len inside)
-    c.from_residual.ensures.1 inside (puts_both _ first piece (λ file_system agrees. refl) refl c.loop-done.invariant.puts
-    (rw whole at c.in_err-put_piece.ensures))
+    puts_some _ (λ (t : Table). take (done + count) (drop start (source t)))
+    (λ (t : Table). take (c.args.len - (done + count)) (drop (start + (done + count)) (source t)))
+    (λ file_system agrees. range_split (source (g.S.Source.table c.args.src.now file_system)) start (done + count) c.args.len inside)
+    c.from_residual.ensures.1 inside (puts_both _ (λ (t : Table). take done (drop start (source t)))
+    (λ (t : Table). take count (drop (start + done) (source t)))
+    (λ file_system agrees. range_next (source (g.S.Source.table c.args.src.now file_system)) start done count) refl
+    c.loop-done.invariant.puts (rw whole at c.in_err-put_piece.ensures))
 
 pub returns : goal.returns
 returns g c =

@@ -4,14 +4,10 @@ use Rattle.cord_pos.proofs.Position.fetch.Goals as goal
 pub overflow_sub-spot : goal.overflow_sub-spot
 overflow_sub-spot g c = (spot_part _ _ _ (rw c.in-Some.is at c.self.invariant)).from
 
-pub byte-requires-clause-part : goal.byte-requires-clause-part
-byte-requires-clause-part g c = (spot_part _ _ _ (rw c.in-Some.is at c.self.invariant)).part
-
-pub byte-requires-clause-sound : goal.byte-requires-clause-sound
-byte-requires-clause-sound g c = (spot_part _ _ _ (rw c.in-Some.is at c.self.invariant)).within.sound
-
-pub byte-requires-clause-inside : goal.byte-requires-clause-inside
-byte-requires-clause-inside g c = (spot_part _ _ _ (rw c.in-Some.is at c.self.invariant)).inside
+pub byte-requires-clause-place : goal.byte-requires-clause-place
+byte-requires-clause-place g c =
+    let on = spot_part _ _ _ (rw c.in-Some.is at c.self.invariant) in
+    record { part = on.part; sound = on.within.sound; inside = on.inside }
 
 pub byte-requires-clause-fits : goal.byte-requires-clause-fits
 byte-requires-clause-fits g c =

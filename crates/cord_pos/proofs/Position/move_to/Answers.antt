@@ -1,5 +1,4 @@
-use Rattle.std.proofs.Common.{arith}
-use Rattle.cord_pos.proofs.Standings.{position_cord, still, moved_still_index, moved_still_visits, move_bound}
+use Rattle.cord_pos.proofs.Standings.{position_cord, still, moved_still_index, moved_still_visits, bound_moved}
 use Rattle.cord_pos.proofs.Position.move_to.Goals as goal
 
 pub invariant_of-self : goal.invariant_of-self
@@ -20,10 +19,5 @@ returns-then-index-spot-clause-visits c =
 pub returns-then-index-len-clause-bound : goal.returns-then-index-len-clause-bound
 returns-then-index-len-clause-bound c =
     let on = rw c.in-Some.is at c.self.invariant in
-    let v = rw (← c.self.view_is, c.in-Some.is) at c.go_to.ensures.visits in
-    rw (← c.self.view_is) (omega (
-      arith,
-      v,
-      move_bound c.self.inside.tree.cord.now c.in-Some.spot.index c.args.index
-          (position_cord _ _ _ on),
-    ))
+    let visits = rw (← c.self.view_is, c.in-Some.is) at c.go_to.ensures.visits in
+    rw (← c.self.view_is) (bound_moved c.self.inside.tree.cord.now c.in-Some.spot.index c.args.index _ _ (position_cord _ _ _ on) visits)

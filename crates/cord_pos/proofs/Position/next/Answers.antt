@@ -1,7 +1,6 @@
-use Rattle.std.proofs.Common.{◌≡◌, ◌+◌, ◌<◌, Some, arith}
+use Rattle.std.proofs.Common.{◌+◌, ◌<◌, arith}
 use Rattle.cord_core.specs.Cord.{text_len}
-use Rattle.cord_pos.specs.Position.{move_visits, next_visits}
-use Rattle.cord_pos.proofs.Standings.{position_cord, next_still, next_still_index, next_still_visits, move_bound, move_one_part, next_move}
+use Rattle.cord_pos.proofs.Standings.{position_cord, next_still, next_still_index, next_still_visits, bound_moved, move_one_part, next_move}
 use Rattle.cord_pos.proofs.Standings.{next_no_earlier}
 use Rattle.cord_pos.proofs.Position.next.Goals as goal
 
@@ -26,20 +25,13 @@ returns-then-index-len-clause-visits c =
     let cord = position_cord _ _ _ on in
     let v = rw (← c.self.view_is, c.in-Some.is) at c.go_to.ensures.visits in
     let k : c.in-Some.spot.index + 1 < text_len c.self.inside.tree.cord.now = omega (arith, c.len.ensures, c.if-index-len.true) in
-    let m : next_visits c.self.inside.tree.cord.now (Some c.in-Some.spot.index) ≡ move_visits c.self.inside.tree.cord.now
-    c.in-Some.spot.index (c.in-Some.spot.index + 1) = next_move _ _ cord k in
-    rw (← c.self.view_is, c.in-Some.is, m) v
+    rw (← c.self.view_is, c.in-Some.is, next_move c.self.inside.tree.cord.now c.in-Some.spot.index cord k) v
 
 pub returns-then-index-len-clause-bound : goal.returns-then-index-len-clause-bound
 returns-then-index-len-clause-bound c =
     let on = rw c.in-Some.is at c.self.invariant in
-    let v = rw (← c.self.view_is, c.in-Some.is) at c.go_to.ensures.visits in
-    rw (← c.self.view_is) (omega (
-      arith,
-      v,
-      move_bound c.self.inside.tree.cord.now c.in-Some.spot.index (c.in-Some.spot.index + 1)
-          (position_cord _ _ _ on),
-    ))
+    let visits = rw (← c.self.view_is, c.in-Some.is) at c.go_to.ensures.visits in
+    rw (← c.self.view_is) (bound_moved c.self.inside.tree.cord.now c.in-Some.spot.index (c.in-Some.spot.index + 1) _ _ (position_cord _ _ _ on) visits)
 
 pub returns-then-index-len-clause-one_part : goal.returns-then-index-len-clause-one_part
 returns-then-index-len-clause-one_part c =

@@ -1,5 +1,5 @@
 use Rattle.std.proofs.Common.{◌-◌, arith, rules}
-use Rattle.cord_pos.proofs.Standings.{position_cord, prev_still, prev_still_visits, move_bound, move_one_part}
+use Rattle.cord_pos.proofs.Standings.{position_cord, prev_still, prev_still_visits, bound_moved, move_one_part}
 use Rattle.cord_pos.proofs.Position.prev.Goals as goal
 
 pub returns-in_default : goal.returns-in_default
@@ -18,13 +18,8 @@ returns-then-spot-clause-visits c =
 pub returns-then-spot-gt0-clause-bound : goal.returns-then-spot-gt0-clause-bound
 returns-then-spot-gt0-clause-bound c =
     let on = rw c.in-Some.is at c.self.invariant in
-    let v = rw (← c.self.view_is, c.in-Some.is) at c.go_to.ensures.visits in
-    rw (← c.self.view_is) (omega (
-      arith,
-      v,
-      move_bound c.self.inside.tree.cord.now c.in-Some.spot.index (c.in-Some.spot.index - 1)
-          (position_cord _ _ _ on),
-    ))
+    let visits = rw (← c.self.view_is, c.in-Some.is) at c.go_to.ensures.visits in
+    rw (← c.self.view_is) (bound_moved c.self.inside.tree.cord.now c.in-Some.spot.index (c.in-Some.spot.index - 1) _ _ (position_cord _ _ _ on) visits)
 
 pub returns-then-spot-gt0-clause-one_part : goal.returns-then-spot-gt0-clause-one_part
 returns-then-spot-gt0-clause-one_part c =

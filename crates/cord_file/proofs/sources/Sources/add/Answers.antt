@@ -15,24 +15,16 @@ use Rattle.cord_file.proofs.Holding.{each_pushed, opened_more, IsFound, found_th
 use Rattle.cord_file.proofs.sources.Sources.add.Goals as goal
 
 pub invariant_of-self : goal.invariant_of-self
-invariant_of-self g c =
-    let old = c.args.self.now in
-    record {
-      few = old.few;
-      sound = sound_moved (g.F.Files.consistent old.files) (g.F.Files.consistent c.open.new.self) (g.F.Files.opened old.files)
-          (g.F.Files.opened c.open.new.self) old.open_files.items old.cache.entries c.open.ensures.earlier
-          (λ n h. c.in_err-no.ensures.none_opened n) old.sound;
-    }
+invariant_of-self g c = record {
+  few = c.args.self.now.few;
+  sound = sound_moved c.open.ensures.earlier (λ n h. c.in_err-no.ensures.none_opened n) c.args.self.now.sound;
+}
 
 pub invariant_of-self-then-len-gt-MAX_LEN : goal.invariant_of-self-then-len-gt-MAX_LEN
-invariant_of-self-then-len-gt-MAX_LEN g c =
-    let old = c.args.self.now in
-    record {
-      few = old.few;
-      sound = sound_moved (g.F.Files.consistent old.files) (g.F.Files.consistent c.open.new.self) (g.F.Files.opened old.files)
-          (g.F.Files.opened c.open.new.self) old.open_files.items old.cache.entries c.open.ensures.earlier c.in_ok-no.ensures.opened.kept
-          old.sound;
-    }
+invariant_of-self-then-len-gt-MAX_LEN g c = record {
+  few = c.args.self.now.few;
+  sound = sound_moved c.open.ensures.earlier c.in_ok-no.ensures.opened.kept c.args.self.now.sound;
+}
 
 pub invariant_of-self-2 : goal.invariant_of-self-2
 invariant_of-self-2 g c =

@@ -31,19 +31,22 @@ invariant_of-self-2-clause-sound g c =
     (c.in_ok-read_block.ensures.block file_system is)) in
     let all : AreCached consistent files c.keep.new.cache.entries =
     kept_with consistent files self.cache.entries c.keep.new.cache.entries (key, block) self.sound.cached kept c.keep.ensures in
-    sound_keeping consistent (g.F.Files.opened self.files) files self.cache.entries c.keep.new.cache.entries all self.sound
+    sound_keeping all self.sound
 
-pub returns-clause-bytes : goal.returns-clause-bytes
-returns-clause-bytes g c = λ file_system is.
-    let files = c.args.self.now.open_files.items in
-    let block : HeapBlock = with_value c.in-Some.block c.read_block.new.block in
-    let out : List ℕ = c.copy_from_slice.new.self in
-    let same : length out ≡ length c.args.out.now = search rules in
-    let count : (c.args.start % BLOCK + length c.args.out.now) - c.args.start % BLOCK ≡ length out = search rules in
-    let part : c.args.start % BLOCK + length out ≤ BLOCK = omega (arith, same, c.requires.part) in
-    let lent : c.deref.result.now ≡ block.value = search rules in
-    read_of_block files c.args.place (c.args.start / BLOCK) block.value out c.args.start file_system
-    (c.in_ok-read_block.ensures.block file_system is) refl
-    (subst (λ n. IsSomeAnd (slice_get files c.args.place) (λ f. c.args.start + n ≤ f.len)) (sym same) c.requires.inside) part
-    (c.copy_from_slice.ensures.after ∙ ap (λ t. take ((c.args.start % BLOCK + length c.args.out.now) - c.args.start % BLOCK)
-    (drop (c.args.start % BLOCK) t)) lent ∙ ap (λ n. take n (drop (c.args.start % BLOCK) block.value)) count)
+pub returns : goal.returns
+returns g c = record {
+  files = search rules;
+  bytes = λ file_system is.
+      let files = c.args.self.now.open_files.items in
+      let block : HeapBlock = with_value c.in-Some.block c.read_block.new.block in
+      let out : List ℕ = c.copy_from_slice.new.self in
+      let same : length out ≡ length c.args.out.now = search rules in
+      let count : (c.args.start % BLOCK + length c.args.out.now) - c.args.start % BLOCK ≡ length out = search rules in
+      let part : c.args.start % BLOCK + length out ≤ BLOCK = omega (arith, same, c.requires.part) in
+      let lent : c.deref.result.now ≡ block.value = search rules in
+      read_of_block files c.args.place (c.args.start / BLOCK) block.value out c.args.start file_system
+      (c.in_ok-read_block.ensures.block file_system is) refl
+      (subst (λ n. IsSomeAnd (slice_get files c.args.place) (λ f. c.args.start + n ≤ f.len)) (sym same) c.requires.inside) part
+      (c.copy_from_slice.ensures.after ∙ ap (λ t. take ((c.args.start % BLOCK + length c.args.out.now) - c.args.start % BLOCK)
+      (drop (c.args.start % BLOCK) t)) lent ∙ ap (λ n. take n (drop (c.args.start % BLOCK) block.value)) count);
+}

@@ -39,7 +39,7 @@ returns-clause-text g c = λ file_system agrees.
     let files = self.open_files.items in
     let items : rc_slice_items c.in_ok-shared.shared ≡ c.in_ok-bytes.bytes.items = c.in_ok-shared.ensures in
     let reported = as_long_as_reported (g.F.Files.consistent self.files) files self.sound.as_long file_system
-    (c.in_ok-bytes.ensures.files.earlier file_system agrees) in
+    (c.in_ok-bytes.ensures.files.device.earlier file_system agrees) in
     c.in_ok-from_shared.ensures.over.bytes (table_in (opened_of files) file_system) ∙ items
     ∙ source_bytes file_system files c.args.id.0 c.args.len c.in_ok-bytes.bytes.items c.requires.file reported c.requires.len
     c.in_ok-bytes.ensures.len (c.in_ok-bytes.ensures.bytes file_system agrees)

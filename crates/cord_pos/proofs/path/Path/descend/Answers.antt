@@ -1,7 +1,7 @@
-use Rattle.std.proofs.Common.{◌++◌, List, ap, arith, sym, ◌∙◌, append_assoc}
+use Rattle.std.proofs.Common.{◌≡◌, ◌++◌, List, [], ap, arith, sym, ◌∙◌, append_assoc}
 use Rattle.std.proofs.lemmas.Grind.{common_steps}
-use Rattle.cord_pos.specs.inner.Path.{Place, node_of, places}
-use Rattle.cord_pos.proofs.Steps.{IsSide, is_side, EndsAt, ends_at_part}
+use Rattle.cord_pos.specs.inner.Path.{Place, node_of, places, below}
+use Rattle.cord_pos.proofs.Steps.{IsSide, is_side, ends_at_part}
 use Rattle.cord_pos.proofs.path.Path.descend.Goals as goal
 
 pub loop-side-preserved : goal.loop-side-preserved
@@ -26,11 +26,12 @@ loop-side-preserved c =
 pub returns : goal.returns
 returns c =
     let i = c.loop-side.invariant in
-    let h : EndsAt (node_of c.loop-side.node) c.loop-side.start c.loop-side.index =
-    ends_at_part (node_of c.loop-side.node) c.loop-side.start c.loop-side.index c.in_default.ensures.side in
+    let n = node_of c.loop-side.node in
+    let part = ends_at_part n c.loop-side.index c.in_default.ensures.side in
+    let none : below n c.loop-side.start c.loop-side.index ≡ [] = part.below c.loop-side.start c.loop-side.index in
     record {
       places = grind (arith, common_steps);
-      visits = omega (arith, i.visits, i.counted, h.level, c.in_default.ensures.count);
-      part = sym h.part ∙ i.part;
+      visits = omega (arith, i.visits, i.counted, part.level c.loop-side.index, c.in_default.ensures.count);
+      part = sym (part.part c.loop-side.start c.loop-side.index) ∙ i.part;
       end = grind (arith, common_steps);
     }

@@ -1,5 +1,9 @@
 use Rattle.cord_pos.proofs.SpotBytes.{part_some}
 use Rattle.cord_pos.proofs.visited.Visited.span.Goals as goal
 
-pub returns-clause-is : goal.returns-clause-is
-returns-clause-is c = part_some _ _ c.of_part.ensures.none c.requires.part
+pub returns : goal.returns
+returns c = record {
+  is = part_some _ _ c.of_part.ensures.none c.requires.part;
+  span = c.of_part.ensures.span;
+  len = c.of_part.ensures.len;
+}
