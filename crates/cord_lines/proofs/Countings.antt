@@ -1,13 +1,8 @@
 -- Counts of texts, one after the other.
-use Rattle.std.proofs.Common.{◌≡◌, ℕ, ◌+◌, ◌-◌, ◌<◌, ◌≤◌, ◌^◌, cond, List, [], ◌∷◌, ◌++◌, length, take, drop, sym, ap, ◌∙◌, arith, length-append, Bool, true, false}
-use Rattle.std.specs.Prelude.{◌==◌, if◌then◌else◌}
-use Rattle.std.proofs.lemmas.List.Sums.{sum_by-append, count_by-le-length}
-use Rattle.std.proofs.lemmas.List.{drop-drop}
-use Rattle.std.proofs.Math.Seq.{take-add, take-append_seam}
-use Rattle.cord_lines.specs.declared.counting.Counts.{Counts}
-use Rattle.cord_lines.specs.Counts.{begins_char, chars_in, counts_of, ends_in, is_end, plus, AreFew}
-use Rattle.cord_lines.specs.Lines.{after_ends}
-use Rattle.cord_lines.specs.inner.Blocks.{without}
+use Rattle.cord_lines.proofs.Common.{AreFew, Bool, Counts, List, [], after_ends, ap, arith, begins_char, chars_in, cond, counts_of, ends_in}
+use Rattle.cord_lines.proofs.Common.{false, if◌then◌else◌, is_end, length, length-append, plus, sum_by-append, true, without, ℕ, ◌++◌, ◌+◌}
+use Rattle.cord_lines.proofs.Common.{◌-◌, ◌<◌, ◌==◌, ◌^◌, ◌∙◌, ◌∷◌, ◌≡◌, ◌≤◌}
+use Rattle.std.proofs.lemmas.List.Sums.{count_by-le-length}
 use Rattle.cord_lines.proofs.Ends.{ends-append}
 
 -- two are as many in each of the three
@@ -39,18 +34,6 @@ plus_assoc a b c = same_counts (plus (plus a b) c) (plus a (plus b c)) (omega ar
 -- what others are without the last two of three
 pub two_left : (a b c : Counts) → without (without (plus (plus a b) c) b) c ≡ a
 two_left a b c = same_counts (without (without (plus (plus a b) c) b) c) a (omega arith)
-
--- a chunk more is counted
-pub counted_on : (x chunk : List ℕ) (from : ℕ) (have : Counts) → have ≡ counts_of (take have.bytes (drop from x)) →
-    drop (from + have.bytes) x ≡ chunk ++ drop (length chunk) (drop (from + have.bytes) x) →
-    plus have (counts_of chunk) ≡ counts_of (take (have.bytes + length chunk) (drop from x))
-counted_on x chunk from have is next =
-    let rest = drop from x in
-    let n = length chunk in
-    let piece : take n (drop have.bytes rest) ≡ chunk =
-    ap (take n) (drop-drop have.bytes from x ∙ next) ∙ take-append_seam chunk (drop n (drop (from + have.bytes) x)) in
-    ap (λ (a : Counts). plus a (counts_of chunk)) is ∙ sym (counts-append (take have.bytes rest) chunk)
-    ∙ ap counts_of (sym (take-add have.bytes n rest ∙ ap (λ (y : List ℕ). take have.bytes rest ++ y) piece))
 
 pub ends-le : (x : List ℕ) → ends_in x ≤ length x
 ends-le x = count_by-le-length is_end x

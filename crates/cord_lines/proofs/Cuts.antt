@@ -1,17 +1,13 @@
 -- Texts that are cut into pieces.
-use Rattle.std.proofs.Common.{◌≡◌, ℕ, suc, zero, ◌+◌, ◌-◌, ◌<◌, ◌≤◌, List, [], ◌∷◌, ◌++◌, length, take, drop, refl, sym, ap, ◌∙◌, arith, append_assoc, subst, min, length-append, length-take, Bool}
+use Rattle.cord_lines.proofs.Common.{AreBlocksOf, AreFew, AreModest, AreNarrow, AreOfSomeText, Block, Bool, Counts, Indexed, IsEditOf}
+use Rattle.cord_lines.proofs.Common.{IsMark, IsModest, List, MAX_LEN, [], after_ends, ap, append-nil, append_assoc, arith, block_counts}
+use Rattle.cord_lines.proofs.Common.{counts_of, drop, drop-append_seam, drop-drop, lacks_end, length, length-append, length-take, min, plus}
+use Rattle.cord_lines.proofs.Common.{refl, subst, suc, sym, take, take-add, take-append-drop, take-append-le, take-append_seam, take-take}
+use Rattle.cord_lines.proofs.Common.{take_all, total, without, zero, ℕ, ◌++◌, ◌+◌, ◌-◌, ◌<◌, ◌∙◌, ◌∷◌, ◌≡◌, ◌≤◌}
 use Rattle.std.specs.Prelude.{map}
-use Rattle.std.proofs.lemmas.List.{append-nil, take_all, drop-drop, take-append-drop, take-append-le, take-take}
-use Rattle.std.proofs.Math.Seq.{take-add, take-append_seam, drop-append_seam}
-use Rattle.cord_io.specs.declared.TheConstants.{MAX_LEN}
-use Rattle.cord_lines.specs.Lines.{after_ends, lacks_end, IsEditOf}
-use Rattle.cord_lines.specs.Index.{Indexed, AreCountsOf, IsIndexOf}
+use Rattle.cord_lines.specs.Index.{AreCountsOf, IsIndexOf}
 use Rattle.cord_lines.proofs.Ends.{past_all}
-use Rattle.cord_lines.specs.declared.counting.Counts.{Counts}
-use Rattle.cord_lines.specs.declared.blocks.Block.{Block}
-use Rattle.cord_lines.specs.Counts.{counts_of, plus, AreFew, AreNarrow}
-use Rattle.cord_lines.specs.inner.Blocks.{block_counts, total, without}
-use Rattle.cord_lines.specs.inner.Cuts.{AreBlocksOf, AreModest, AreOfSomeText, IsMark, IsModest, shown}
+use Rattle.cord_lines.specs.inner.Cuts.{shown}
 use Rattle.cord_lines.proofs.Countings.{alike, counts-append, ends-le, chars-le, two_left}
 use Rattle.cord_lines.proofs.Sums.{first_within, min_prefix, modest_within, total-cons}
 

@@ -1,21 +1,17 @@
 -- Blocks of a text that is edited.
-use Rattle.std.proofs.Common.{◌≡◌, ℕ, ◌+◌, ◌-◌, ◌<◌, ◌≤◌, List, [], ◌∷◌, ◌++◌, length, take, drop, refl, sym, ap, ◌∙◌, arith, append_assoc, subst, length-append, length-take, length-drop, min, Some, Option, cond, ◌*◌}
-use Rattle.std.proofs.Math.ListN.{replicate, set}
-use Rattle.std.proofs.lemmas.List.{append-nil, length-replicate, take-append-drop, drop-drop, take-append-le, drop-append-le}
-use Rattle.std.proofs.lemmas.List.Sums.{sum_by-take-le}
-use Rattle.std.proofs.lemmas.List.Folds.{sum_by-replicate}
-use Rattle.std.proofs.Math.Seq.{take-add, take-append_seam, drop-append_seam}
+use Rattle.cord_lines.proofs.Common.{AreBlocksOf, AreFew, AreModest, AreOfSomeText, Block, Counts, FollowEdit, IsEditOf, List, MAX_LEN}
+use Rattle.cord_lines.proofs.Common.{Some, [], ap, append-nil, append_assoc, arith, begins_char, block_counts, cond, counts_of, drop}
+use Rattle.cord_lines.proofs.Common.{drop-append_seam, drop-drop, exchanged, is_end, length, length-append, length-drop, length-take, min}
+use Rattle.cord_lines.proofs.Common.{plus, refl, replaced, set, subst, sum_by-replicate, sum_by-take-le, sym, take, take-add}
+use Rattle.cord_lines.proofs.Common.{take-append-drop, take-append-le, take-append_seam, total, ℕ, ◌*◌, ◌++◌, ◌+◌, ◌-◌, ◌<◌, ◌∙◌, ◌∷◌, ◌≡◌}
+use Rattle.cord_lines.proofs.Common.{◌≤◌}
+use Rattle.std.proofs.Common.{Option}
+use Rattle.std.proofs.Math.ListN.{replicate}
+use Rattle.std.proofs.lemmas.List.{length-replicate, drop-append-le}
 use Rattle.cord_node.proofs.Ranges.{take-append_right, drop-append_right}
-use Rattle.cord_io.specs.declared.TheConstants.{MAX_LEN}
-use Rattle.cord_lines.specs.declared.counting.Counts.{Counts}
-use Rattle.cord_lines.specs.declared.blocks.Block.{Block}
 use Rattle.cord_lines.specs.declared.renewing.Edit.{Edit}
 use Rattle.cord_lines.specs.declared.renewing.Span.{Span}
-use Rattle.cord_lines.specs.Counts.{begins_char, counts_of, is_end, plus, AreFew}
-use Rattle.cord_lines.specs.Lines.{IsEditOf}
-use Rattle.cord_lines.specs.inner.Blocks.{block_counts, exchanged, total}
-use Rattle.cord_lines.specs.inner.Cuts.{AreBlocksOf, AreModest, AreOfSomeText}
-use Rattle.cord_lines.specs.inner.Edits.{replaced, Covers, EditFits, FollowEdit, IsExchanged}
+use Rattle.cord_lines.specs.inner.Edits.{Covers, EditFits, IsExchanged}
 use Rattle.cord_lines.proofs.Countings.{alike, chars-le, counts-append, ends-le, plus_assoc, same_counts}
 use Rattle.cord_lines.proofs.Ends.{times_ends}
 use Rattle.cord_lines.proofs.Cuts.{Split, split, joined, total_is}
@@ -180,8 +176,8 @@ module _ (bs news : List Block) (x : List ℕ) (c : AreBlocksOf bs x) (first cou
       exchanged_in b counted one = follows (subst (λ (ys : List Block). AreBlocksOf ys m) (sym one) (m, [], sym (append-nil m), counted ∙ counts_then, refl))
 
 -- the blocks that an edit meets are replaced by those of as many bytes as there are then
-module _ (bs news : List Block) (span : Span) (edit : Edit) (after : List ℕ) (covers : Covers bs span edit) where
-  pub replaced_by : (some : AreOfSomeText bs) → EditFits edit (total bs).bytes (length after) → length after ≤ MAX_LEN →
+module _ {bs : List Block} {span : Span} {edit : Edit} (news : List Block) (after : List ℕ) (covers : Covers bs span edit) where
+  pub replaced_by : AreOfSomeText bs → EditFits edit (total bs).bytes (length after) → length after ≤ MAX_LEN →
       (piece : List ℕ) → length piece ≤ span.bytes - edit.removed + edit.inserted → AreBlocksOf news piece →
       AreOfSomeText (replaced bs span.first span.count news)
   replaced_by some fits le piece fewer cut =
@@ -246,7 +242,7 @@ few_with bs i own inserted y n modest own-is inserted-is le =
     omega (arith, length-take n y, ends-le (take n y), chars-le (take n y))
 
 -- an edit within one block
-module _ (bs : List Block) (edit : Edit) (own removed inserted : Counts) (b : Block) (span : Span) (after : List ℕ) (covers : Covers bs span edit)
+module _ {bs : List Block} {edit : Edit} {own removed inserted : Counts} {b : Block} {span : Span} (after : List ℕ) (covers : Covers bs span edit)
     (one : span.count ≡ 1) (is : IsExchanged own removed inserted (span.bytes - edit.removed + edit.inserted) b) where
   set-is : replaced bs span.first span.count (b ∷ []) ≡ set bs span.first b
   set-is = (let lt : span.first < length bs = omega (arith, covers.span.inside, one) in
@@ -257,7 +253,7 @@ module _ (bs : List Block) (edit : Edit) (own removed inserted : Counts) (b : Bl
       let counted : block_counts b ≡ counts_of y = some_counts b.bytes b.ends b.chars is.ends is.chars in
       let same = alike counted in
       subst AreOfSomeText set-is
-      (replaced_by bs (b ∷ []) span edit after covers some fits le y (omega (arith, is.bytes, same.bytes)) (y, [], sym (append-nil y), counted, refl)))
+      (replaced_by (b ∷ []) after covers some fits le y (omega (arith, is.bytes, same.bytes)) (y, [], sym (append-nil y), counted, refl)))
 
   pub set_follows : total (take (span.first + 1) bs) ≡ plus (total (take span.first bs)) own →
       inserted ≡ counts_of (take ((edit.start + edit.inserted) - edit.start) (drop edit.start after)) →

@@ -1,11 +1,8 @@
 -- Where the ends of lines stand in two texts, one after the other.
-use Rattle.std.proofs.Common.{◌≡◌, ℕ, ◌+◌, ◌*◌, ◌-◌, ◌<◌, ◌≤◌, Bool, true, false, cond, List, [], ◌∷◌, ◌++◌, length, replicate, min, refl, sym, ap, ◌∙◌, arith, suc, zero}
-use Rattle.std.specs.Prelude.{◌==◌, if◌then◌else◌}
-use Rattle.std.proofs.lemmas.Bool.Decides.{nat_tests}
-use Rattle.std.proofs.lemmas.List.Sums.{sum_by-cons, sum_by-append}
-use Rattle.std.proofs.lemmas.List.Folds.{sum_by-replicate}
-use Rattle.cord_lines.specs.Counts.{is_end, ends_in}
-use Rattle.cord_lines.specs.Lines.{after_ends}
+use Rattle.cord_lines.proofs.Common.{Bool, List, [], after_ends, ap, arith, cond, ends_in, false, if◌then◌else◌, is_end, length, min}
+use Rattle.cord_lines.proofs.Common.{nat_tests, refl, suc, sum_by-append, sum_by-cons, sum_by-replicate, sym, true, zero, ℕ, ◌*◌, ◌++◌, ◌+◌}
+use Rattle.cord_lines.proofs.Common.{◌-◌, ◌<◌, ◌==◌, ◌∙◌, ◌∷◌, ◌≡◌, ◌≤◌}
+use Rattle.std.proofs.Common.{replicate}
 
 pub ends-cons : (b : ℕ) (x : List ℕ) (is : Bool) → is_end b ≡ is → ends_in (b ∷ x) ≡ cond is 1 0 + ends_in x
 ends-cons b x is h = sum_by-cons (λ (c : ℕ). cond (is_end c) 1 0) b x ∙ ap (λ (w : Bool). cond w 1 0 + ends_in x) h

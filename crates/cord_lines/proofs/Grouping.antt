@@ -1,8 +1,6 @@
 -- The sums of groups, made one after another.
-use Rattle.std.proofs.Common.{◌≡◌, ◌<◌, List, [], ◌∷◌, ◌++◌, length, take, drop, append_assoc}
-use Rattle.std.proofs.lemmas.List.{append-nil}
-use Rattle.cord_lines.specs.declared.counting.Counts.{Counts}
-use Rattle.cord_lines.specs.inner.Blocks.{total_by, AreSumsOf}
+use Rattle.cord_lines.proofs.Common.{AreSumsOf, Counts, List, [], append-nil, append_assoc, drop, length, take, total_by, ◌++◌, ◌<◌, ◌∷◌}
+use Rattle.cord_lines.proofs.Common.{◌≡◌}
 
 module _ {A : Type 0} (part : A → Counts) where
   -- whatever sums the rest has, with those made they are all

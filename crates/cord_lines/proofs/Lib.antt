@@ -1,3 +1,4 @@
+pub mod Common
 pub mod Ends
 pub mod Readings
 pub mod Countings

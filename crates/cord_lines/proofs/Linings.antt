@@ -1,14 +1,16 @@
 -- Lines begin after the ends of those before them.
-use Rattle.std.proofs.Common.{◌≡◌, ℕ, suc, zero, ◌+◌, ◌-◌, ◌<◌, ◌≤◌, Bool, true, false, cond, Some, None, List, [], ◌∷◌, ◌++◌, length, length-append, length-drop, get_or, take, drop, refl, sym, ap, ◌∙◌, arith, min, map, subst, add-zero, true≢false}
-use Rattle.std.specs.Prelude.{◌||◌, if◌then◌else◌, not, slice_get, option_map, Option}
-use Rattle.std.proofs.lemmas.List.{drop_all, drop-map, length-map, take-append-drop}
+use Rattle.cord_lines.proofs.Common.{Bool, IsEditOf, List, Some, [], after_ends, ap, arith, cond, drop, drop-append_seam, ends_in, false}
+use Rattle.cord_lines.proofs.Common.{get_or, if◌then◌else◌, is_end, is_inside_line, lacks_end, length, length-append, length-drop, lines}
+use Rattle.cord_lines.proofs.Common.{lines_as, min, refl, slice_get, subst, suc, sym, take, take-append-drop, true, zero, ℕ, ◌++◌, ◌+◌, ◌-◌}
+use Rattle.cord_lines.proofs.Common.{◌<◌, ◌∙◌, ◌∷◌, ◌≡◌, ◌≤◌}
+use Rattle.std.proofs.Common.{None, map, add-zero, true≢false}
+use Rattle.std.specs.Prelude.{◌||◌, not, option_map, Option}
+use Rattle.std.proofs.lemmas.List.{drop_all, drop-map, length-map, take_min}
 use Rattle.std.proofs.lemmas.Option.{slice_get_past, slice_get-get_or, slice_get-map}
-use Rattle.std.proofs.Math.Seq.{drop-append_seam}
-use Rattle.cord_core.specs.Texts.{here_or, last}
-use Rattle.cord.specs.Lines.{lines, led_by, bare, bare_lines, lines_as}
+use Rattle.cord_core.specs.Texts.{IsLast, here_or, last}
+use Rattle.cord_core.proofs.Searches.{last_is_greatest}
+use Rattle.cord.specs.Lines.{led_by, bare, bare_lines}
 use Rattle.cord.specs.Places.{last_before}
-use Rattle.cord_lines.specs.Counts.{is_end, ends_in}
-use Rattle.cord_lines.specs.Lines.{after_ends, lacks_end, is_inside_line, IsEditOf}
 use Rattle.cord_lines.proofs.Ends.{ends-cons, none_passed, one_more}
 
 -- the last byte is no end
@@ -105,23 +107,6 @@ led_first : (b : ℕ) (ls : List (List ℕ)) (line : List ℕ) → slice_get ls 
 led_first b [] line e = cc
 led_first b (l ∷ others) line e = let same : l ≡ line = cc in ap (λ (y : List ℕ). Some (b ∷ y)) same
 
--- the first line ends after the first end
-first_step : (b : ℕ) (x : List ℕ) (is : Bool) → is_end b ≡ is → (0 < length x → slice_get (lines x) 0 ≡ Some (take (after_ends 1 x) x)) →
-    slice_get (if is then (b ∷ []) ∷ lines x else led_by b (lines x)) 0 ≡ Some (take (after_ends 1 (b ∷ x)) (b ∷ x))
-first_step b x true h later =
-    let past : after_ends 1 (b ∷ x) ≡ 1 = one_more 1 x b true h (omega arith) ∙ ap (λ (k : ℕ). 1 + k) (none_passed x) in
-    sym (ap (λ (n : ℕ). Some (take n (b ∷ x))) past)
-first_step b [] false h later =
-    let past : after_ends 1 (b ∷ []) ≡ 1 = one_more 1 [] b false h (omega arith) in
-    sym (ap (λ (n : ℕ). Some (take n (b ∷ []))) past)
-first_step b (c ∷ x) false h later =
-    let past : after_ends 1 (b ∷ c ∷ x) ≡ suc (after_ends 1 (c ∷ x)) = one_more 1 (c ∷ x) b false h (omega arith) ∙ omega arith in
-    led_first b (lines (c ∷ x)) (take (after_ends 1 (c ∷ x)) (c ∷ x)) (later (omega arith)) ∙ sym (ap (λ (n : ℕ). Some (take n (b ∷ c ∷ x))) past)
-
-first_line : (x : List ℕ) → 0 < length x → slice_get (lines x) 0 ≡ Some (take (after_ends 1 x) x)
-first_line [] some = absurd (omega (arith, some))
-first_line (b ∷ x) some = first_step b x (is_end b) refl (first_line x)
-
 -- an element after the first n
 get_drop : {X : Type 0} (n i : ℕ) (x : List X) → slice_get (drop n x) i ≡ slice_get x (n + i)
 get_drop zero i x = ap (λ (k : ℕ). slice_get x k) (let e : i ≡ 0 + i = omega arith in e)
@@ -131,55 +116,63 @@ get_drop (suc n) i (b ∷ x) = get_drop n i x ∙ ap (λ (k : ℕ). slice_get (b
 pub get_after : (n : ℕ) (ls : List (List ℕ)) (line : List ℕ) → slice_get (drop n ls) 0 ≡ Some line → slice_get ls n ≡ Some line
 get_after n ls line e = ap (λ (k : ℕ). slice_get ls k) (sym (add-zero n)) ∙ sym (get_drop n 0 ls) ∙ e
 
--- the line that ends after the first k bytes, without its end
-pub record IsBare (y : List ℕ) (k : ℕ) : Type 0 where
+-- the first line ends after the first k bytes, and what it is without its end
+pub record IsFirst (x : List ℕ) (k : ℕ) : Type 0 where
   pub some : 0 < k
-  pub ended : is_inside_line (slice_get y (k - 1)) ≡ false → bare (take k y) ≡ take (k - 1) y
-  pub unended : is_inside_line (slice_get y (k - 1)) ≡ true → bare (take k y) ≡ take k y
+  pub line : slice_get (lines x) 0 ≡ Some (take k x)
+  pub ended : is_inside_line (slice_get x (k - 1)) ≡ false → bare (take k x) ≡ take (k - 1) x
+  pub unended : is_inside_line (slice_get x (k - 1)) ≡ true → bare (take k x) ≡ take k x
 
 bare_by : (b : ℕ) (line : List ℕ) (is : Bool) → is_end b ≡ is → bare (b ∷ line) ≡ (if is then [] else b ∷ bare line)
 bare_by b line is h = ap (λ (w : Bool). if w then [] else b ∷ bare line) h
 
-bare_step : (b : ℕ) (x : List ℕ) (is : Bool) → is_end b ≡ is → (0 < length x → IsBare x (after_ends 1 x)) → IsBare (b ∷ x) (after_ends 1 (b ∷ x))
-bare_step b x true h later =
+first_by : (b : ℕ) (x : List ℕ) (is : Bool) → is_end b ≡ is →
+    slice_get (lines (b ∷ x)) 0 ≡ slice_get (if is then (b ∷ []) ∷ lines x else led_by b (lines x)) 0
+first_by b x is h = ap (λ (ls : List (List ℕ)). slice_get ls 0) (lines_by b x is h)
+
+first_step : (b : ℕ) (x : List ℕ) (is : Bool) → is_end b ≡ is → (0 < length x → IsFirst x (after_ends 1 x)) → IsFirst (b ∷ x) (after_ends 1 (b ∷ x))
+first_step b x true h later =
     let past : after_ends 1 (b ∷ x) ≡ 1 = one_more 1 x b true h (omega arith) ∙ ap (λ (k : ℕ). 1 + k) (none_passed x) in
-    subst (λ (k : ℕ). IsBare (b ∷ x) k) (sym past) (record {
+    subst (λ (k : ℕ). IsFirst (b ∷ x) k) (sym past) (record {
       some = omega arith;
+      line = first_by b x true h;
       ended = λ e. bare_by b [] true h;
       unended = λ e. absurd (true≢false (sym e ∙ ap not h));
     })
-bare_step b [] false h later =
+first_step b [] false h later =
     let past : after_ends 1 (b ∷ []) ≡ 1 = one_more 1 [] b false h (omega arith) in
-    subst (λ (k : ℕ). IsBare (b ∷ []) k) (sym past) (record {
+    subst (λ (k : ℕ). IsFirst (b ∷ []) k) (sym past) (record {
       some = omega arith;
+      line = first_by b [] false h;
       ended = λ e. absurd (true≢false (sym (ap not h) ∙ e));
       unended = λ e. bare_by b [] false h;
     })
-bare_step b (c ∷ x) false h later =
+first_step b (c ∷ x) false h later =
     let r = later (omega arith) in
     let k = after_ends 1 (c ∷ x) in
     let past : after_ends 1 (b ∷ c ∷ x) ≡ suc k = one_more 1 (c ∷ x) b false h (omega arith) ∙ omega arith in
     let less : suc k - 1 ≡ suc (k - 1) = omega (arith, r.some) in
     let same : slice_get (b ∷ c ∷ x) (suc k - 1) ≡ slice_get (c ∷ x) (k - 1) = ap (λ (n : ℕ). slice_get (b ∷ c ∷ x) n) less in
     let line : bare (take (suc k) (b ∷ c ∷ x)) ≡ b ∷ bare (take k (c ∷ x)) = bare_by b (take k (c ∷ x)) false h in
-    subst (λ (n : ℕ). IsBare (b ∷ c ∷ x) n) (sym past) (record {
+    subst (λ (n : ℕ). IsFirst (b ∷ c ∷ x) n) (sym past) (record {
       some = omega arith;
+      line = first_by b (c ∷ x) false h ∙ led_first b (lines (c ∷ x)) (take k (c ∷ x)) r.line;
       ended = λ e. line ∙ ap (λ (y : List ℕ). b ∷ y) (r.ended (sym (ap is_inside_line same) ∙ e)) ∙ ap (λ (n : ℕ). take n (b ∷ c ∷ x)) (sym less);
       unended = λ e. line ∙ ap (λ (y : List ℕ). b ∷ y) (r.unended (sym (ap is_inside_line same) ∙ e));
     })
 
-bare_first : (x : List ℕ) → 0 < length x → IsBare x (after_ends 1 x)
-bare_first [] some = absurd (omega (arith, some))
-bare_first (b ∷ x) some = bare_step b x (is_end b) refl (bare_first x)
+first_line : (x : List ℕ) → 0 < length x → IsFirst x (after_ends 1 x)
+first_line [] some = absurd (omega (arith, some))
+first_line (b ∷ x) some = first_step b x (is_end b) refl (first_line x)
 
 -- the first line ends there, with its end or without it
 first_as : (with_end inside : Bool) (x : List ℕ) → 0 < length x → is_inside_line (slice_get x (after_ends 1 x - 1)) ≡ inside →
     slice_get (lines_as with_end x) 0 ≡ Some (take (if with_end || inside then after_ends 1 x else after_ends 1 x - 1) x)
-first_as true inside x some e = first_line x some
+first_as true inside x some e = (first_line x some).line
 first_as false true x some e =
-    slice_get-map bare (lines x) 0 ∙ ap (option_map bare) (first_line x some) ∙ ap (λ (y : List ℕ). Some y) ((bare_first x some).unended e)
+    slice_get-map bare (lines x) 0 ∙ ap (option_map bare) (first_line x some).line ∙ ap (λ (y : List ℕ). Some y) ((first_line x some).unended e)
 first_as false false x some e =
-    slice_get-map bare (lines x) 0 ∙ ap (option_map bare) (first_line x some) ∙ ap (λ (y : List ℕ). Some y) ((bare_first x some).ended e)
+    slice_get-map bare (lines x) 0 ∙ ap (option_map bare) (first_line x some).line ∙ ap (λ (y : List ℕ). Some y) ((first_line x some).ended e)
 
 -- lines with their ends or without
 pub as_drop : (with_ends : Bool) (n : ℕ) (x y : List ℕ) → lines y ≡ drop n (lines x) → lines_as with_ends y ≡ drop n (lines_as with_ends x)
@@ -192,7 +185,7 @@ as_none false n x le = slice_get_past (bare_lines x) n (omega (arith, length-map
 
 -- the first line of what is left
 pub later : (x : List ℕ) (start : ℕ) → start < length x → 0 < after_ends 1 (drop start x)
-later x start lt = (bare_first (drop start x) (omega (arith, length-drop start x, lt))).some
+later x start lt = (first_line (drop start x) (omega (arith, length-drop start x, lt))).some
 
 end_as : (whole : Bool) (k start end : ℕ) → end ≡ start + k → 0 < k → (if whole then k else k - 1) ≡ (if whole then end else end - 1) - start
 end_as true k start end e some = omega arith
@@ -225,29 +218,7 @@ keeps_end before after start removed inserted e lt =
     ap lacks_end (sym (take-append-drop (start + removed) before)) ∙ lacks_last (take (start + removed) before) z some
     ∙ sym (ap lacks_end e.text ∙ lacks_last (take start before ++ e.fresh) z some)
 
--- the line of a place begins there or before it
-begins_later : (ends m b : ℕ) (x : List ℕ) → is_end b ≡ false → after_ends ends x ≤ m → after_ends ends (b ∷ x) ≤ 1 + m
-begins_later zero m b x h le = omega (arith, none_passed (b ∷ x))
-begins_later (suc n) m b x h le = omega (arith, one_more (suc n) x b false h (omega arith), le)
-
-begins_step : (place b : ℕ) (x : List ℕ) (is : Bool) → is_end b ≡ is → after_ends (ends_in (take place x)) x ≤ min place (length x) →
-    after_ends (ends_in (b ∷ take place x)) (b ∷ x) ≤ 1 + min place (length x)
-begins_step place b x true h le =
-    let count : ends_in (b ∷ take place x) ≡ 1 + ends_in (take place x) = ends-cons b (take place x) true h in
-    let past : after_ends (1 + ends_in (take place x)) (b ∷ x) ≡ 1 + after_ends (ends_in (take place x)) x =
-    one_more (1 + ends_in (take place x)) x b true h (omega arith)
-    ∙ ap (λ (n : ℕ). 1 + after_ends n x) (let e : 1 + ends_in (take place x) - 1 ≡ ends_in (take place x) = omega arith in e) in
-    omega (arith, ap (λ (n : ℕ). after_ends n (b ∷ x)) count, past, le)
-begins_step place b x false h le =
-    let count : ends_in (b ∷ take place x) ≡ ends_in (take place x) = ends-cons b (take place x) false h ∙ omega arith in
-    omega (arith, ap (λ (n : ℕ). after_ends n (b ∷ x)) count, begins_later (ends_in (take place x)) (min place (length x)) b x h le)
-
-pub begins_before : (place : ℕ) (x : List ℕ) → after_ends (ends_in (take place x)) x ≤ min place (length x)
-begins_before zero x = omega (arith, none_passed x)
-begins_before (suc place) [] = omega arith
-begins_before (suc place) (b ∷ x) = omega (arith, begins_step place b x (is_end b) refl (begins_before place x))
-
--- ---- the line that a place is in begins after the last end before it
+-- there is no byte in no bytes
 no_byte : (n b : ℕ) → slice_get [] n ≡ Some b → ⊥
 no_byte n b at = let none : None ≡ Some b = sym (slice_get_past {X = ℕ} [] n (omega arith)) ∙ at in cc
 
@@ -304,6 +275,21 @@ last_to : (n : ℕ) (x : List ℕ) → n < length x → after_ends (ends_in (tak
 last_to zero x lt = last_byte zero x None lt (none_passed x)
 last_to (suc n) x lt = last_byte (suc n) x (last x n 10) lt (last_to n x (omega (arith, lt)))
 
+-- the line of a place begins after the last end before it
 pub last_begins : (place : ℕ) (x : List ℕ) → place ≤ length x → after_ends (ends_in (take place x)) x ≡ begin_of (last_before x place 10)
 last_begins zero x le = none_passed x
 last_begins (suc n) x le = last_to n x (omega (arith, le))
+
+-- and so there or before it
+begin_le : (x : List ℕ) (n : ℕ) → begin_of (last_before x n 10) ≤ n
+begin_le x zero = omega arith
+begin_le x (suc n) = at (last x n 10) (last_is_greatest x 10 n)
+  where
+    at : (r : Option ℕ) → IsLast x n 10 r → begin_of r ≤ suc n
+    at None h = omega arith
+    at (Some p) h = omega (arith, h.0)
+
+pub begins_before : (place : ℕ) (x : List ℕ) → after_ends (ends_in (take place x)) x ≤ min place (length x)
+begins_before place x =
+    let m : ℕ = min place (length x) in
+    omega (arith, ap (λ (y : List ℕ). after_ends (ends_in y) x) (take_min place x), last_begins m x (omega arith), begin_le x m)

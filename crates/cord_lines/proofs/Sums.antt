@@ -1,36 +1,40 @@
 -- Sums of groups of blocks.
-use Rattle.std.proofs.Common.{◌≡◌, ℕ, suc, zero, ◌+◌, ◌*◌, ◌-◌, ◌/◌, ◌<◌, ◌≤◌, ◌^◌, List, [], ◌∷◌, ◌++◌, length, get_or, take, drop, refl, sym, ap, ◌∙◌, arith, add-one, append_assoc, length-append, length-drop, length-take, subst, min, Bool, true, false}
+use Rattle.cord_lines.proofs.Common.{AreFew, AreSumsOf, Block, Bool, CanExchange, Counts, IsModest, List, [], amount, ap, append_assoc}
+use Rattle.cord_lines.proofs.Common.{arith, drop, drop-drop, exchanged, false, get_or, length, length-append, length-drop, length-take, min}
+use Rattle.cord_lines.proofs.Common.{nat_tests, own, plus, refl, replaced, set, subst, suc, sum_by-append, sum_by-cons, sum_by-take-le, sym}
+use Rattle.cord_lines.proofs.Common.{take, take-add, take-append-drop, take_all, total, total_by, true, zero, ℕ, ◌*◌, ◌++◌, ◌+◌, ◌-◌, ◌/◌}
+use Rattle.cord_lines.proofs.Common.{◌<◌, ◌^◌, ◌∙◌, ◌∷◌, ◌≡◌, ◌≤◌}
+use Rattle.std.proofs.Common.{add-one}
 use Rattle.std.specs.Prelude.{nat_lt}
 use Rattle.std.specs.List.{sum_by}
-use Rattle.std.proofs.lemmas.Bool.Decides.{nat_tests}
-use Rattle.std.proofs.Math.ListN.{set, length-set}
-use Rattle.std.proofs.Math.Seq.{take-add, take-set-lt}
-use Rattle.std.proofs.lemmas.List.{drop_min, get_or-drop, get_or-take, set_split, take_all, take_min, take_more, take-append-drop, drop-drop, drop-set-lt, drop-set-add, set-append_right, take-set-le}
-use Rattle.std.proofs.lemmas.List.Sums.{sum_by_more, sum_by_more_le, sum_by-cons, sum_by-append, sum_by-set, sum_by-take-drop, sum_by-take-le}
-use Rattle.cord_lines.specs.declared.counting.Counts.{Counts}
-use Rattle.cord_lines.specs.declared.blocks.Block.{Block}
+use Rattle.std.proofs.Math.ListN.{length-set}
+use Rattle.std.proofs.Math.Seq.{take-set-lt}
+use Rattle.std.proofs.lemmas.List.{drop_min, get_or-drop, get_or-take, set_split, take_min, take_more, drop-set-lt, drop-set-add, set-append_right, take-set-le}
+use Rattle.std.proofs.lemmas.List.Sums.{sum_by_more, sum_by_more_le, sum_by-set, sum_by-take-drop}
 use Rattle.cord_lines.specs.declared.blocks.Found.{Found}
 use Rattle.cord_lines.specs.declared.blocks.Measure.{Measure}
-use Rattle.cord_lines.specs.Counts.{plus, AreFew}
-use Rattle.cord_lines.specs.inner.Blocks.{amount, exchanged, own, total, total_by, AreSumsOf, AreWithin, CanExchange, IsGroup}
-use Rattle.cord_lines.specs.inner.Cuts.{IsModest}
-use Rattle.cord_lines.specs.inner.Edits.{replaced, CanReplace}
+use Rattle.cord_lines.specs.inner.Blocks.{AreWithin, IsGroup}
+use Rattle.cord_lines.specs.inner.Edits.{CanReplace}
 use Rattle.cord_lines.proofs.Countings.{alike, plus_assoc, same_counts}
+
+-- what is so of the sums of all numbers is so of the three sums of counts
+module _ {A : Type 0} (part : A → Counts) (l r : (A → ℕ) → ℕ) where
+  abbrev three : ((A → ℕ) → ℕ) → Counts
+  three sum = record { bytes = sum (λ x. (part x).bytes); ends = sum (λ x. (part x).ends); chars = sum (λ x. (part x).chars) }
+
+  same_by : ((f : A → ℕ) → l f ≡ r f) → three l ≡ three r
+  same_by h = same_counts (three l) (three r)
+      (record { bytes = h (λ x. (part x).bytes); ends = h (λ x. (part x).ends); chars = h (λ x. (part x).chars) })
+
+  within_by : ((f : A → ℕ) → l f ≤ r f) → AreWithin (three l) (three r)
+  within_by h = record { bytes = h (λ x. (part x).bytes); ends = h (λ x. (part x).ends); chars = h (λ x. (part x).chars) }
 
 -- what some have together, and others
 pub total-append : {A : Type 0} (part : A → Counts) (x y : List A) → total_by part (x ++ y) ≡ plus (total_by part x) (total_by part y)
-total-append part x y = same_counts (total_by part (x ++ y)) (plus (total_by part x) (total_by part y)) (record {
-  bytes = sum_by-append (λ b. (part b).bytes) x y;
-  ends = sum_by-append (λ b. (part b).ends) x y;
-  chars = sum_by-append (λ b. (part b).chars) x y;
-})
+total-append part x y = same_by part (λ f. sum_by f (x ++ y)) (λ f. sum_by f x + sum_by f y) (λ f. sum_by-append f x y)
 
 pub total-cons : {A : Type 0} (part : A → Counts) (b : A) (x : List A) → total_by part (b ∷ x) ≡ plus (part b) (total_by part x)
-total-cons part b x = same_counts (total_by part (b ∷ x)) (plus (part b) (total_by part x)) (record {
-  bytes = sum_by-cons (λ c. (part c).bytes) b x;
-  ends = sum_by-cons (λ c. (part c).ends) b x;
-  chars = sum_by-cons (λ c. (part c).chars) b x;
-})
+total-cons part b x = same_by part (λ f. sum_by f (b ∷ x)) (λ f. f b + sum_by f x) (λ f. sum_by-cons f b x)
 
 -- a part of some that are few, or that a text can have
 pub few_within : {part all : Counts} → AreWithin part all → AreFew all → AreFew part
@@ -74,36 +78,21 @@ module _ {A : Type 0} (part : A → Counts) where
   enough [] bs s = let none : length bs ≡ 0 = ap (λ (y : List A). length y) s in omega (arith, none)
   enough (sum ∷ sums) bs (here, some, more) = omega (arith, enough sums (drop 64 bs) more, length-drop 64 bs)
 
-  -- some first ones, and what is behind them
+  -- some first ones, and those after them
   pub first_within : (bs : List A) (i : ℕ) → AreWithin (total_by part (take i bs)) (total_by part bs)
-  first_within bs i = record {
-    bytes = sum_by-take-le (λ (b : A). (part b).bytes) bs i;
-    ends = sum_by-take-le (λ (b : A). (part b).ends) bs i;
-    chars = sum_by-take-le (λ (b : A). (part b).chars) bs i;
-  }
+  first_within bs i = within_by part (λ f. sum_by f (take i bs)) (λ f. sum_by f bs) (λ f. sum_by-take-le f bs i)
 
   pub back_within : (bs : List A) (i : ℕ) → AreWithin (total_by part (drop i bs)) (total_by part bs)
-  back_within bs i = record {
-    bytes = omega (arith, sum_by-take-drop (λ (b : A). (part b).bytes) bs i);
-    ends = omega (arith, sum_by-take-drop (λ (b : A). (part b).ends) bs i);
-    chars = omega (arith, sum_by-take-drop (λ (b : A). (part b).chars) bs i);
-  }
+  back_within bs i = within_by part (λ f. sum_by f (drop i bs)) (λ f. sum_by f bs) (λ f. omega (arith, sum_by-take-drop f bs i))
 
   block_within : (bs : List A) (j : ℕ) (d : A) → j < length bs → AreWithin (part (get_or bs j d)) (total_by part bs)
-  block_within bs j d lt = record {
-    bytes = omega (arith, sum_by_more_le (λ (b : A). (part b).bytes) bs j d lt);
-    ends = omega (arith, sum_by_more_le (λ (b : A). (part b).ends) bs j d lt);
-    chars = omega (arith, sum_by_more_le (λ (b : A). (part b).chars) bs j d lt);
-  }
+  block_within bs j d lt = within_by part (λ f. f (get_or bs j d)) (λ f. sum_by f bs) (λ f. omega (arith, sum_by_more_le f bs j d lt))
 
   -- one is put into the place of another one
   total_set : (bs : List A) (j : ℕ) (b d : A) → j < length bs →
       plus (total_by part (set bs j b)) (part (get_or bs j d)) ≡ plus (total_by part bs) (part b)
-  total_set bs j b d lt = same_counts (plus (total_by part (set bs j b)) (part (get_or bs j d))) (plus (total_by part bs) (part b)) (record {
-    bytes = sum_by-set (λ (c : A). (part c).bytes) bs j b d lt;
-    ends = sum_by-set (λ (c : A). (part c).ends) bs j b d lt;
-    chars = sum_by-set (λ (c : A). (part c).chars) bs j b d lt;
-  })
+  total_set bs j b d lt = same_by part (λ f. sum_by f (set bs j b) + f (get_or bs j d)) (λ f. sum_by f bs + f b)
+      (λ f. sum_by-set f bs j b d lt)
 
   exchanged_set : (bs : List A) (j : ℕ) (b d : A) → j < length bs →
       exchanged (total_by part bs) (part (get_or bs j d)) (part b) ≡ total_by part (set bs j b)
@@ -207,11 +196,8 @@ module _ {A : Type 0} (part : A → Counts) where
 
   -- one more
   pub one_block_more : (bs : List A) (i : ℕ) (d : A) → i < length bs → total_by part (take (i + 1) bs) ≡ plus (total_by part (take i bs)) (part (get_or bs i d))
-  one_block_more bs i d lt = same_counts (total_by part (take (i + 1) bs)) (plus (total_by part (take i bs)) (part (get_or bs i d))) (record {
-    bytes = sum_by_more (λ (b : A). (part b).bytes) bs i d lt;
-    ends = sum_by_more (λ (b : A). (part b).ends) bs i d lt;
-    chars = sum_by_more (λ (b : A). (part b).chars) bs i d lt;
-  })
+  one_block_more bs i d lt = same_by part (λ f. sum_by f (take (i + 1) bs)) (λ f. sum_by f (take i bs) + f (get_or bs i d))
+      (λ f. sum_by_more f bs i d lt)
 
   -- others before, and one more
   pub none_yet : (others : Counts) (bs : List A) → others ≡ plus others (total_by part (take 0 bs))

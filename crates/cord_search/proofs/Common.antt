@@ -30,9 +30,9 @@ pub use Rattle.cord_pos.specs.declared.span.Span.{Span}
 pub use Rattle.cord_pos.specs.inner.Spans.{IsWithin}
 pub use Rattle.cord_search.specs.declared.shared_parts.Stop.{Stop}
 pub use Rattle.cord_search.specs.inner.Lasts.{IsLastSoFar}
-pub use Rattle.cord_search.specs.inner.Periods.{HasPeriods, IsCommon}
+pub use Rattle.cord_search.specs.inner.Periods.{HasPeriods, IsCommon, IsKnown}
 pub use Rattle.cord_search.specs.inner.Pieces.{AreSame, HasNot, HoldsText, IsOrderOf, IsPieceOf, IsReadable, IsStanding, StandsNot}
-pub use Rattle.cord_search.specs.inner.Searches.{IsAnswer, OverTables, WasRead}
+pub use Rattle.cord_search.specs.inner.Searches.{IsAnswer, OverTables, Shows, WasRead}
 pub use Rattle.cord_search.specs.inner.SharedParts.{AreAlike, IsSpot, IsSpotOf, IsStop, IsWay}
 pub use Rattle.cord_search.specs.inner.Spans.{IsSpanUpTo, StandsIn}
 pub use Rattle.arrayvec.specs.ArrayVec.{array_vec_len}

@@ -1,9 +1,9 @@
 -- Comparisons by pieces: the first difference decides, and else the lengths.
-use Rattle.cord_search.proofs.Common.{AreSame, Bool, CordFits, Equal, Greater, IsCord, IsOrderOf, IsPieceOf, IsSpanOf, Less, List, Node}
-use Rattle.cord_search.proofs.Common.{None, Option, Ordering, Some, Span, Table, [], ap, arith, bytes_of, cond, drop, drop-drop, eqb-true}
+use Rattle.cord_search.proofs.Common.{AreSame, Bool, Equal, Greater, IsCommon, IsCord, IsOrderOf, IsPieceOf, IsReadable, IsSpanOf, Less, List, Node}
+use Rattle.cord_search.proofs.Common.{None, Option, Ordering, Some, Span, Table, [], ap, arith, bytes_of, cond, drop, drop-drop, eqb-true, exact_bytes, get_or}
 use Rattle.cord_search.proofs.Common.{false, if◌then◌else◌, length, length-drop, length-take-le, min, nat_cmp, range_of_range, refl}
 use Rattle.cord_search.proofs.Common.{slice_cmp, span_bytes, span_len, suc, sym, take, take-append-drop, take-take, take_all, text_len}
-use Rattle.cord_search.proofs.Common.{tied_itself, true, w8, zero, ℕ, ◌++◌, ◌+◌, ◌-◌, ◌<◌, ◌∙◌, ◌∷◌, ◌≡◌, ◌≤◌}
+use Rattle.cord_search.proofs.Common.{tied_itself, true, w8, zero, ℕ, ◌++◌, ◌+◌, ◌-◌, ◌<◌, ◌∙◌, ◌∷◌, ◌≡◌, ◌≢◌, ◌≤◌}
 use Rattle.std.proofs.Common.{◌==◌, to_z, of_z}
 use Rattle.std.specs.Prelude.{ℤ, pos, negsuc, nat_lt}
 use Rattle.std.specs.Ordering.{ordering_then, MatchOrdering}
@@ -16,7 +16,12 @@ use Rattle.cord_core.proofs.CordLemmas.{range_min}
 use Rattle.cord_core.specs.Texts.{order}
 use Rattle.cord_search.specs.inner.Pieces.{sign_of}
 use Rattle.cord_search.specs.inner.Spans.{IsOrderOfSpans}
-use Rattle.cord_search.proofs.Ranges.{take_on}
+use Rattle.cord_search.specs.inner.Spans.{IsPartOf}
+use Rattle.cord_io.specs.Table.{Lengths}
+use Rattle.cord_search.proofs.Reading.{IsReported, fits_in, len_in}
+use Rattle.cord_search.proofs.Ranges.{prefix_piece, take_on}
+use Rattle.cord_search.proofs.Finding.{range_at}
+use Rattle.cord_search.proofs.Sharing.{same_on}
 
 -- the next numbers have the same order
 nat_cmp_suc : (a b : ℕ) → nat_cmp a b ≡ nat_cmp (suc a) (suc b)
@@ -78,26 +83,15 @@ pub piece_prefix : (x piece : List ℕ) (i done n : ℕ) → piece ≡ take (len
 piece_prefix x piece i done n e h = ap (λ (ys : List ℕ). take n ys) e ∙ take-take n (length piece) (drop (i + done) x) h
     ∙ ap (λ (ys : List ℕ). take n ys) (sym (drop-drop done i x))
 
--- the next bytes are the same too
-pub common_on : (t : Table) (x : Option Node) (i : ℕ) (y : Option Node) (j done n : ℕ) (piece other : List ℕ) → n ≤ length piece →
-    n ≤ length other → IsPieceOf t x (i + done) piece → IsPieceOf t y (j + done) other → take n piece ≡ take n other →
-    AreSame t x i y j done → AreSame t x i y j (done + n)
-common_on t x i y j done n piece other p q e f h s =
-    let u = drop i (bytes_of t x) in
-    let v = drop j (bytes_of t y) in
-    take_on u v done n (sym (piece_prefix (bytes_of t x) piece i done n e p) ∙ h ∙ piece_prefix (bytes_of t y) other j done n f q) s
-
--- spans of one length are ranges of two cords
-pub order_of_ranges : (t : Table) (x : Option Node) (i : ℕ) (y : Option Node) (j : ℕ) (s other : Span) (r : Ordering) → CordFits t x →
-    CordFits t y → IsSpanOf x i s → IsSpanOf y j other → span_len other ≡ span_len s → IsOrderOfSpans t s other r →
-    IsOrderOf t x i (span_len s) y j (span_len s) r
-order_of_ranges t x i y j s other r f g left right l h = h
-    ∙ ap (λ (zs : List ℕ). slice_cmp nat_cmp zs (span_bytes t other)) (left.text t f)
-    ∙ ap (slice_cmp nat_cmp (take (span_len s) (drop i (bytes_of t x))))
-    (right.text t g ∙ ap (λ (m : ℕ). take m (drop j (bytes_of t y))) l)
+-- a range that lies inside is as long as was asked
+range_len : {lengths : Lengths} {t : Table} {x : Option Node} (i a : ℕ) → IsReported lengths t → IsReadable lengths x →
+    (0 < a → i + a ≤ text_len x) → length (take a (drop i (bytes_of t x))) ≡ a
+range_len i zero held readable inside = refl
+range_len {t = t} {x = x} i (suc a) held readable inside = let fits : i + suc a ≤ text_len x = inside (omega arith) in
+    length-take-le (suc a) (drop i (bytes_of t x)) (omega (arith, fits, len_in held readable, length-drop i (bytes_of t x)))
 
 -- the first difference decides
-pub apart : (u v : List ℕ) (done n : ℕ) (r : Ordering) → length (take n (drop done u)) ≡ length (take n (drop done v)) →
+apart : (u v : List ℕ) (done n : ℕ) (r : Ordering) → length (take n (drop done u)) ≡ length (take n (drop done v)) →
     r ≡ slice_cmp nat_cmp (take n (drop done u)) (take n (drop done v)) → (r ≡ Equal → ⊥) → take done u ≡ take done v →
     r ≡ slice_cmp nat_cmp u v
 apart u v done n r l h not s =
@@ -113,39 +107,87 @@ apart u v done n r l h not s =
     split xs = sym (take-append-drop done xs)
         ∙ ap (λ (zs : List ℕ). take done xs ++ zs) (sym (take-append-drop n (drop done xs)))
 
--- the same of ranges of two texts
-pub different : (t : Table) (x : Option Node) (i a : ℕ) (y : Option Node) (j b done n : ℕ) (r : Ordering) → done + n ≤ a →
-    done + n ≤ b → length (take n (drop (i + done) (bytes_of t x))) ≡ length (take n (drop (j + done) (bytes_of t y))) →
-    IsOrderOf t x (i + done) n y (j + done) n r → (r ≡ Equal → ⊥) → AreSame t x i y j done → IsOrderOf t x i a y j b r
-different t x i a y j b done n r k m l h not s =
-    let u = bytes_of t x in
-    let v = bytes_of t y in
-    let left = range_of_range u done n i a k in
-    let right = range_of_range v done n j b m in
-    apart (take a (drop i u)) (take b (drop j v)) done n r (ap (λ (zs : List ℕ). length zs) left ∙ l
-    ∙ ap (λ (zs : List ℕ). length zs) (sym right)) (h
-    ∙ ap (λ (zs : List ℕ). slice_cmp nat_cmp zs (take n (drop (j + done) v))) (sym left)
-    ∙ ap (slice_cmp nat_cmp (take n (drop done (take a (drop i u))))) (sym right)) not
-    (take-take done a (drop i u) (omega (arith, k)) ∙ s ∙ sym (take-take done b (drop j v) (omega (arith, m))))
+-- the next n bytes of two texts
+module _ (u v : List ℕ) (done n : ℕ) (xs ys : List ℕ) (same : take done u ≡ take done v) (e : xs ≡ take (length xs) (drop done u))
+    (f : ys ≡ take (length ys) (drop done v)) (p : length xs ≡ n) (q : length ys ≡ n) where
+  here : xs ≡ take n (drop done u)
+  here = e ∙ ap (λ (m : ℕ). take m (drop done u)) p
+
+  there : ys ≡ take n (drop done v)
+  there = f ∙ ap (λ (m : ℕ). take m (drop done v)) q
+
+  pub next_same : slice_cmp nat_cmp xs ys ≡ Equal → take (done + n) u ≡ take (done + n) v
+  next_same is = take_on u v done n (sym here ∙ exact_bytes xs ys is ∙ there) same
+
+  pub next_apart : (r : Ordering) → r ≡ slice_cmp nat_cmp xs ys → (r ≡ Equal → ⊥) → r ≡ slice_cmp nat_cmp u v
+  next_apart r is not = apart u v done n r (ap (λ (zs : List ℕ). length zs) (sym here) ∙ p ∙ sym q ∙ ap (λ (zs : List ℕ). length zs) there)
+      (is ∙ ap (λ (zs : List ℕ). slice_cmp nat_cmp zs ys) here ∙ ap (slice_cmp nat_cmp (take n (drop done u))) there) not same
+
+-- two texts are the same up to two places, and have a span each at them
+module _ {lengths : Lengths} {t : Table} {x y : Option Node} {s other : Span} (i j done : ℕ) (held : IsReported lengths t)
+    (first : IsSpanOf x (i + done) s) (second : IsSpanOf y (j + done) other) (left : IsReadable lengths x) (right : IsReadable lengths y)
+    (same : AreSame t x i y j done) where
+  -- pieces of them begin alike
+  module _ (xs ys : List ℕ) (n : ℕ) (p : n ≤ length xs) (q : n ≤ length ys) (few : length xs ≤ span_len s) (less : length ys ≤ span_len other)
+      (e : IsPartOf t s 0 xs) (f : IsPartOf t other 0 ys) (alike : take n xs ≡ take n ys) where
+    pieces : IsPieceOf t x (i + done) xs × IsPieceOf t y (j + done) ys
+    pieces = (prefix_piece held first left.fits xs few e, prefix_piece held second right.fits ys less f)
+
+    pub pieces_same : AreSame t x i y j (done + n)
+    pieces_same = take_on (drop i (bytes_of t x)) (drop j (bytes_of t y)) done n (sym (piece_prefix (bytes_of t x) xs i done n pieces.0 p)
+        ∙ alike ∙ piece_prefix (bytes_of t y) ys j done n pieces.1 q) same
+
+    -- and then differ
+    pub pieces_end : (most : ℕ) → done + n ≤ most → n < length xs → n < length ys → get_or xs n 0 ≢ get_or ys n 0 →
+        IsCommon t x i y j most (done + n)
+    pieces_end most le more shorter differ = record {
+      within = le;
+      same = pieces_same;
+      differ = λ _ one.
+          let here : i + done + n ≡ i + (done + n) = omega arith in
+          let there : j + done + n ≡ j + (done + n) = omega arith in
+          differ (range_at (bytes_of t x) xs (i + done) n pieces.0 more ∙ ap (λ (k : ℕ). get_or (bytes_of t x) k 0) here ∙ one
+          ∙ sym (range_at (bytes_of t y) ys (j + done) n pieces.1 shorter ∙ ap (λ (k : ℕ). get_or (bytes_of t y) k 0) there));
+    }
+
+  -- they are of one length and in this order
+  module _ (r : Ordering) (one : span_len other ≡ span_len s) (order : IsOrderOfSpans t s other r) where
+    ranges : IsOrderOf t x (i + done) (span_len s) y (j + done) (span_len s) r
+    ranges = order ∙ ap (λ (zs : List ℕ). slice_cmp nat_cmp zs (span_bytes t other)) (first.text t (fits_in x held left.fits))
+        ∙ ap (slice_cmp nat_cmp (take (span_len s) (drop (i + done) (bytes_of t x))))
+        (second.text t (fits_in y held right.fits) ∙ ap (λ (m : ℕ). take m (drop (j + done) (bytes_of t y))) one)
+
+    pub spans_same : r ≡ Equal → AreSame t x i y j (done + span_len s)
+    spans_same is = same_on t x i y j done (span_len s) (exact_bytes (take (span_len s) (drop (i + done) (bytes_of t x)))
+        (take (span_len s) (drop (j + done) (bytes_of t y))) (sym ranges ∙ is)) same
+
+    pub spans_differ : (a b : ℕ) → done + span_len s ≤ a → done + span_len s ≤ b → (r ≡ Equal → ⊥) → IsOrderOf t x i a y j b r
+    spans_differ a b k m not =
+        let n : ℕ = span_len s in
+        let u : List ℕ = take a (drop i (bytes_of t x)) in
+        let v : List ℕ = take b (drop j (bytes_of t y)) in
+        let here = range_of_range (bytes_of t x) done n i a k in
+        let there = range_of_range (bytes_of t y) done n j b m in
+        let long = range_len (i + done) n held left (λ _. first.inside) in
+        let as_long = range_len (j + done) n held right (λ _. omega (arith, second.inside, one)) in
+        apart u v done n r (ap (λ (zs : List ℕ). length zs) here ∙ long ∙ sym as_long ∙ ap (λ (zs : List ℕ). length zs) (sym there))
+        (ranges ∙ ap (λ (zs : List ℕ). slice_cmp nat_cmp zs (take n (drop (j + done) (bytes_of t y)))) (sym here)
+        ∙ ap (slice_cmp nat_cmp (take n (drop done u))) (sym there)) not
+        (take-take done a (drop i (bytes_of t x)) (omega (arith, k)) ∙ same ∙ sym (take-take done b (drop j (bytes_of t y)) (omega (arith, m))))
 
 -- all of the shorter one is the same
-pub no_different : (t : Table) (x : Option Node) (i a : ℕ) (y : Option Node) (j b done : ℕ) → done ≤ min a b → min a b ≤ done →
-    length (take a (drop i (bytes_of t x))) ≡ a → length (take b (drop j (bytes_of t y))) ≡ b → AreSame t x i y j done →
-    IsOrderOf t x i a y j b (nat_cmp a b)
-no_different t x i a y j b done low high p q s =
+pub no_different : {lengths : Lengths} {t : Table} {x y : Option Node} (i a j b done : ℕ) → IsReported lengths t → IsReadable lengths x →
+    IsReadable lengths y → (0 < a → i + a ≤ text_len x) → (0 < b → j + b ≤ text_len y) → done ≤ min a b → min a b ≤ done →
+    AreSame t x i y j done → IsOrderOf t x i a y j b (nat_cmp a b)
+no_different {t = t} {x = x} {y = y} i a j b done held left right inside within low high same =
     let u = drop i (bytes_of t x) in
     let v = drop j (bytes_of t y) in
-    let same : take done (take a u) ≡ take done (take b v) =
-    take-take done a u (omega (arith, low)) ∙ s ∙ sym (take-take done b v (omega (arith, low))) in
+    let p = range_len i a held left inside in
+    let q = range_len j b held right within in
+    let one : take done (take a u) ≡ take done (take b v) =
+    take-take done a u (omega (arith, low)) ∙ same ∙ sym (take-take done b v (omega (arith, low))) in
     ap (λ (k : ℕ). nat_cmp k b) (sym p) ∙ ap (λ (k : ℕ). nat_cmp (length (take a u)) k) (sym q)
-    ∙ cmp_lengths (take a u) (take b v) done (omega (arith, p, q, high)) same
-
--- a range that lies inside is as long as was asked
-pub range_len : (t : Table) (x : Option Node) (i a : ℕ) → length (bytes_of t x) ≡ text_len x → (0 < a → i + a ≤ text_len x) →
-    length (take a (drop i (bytes_of t x))) ≡ a
-range_len t x i zero len inside = refl
-range_len t x i (suc a) len inside = let fits : i + suc a ≤ text_len x = inside (omega arith) in
-    length-take-le (suc a) (drop i (bytes_of t x)) (omega (arith, fits, len, length-drop i (bytes_of t x)))
+    ∙ cmp_lengths (take a u) (take b v) done (omega (arith, p, q, high)) one
 
 -- the order of two texts as a number
 pub order_sign : (xs ys : List ℕ) → sign_of (slice_cmp nat_cmp xs ys) ≡ order xs ys
@@ -177,23 +219,24 @@ sign_order u v xs ys r s left right f h = ap (λ (z : ℤ). to_z w8 (of_z w8 z))
     ∙ ap (λ (zs : List ℕ). order zs v) left ∙ ap (λ (zs : List ℕ). order xs zs) right
 
 -- the order of two cords
-pub sign_whole : (t : Table) (x y : Option Node) (a b : ℕ) (r : Ordering) (s : ℤ) → length (bytes_of t x) ≡ text_len x →
-    length (bytes_of t y) ≡ text_len y → a ≡ text_len x → b ≡ text_len y → s ≡ sign_of r → IsOrderOf t x 0 a y 0 b r →
+pub sign_whole : {lengths : Lengths} {t : Table} {a b : ℕ} {s : ℤ} (x y : Option Node) (r : Ordering) → IsReported lengths t →
+    IsReadable lengths x → IsReadable lengths y → a ≡ text_len x → b ≡ text_len y → s ≡ sign_of r → IsOrderOf t x 0 a y 0 b r →
     to_z w8 (of_z w8 s) ≡ order (bytes_of t x) (bytes_of t y)
-sign_whole t x y a b r s p q d e f h = sign_order (take a (bytes_of t x)) (take b (bytes_of t y)) (bytes_of t x) (bytes_of t y) r s
-    (take_all a (bytes_of t x) (omega (arith, p, d))) (take_all b (bytes_of t y) (omega (arith, q, e))) f h
+sign_whole {t = t} {a = a} {b = b} {s = s} x y r held left right d e f h = sign_order (take a (bytes_of t x)) (take b (bytes_of t y))
+    (bytes_of t x) (bytes_of t y) r s (take_all a (bytes_of t x) (omega (arith, len_in held left, d)))
+    (take_all b (bytes_of t y) (omega (arith, len_in held right, e))) f h
 
 -- the order of two ranges
-pub sign_ranges : (t : Table) (x : Option Node) (i : ℕ) (y : Option Node) (j k a b : ℕ) (r : Ordering) (s : ℤ) →
-    length (bytes_of t x) ≡ text_len x → length (bytes_of t y) ≡ text_len y → a ≡ min k (text_len x - i) → b ≡ min k (text_len y - j) →
+pub sign_ranges : {lengths : Lengths} {t : Table} {a b : ℕ} {s : ℤ} (x : Option Node) (i : ℕ) (y : Option Node) (j k : ℕ) (r : Ordering) →
+    IsReported lengths t → IsReadable lengths x → IsReadable lengths y → a ≡ min k (text_len x - i) → b ≡ min k (text_len y - j) →
     s ≡ sign_of r → IsOrderOf t x i a y j b r → to_z w8 (of_z w8 s)
     ≡ order (take k (drop i (bytes_of t x))) (take k (drop j (bytes_of t y)))
-sign_ranges t x i y j k a b r s p q d e f h =
+sign_ranges {t = t} {a = a} {b = b} {s = s} x i y j k r held left right d e f h =
     let u = drop i (bytes_of t x) in
     let v = drop j (bytes_of t y) in
     sign_order (take a u) (take b v) (take k u) (take k v) r s
-    (ap (λ (m : ℕ). take m u) d ∙ range_min (bytes_of t x) i k (text_len x) p)
-    (ap (λ (m : ℕ). take m v) e ∙ range_min (bytes_of t y) j k (text_len y) q) f h
+    (ap (λ (m : ℕ). take m u) d ∙ range_min (bytes_of t x) i k (text_len x) (len_in held left))
+    (ap (λ (m : ℕ). take m v) e ∙ range_min (bytes_of t y) j k (text_len y) (len_in held right)) f h
 
 -- no cord is longer than the limit
 pub cord_limit : (c : Option Node) → IsCord c → text_len c ≤ MAX_LEN

@@ -1,12 +1,12 @@
 -- Places of a text in the first bytes of another.
-use Rattle.cord_search.proofs.Common.{CordFitsIn, Ghosts, IfOk, IfSome, IsAnswer, IsCord, IsPieceOf, IsReadable, List, Node, None, Ok}
-use Rattle.cord_search.proofs.Common.{Option, OverTables, Result, Some, StandsAt, StandsNot, Table, WasRead, ap, append_assoc, arith}
+use Rattle.cord_search.proofs.Common.{Ghosts, IfOk, IfSome, IsAnswer, IsPieceOf, IsReadable, List, Node, None, Ok}
+use Rattle.cord_search.proofs.Common.{Option, OverTables, Result, Shows, Some, StandsAt, StandsNot, Table, ap, append_assoc, arith}
 use Rattle.cord_search.proofs.Common.{bytes_of, cases_lt, drop, first, length, length-take, min, subst, sym, take, take-append-drop}
 use Rattle.cord_search.proofs.Common.{take_all, take_min, text_len, ℕ, ⊎_elim, ◌++◌, ◌+◌, ◌-◌, ◌<◌, ◌∙◌, ◌≡◌, ◌≤◌}
 use Rattle.std.proofs.lemmas.List.{drop-take, drop-append-le}
 use Rattle.cord_node.proofs.Ranges.{take-append_right}
 use Rattle.cord_search.specs.inner.Searches.{FindsBytesIn, FindsText}
-use Rattle.cord_search.proofs.Reading.{ReportsLengths, read_once, answered, len_over}
+use Rattle.cord_search.proofs.Reading.{ReportsLengths, answered, len_in, shown_once, shown_so, shown_with}
 use Rattle.cord_search.proofs.Finding.{first_is, first_only}
 use Rattle.cord_search.proofs.Standing.{stands_inside, prefix_stands}
 
@@ -95,44 +95,36 @@ prefix_none t x s start place e head is f none =
 
 module _ {S E : Type 0} {s : Ghosts S} {a b : S} (x : Option Node) (xs : List ℕ) (end start place : ℕ) where
   -- where bytes stand first, if they end in the first bytes
-  pub found_in : WasRead s a b → start ≤ place → place + length xs ≤ end →
-      OverTables s a b (λ t. Some place ≡ first (bytes_of t x) start xs) → FindsBytesIn {E = E} s a b x start end xs (Ok (Some place))
-  found_in v low fits found = answered v (record { from = low; within = fits })
-      (λ file_system agrees. first_within (bytes_of (s.table a file_system) x) xs end start place fits (found file_system agrees))
+  pub found_in : Shows s a b (λ t. Some place ≡ first (bytes_of t x) start xs) → start ≤ place → place + length xs ≤ end →
+      FindsBytesIn {E = E} s a b x start end xs (Ok (Some place))
+  found_in found low fits = answered (record { from = low; within = fits })
+      (shown_so found (λ t is. first_within (bytes_of t x) xs end start place fits is))
 
   -- or they stand nowhere up to a place past them
-  pub nowhere_in : WasRead s a b → end < place + length xs → OverTables s a b (λ t. StandsNot t x xs start place) →
+  pub nowhere_in : Shows s a b (λ t. StandsNot t x xs start place) → end < place + length xs →
       FindsBytesIn {E = E} s a b x start end xs (Ok None)
-  nowhere_in v past none = answered v (record { from = tt; within = tt })
-      (λ file_system agrees. none_within (s.table a file_system) x xs start place end past (none file_system agrees))
+  nowhere_in none past = answered (record { from = tt; within = tt })
+      (shown_so none (λ t none. none_within t x xs start place end past none))
 
 -- the same of the text of another cord
-module _ {S E : Type 0} {s : Ghosts S} {a b : S} (x text : Option Node) (end start place : ℕ) (v : WasRead s a b)
-    (reported : ReportsLengths s) (readable : IsReadable (s.lengths a) text) where
-  pub found_text : start ≤ place → place + text_len text ≤ end →
-      OverTables s a b (λ t. Some place ≡ first (bytes_of t x) start (bytes_of t text)) →
-      FindsText {E = E} s a b x start end text (Ok (Some place))
-  found_text low fits found = answered v (record { from = low; within = fits }) (λ file_system agrees.
-      let t = s.table a file_system in
-      let len = len_over text v reported readable.sound readable.fits file_system agrees in
-      first_within (bytes_of t x) (bytes_of t text) end start place (omega (arith, len, fits)) (found file_system agrees))
+module _ {S E : Type 0} {s : Ghosts S} {a b : S} (x text : Option Node) (end start place : ℕ) where
+  pub found_text : Shows s a b (λ t. Some place ≡ first (bytes_of t x) start (bytes_of t text)) → ReportsLengths s →
+      IsReadable (s.lengths a) text → start ≤ place → place + text_len text ≤ end → FindsText {E = E} s a b x start end text (Ok (Some place))
+  found_text found reported readable low fits = answered (record { from = low; within = fits }) (shown_with found reported (λ t held is.
+      first_within (bytes_of t x) (bytes_of t text) end start place (omega (arith, len_in held readable, fits)) is))
 
-  pub nowhere_text : end < place + text_len text → OverTables s a b (λ t. StandsNot t x (bytes_of t text) start place) →
-      FindsText {E = E} s a b x start end text (Ok None)
-  nowhere_text past none = answered v (record { from = tt; within = tt }) (λ file_system agrees.
-      let t = s.table a file_system in
-      let len = len_over text v reported readable.sound readable.fits file_system agrees in
-      none_within t x (bytes_of t text) start place end (omega (arith, len, past)) (none file_system agrees))
+  pub nowhere_text : Shows s a b (λ t. StandsNot t x (bytes_of t text) start place) → ReportsLengths s → IsReadable (s.lengths a) text →
+      end < place + text_len text → FindsText {E = E} s a b x start end text (Ok None)
+  nowhere_text none reported readable past = answered (record { from = tt; within = tt }) (shown_with none reported (λ t held none.
+      none_within t x (bytes_of t text) start place end (omega (arith, len_in held readable, past)) none))
 
 -- what was found in as many of the first bytes as there are
-pub cut_found : {S E : Type 0} {s : Ghosts S} {a b : S} {Q : Option ℕ → Type 0} (x : Option Node) (text : Table → List ℕ)
-    (end n e start : ℕ) (r : Option ℕ) → ReportsLengths s → IsCord x → CordFitsIn (s.lengths a) x → n ≡ text_len x → e ≡ min end n →
-    IsAnswer {E = E} s a b (Ok r) Q (λ t found. found ≡ first (take e (bytes_of t x)) start (text t)) →
+pub cut_found : {S E : Type 0} {s : Ghosts S} {a b : S} {Q : Option ℕ → Type 0} {r : Option ℕ} {n e : ℕ} (x : Option Node)
+    (text : Table → List ℕ) (end start : ℕ) → IsAnswer {E = E} s a b (Ok r) Q (λ t found. found ≡ first (take e (bytes_of t x)) start (text t)) →
+    ReportsLengths s → IsReadable (s.lengths a) x → n ≡ text_len x → e ≡ min end n →
     OverTables s a b (λ t. r ≡ first (take end (bytes_of t x)) start (text t))
-cut_found {s = s} {a = a} x text end n e start r reported sound fits is cut h = λ file_system agrees.
-    let t = s.table a file_system in
-    h.text file_system agrees ∙ ap (λ (ys : List ℕ). first ys start (text t))
-    (take_limit t x end n e (len_over x (read_once h.read) reported sound fits file_system agrees) is cut)
+cut_found {n = n} {e = e} x text end start h reported readable is cut = (shown_once h reported (λ t held found.
+    found ∙ ap (λ (ys : List ℕ). first ys start (text t)) (take_limit t x end n e (len_in held readable) is cut))).text
 
 -- what ends before a place ends before a later one
 pub ends_within : (r : Option ℕ) (n a b : ℕ) → a ≤ b → IfSome r (λ place. place + n ≤ a) → IfSome r (λ place. place + n ≤ b)

@@ -1,17 +1,18 @@
 -- Places of a byte: those in a piece are those in the text.
-use Rattle.cord_search.proofs.Common.{CordFits, CordFitsIn, Ghosts, HasNot, IsCord, IsFirst, IsPieceOf, IsSpanOf, IsSpanUpTo, List, Node}
-use Rattle.cord_search.proofs.Common.{None, NoneBefore, Nowhere, Ok, Option, OverTables, Some, Span, StandsAt, StandsNot, Table, WasRead}
+use Rattle.cord_search.proofs.Common.{Shows, Ghosts, HasNot, IsFirst, IsPieceOf, IsReadable, IsSpanOf, IsSpanUpTo, List, Node}
+use Rattle.cord_search.proofs.Common.{None, NoneBefore, Nowhere, Ok, Option, Some, Span, StandsAt, StandsNot, Table}
 use Rattle.cord_search.proofs.Common.{[], ap, arith, bytes_of, cases_lt, drop, eq-eqb, eqb-true, first, first_is_least, get_or, get_or-drop}
-use Rattle.cord_search.proofs.Common.{get_or-take, length, length-bytes, length-drop, length-take, length-take-le, refl, slice_get}
+use Rattle.cord_search.proofs.Common.{get_or-take, length, length-drop, length-take, length-take-le, refl, slice_get}
 use Rattle.cord_search.proofs.Common.{span_bytes, span_len, subst, sym, take, text_len, ℕ, ⊎_elim, ◌+◌, ◌-◌, ◌<◌, ◌∙◌, ◌∷◌, ◌≡◌, ◌≢◌, ◌≤◌}
 use Rattle.std.proofs.lemmas.Option.{same_Some, slice_get_within, get_or_from_slice_get, slice_get-get_or}
 use Rattle.memchr.specs.Find.{NoneAfter, Passes, IsFirstByte, IsLastByte, is_byte}
 use Rattle.cord_core.specs.Texts.{last, IsLast}
+use Rattle.cord_io.specs.Table.{Lengths}
 use Rattle.cord_core.proofs.Places.{at_here, some_here}
 use Rattle.cord_core.proofs.Searches.{last_is_greatest}
 use Rattle.cord_search.specs.inner.Spans.{IsRunWithout}
 use Rattle.cord_search.specs.inner.Searches.{FindsByte, FindsLast}
-use Rattle.cord_search.proofs.Reading.{ReportsLengths, fits_over, answered}
+use Rattle.cord_search.proofs.Reading.{IsReported, ReportsLengths, answered, fits_in, len_in, shown_so, shown_with}
 
 -- what holds nowhere before a place and nowhere after it holds nowhere
 pub nowhere_on : (P : ℕ → Type 0) (i j k : ℕ) → Nowhere P i j → Nowhere P j k → Nowhere P i k
@@ -89,106 +90,109 @@ found x xs c p k e lt h =
     slice_get-get_or x (p + k) 0 (omega arith) ∙ ap (λ (b : ℕ). Some b) (sym (range_at x xs p k e lt) ∙ eqb-true (get_or xs k 0) c h)
 
 -- a byte of the text is one of the span that holds its place
-in_span : (t : Table) (x : Option Node) (p : ℕ) (s : Span) (c q : ℕ) → CordFits t x → IsCord x → IsSpanOf x p s → p ≤ q →
-    q < p + span_len s → slice_get (bytes_of t x) q ≡ Some c → slice_get (span_bytes t s) (q - p) ≡ Some c
-in_span t x p s c q fits sound h from to there =
+in_span : {lengths : Lengths} {t : Table} {x : Option Node} {p : ℕ} {s : Span} (c q : ℕ) → IsReported lengths t → IsReadable lengths x →
+    IsSpanOf x p s → p ≤ q → q < p + span_len s → slice_get (bytes_of t x) q ≡ Some c → slice_get (span_bytes t s) (q - p) ≡ Some c
+in_span {t = t} {x = x} {p = p} {s = s} c q held readable h from to there =
     let text = bytes_of t x in
     let xs = span_bytes t s in
-    let len : length text ≡ text_len x = sym (length-bytes t x sound fits) in
-    let long : length xs ≡ span_len s =
-    ap (λ (ys : List ℕ). length ys) (h.text t fits) ∙ length-take-le (span_len s) (drop p text)
-    (omega (arith, len, h.inside, length-drop p text)) in
-    let range : xs ≡ take (length xs) (drop p text) = h.text t fits ∙ ap (λ (k : ℕ). take k (drop p text)) (sym long) in
+    let here = h.text t (fits_in x held readable.fits) in
+    let long : length xs ≡ span_len s = ap (λ (ys : List ℕ). length ys) here ∙ length-take-le (span_len s) (drop p text)
+    (omega (arith, len_in held readable, h.inside, length-drop p text)) in
+    let range : xs ≡ take (length xs) (drop p text) = here ∙ ap (λ (k : ℕ). take k (drop p text)) (sym long) in
     let m : p + (q - p) ≡ q = omega arith in
     slice_get-get_or xs (q - p) 0 (omega (arith, long, from, to))
     ∙ ap (λ (b : ℕ). Some b) (range_at text xs p (q - p) range (omega (arith, long, from, to)) ∙ ap (λ (k : ℕ). get_or text k 0) m
     ∙ get_or_from_slice_get text q c 0 there)
 
-module _ {S : Type 0} {s : Ghosts S} {a b : S} (x : Option Node) (c from p : ℕ) (v : WasRead s a b) where
+-- a piece has a byte nowhere that isn't found in it
+none_in : (t : Table) (x : Option Node) (c p : ℕ) (xs : List ℕ) → IsPieceOf t x p xs → Nowhere (Passes (is_byte c) xs) 0 (length xs) →
+    HasNot t x c p (p + length xs)
+none_in t x c p xs piece nowhere = λ q low to there.
+    nowhere (q - p) (omega arith) (omega arith) (passes (bytes_of t x) xs c p q piece low to there)
+
+-- nor has a run of another byte
+none_past : {lengths : Lengths} {t : Table} {x : Option Node} {p : ℕ} {span : Span} {c n : ℕ} → IsReported lengths t →
+    IsReadable lengths x → IsSpanOf x p span → IsRunWithout span c n → HasNot t x c p (p + n)
+none_past {t = t} {p = p} {c = c} held readable h run = λ q low to there.
+    run.without t (q - p) (in_span c q held readable h low (omega (arith, to, run.len)) there)
+
+-- bytes stand at no place before that of a piece
+pub record IsNextPiece (t : Table) (x : Option Node) (s : List ℕ) (from p : ℕ) (xs : List ℕ) : Type 0 where
+  pub none : StandsNot t x s from p
+  pub piece : IsPieceOf t x p xs
+
+module _ {S : Type 0} {s : Ghosts S} {a b : S} {x : Option Node} where
   -- a search by pieces goes on
-  pub first_on : (xs : List ℕ) (r : Option ℕ) → r ≡ None → IsFirstByte (is_byte c) xs r → OverTables s a b (λ t. IsPieceOf t x p xs) →
-      OverTables s a b (λ t. StandsNot t x (c ∷ []) from p) → OverTables s a b (λ t. StandsNot t x (c ∷ []) from (p + length xs))
-  first_on xs r is h piece none = λ file_system agrees.
+  pub first_on : {c from p : ℕ} {xs : List ℕ} {r : Option ℕ} → Shows s a b (λ t. IsNextPiece t x (c ∷ []) from p xs) → r ≡ None →
+      IsFirstByte (is_byte c) xs r → Shows s a b (λ t. StandsNot t x (c ∷ []) from (p + length xs))
+  first_on {c} {from} {p} {xs} next is h =
       let nowhere : Nowhere (Passes (is_byte c) xs) 0 (length xs) = rw is at h in
-      let text = bytes_of (s.table a file_system) x in
-      λ q low to at. ⊎_elim (λ (lt : q < p). none file_system agrees q low lt at) (λ (le : p ≤ q).
-      nowhere (q - p) (omega arith) (omega arith) (passes text xs c p q (piece file_system agrees) le to (byte_there text c q at))) (cases_lt q p)
+      shown_so next (λ t n. nowhere_on (StandsAt (bytes_of t x) (c ∷ [])) from p (p + length xs) n.none
+      (λ q low to at. none_in t x c p xs n.piece nowhere q low to (byte_there (bytes_of t x) c q at)))
 
   -- also after a span that hasn't the byte
-  pub first_past : (span : Span) (n : ℕ) → ReportsLengths s → CordFitsIn (s.lengths a) x → IsCord x → IsSpanOf x p span →
-      IsRunWithout span c n → OverTables s a b (λ t. StandsNot t x (c ∷ []) from p) →
-      OverTables s a b (λ t. StandsNot t x (c ∷ []) from (p + n))
-  first_past span n reported fits sound h run none = λ file_system agrees.
-      let t = s.table a file_system in
-      let held = fits_over x v reported fits file_system agrees in
-      λ q low to at. ⊎_elim (λ (lt : q < p). none file_system agrees q low lt at) (λ (le : p ≤ q). run.without t (q - p)
-      (in_span t x p span c q held sound h le (omega (arith, to, run.len)) (byte_there (bytes_of t x) c q at))) (cases_lt q p)
+  pub first_past : {c p n : ℕ} {span : Span} (from : ℕ) → Shows s a b (λ t. StandsNot t x (c ∷ []) from p) → IsSpanOf x p span →
+      IsRunWithout span c n → ReportsLengths s → IsReadable (s.lengths a) x → Shows s a b (λ t. StandsNot t x (c ∷ []) from (p + n))
+  first_past {c} {p} {n} from none h run reported readable = shown_with none reported (λ t held before.
+      nowhere_on (StandsAt (bytes_of t x) (c ∷ [])) from p (p + n) before
+      (λ q low to at. none_past held readable h run q low to (byte_there (bytes_of t x) c q at)))
 
   -- and ends where the byte is found
-  pub first_found : {E : Type 0} (xs : List ℕ) (k : ℕ) (r : Option ℕ) → r ≡ Some k → IsFirstByte (is_byte c) xs r → from ≤ p →
-      p + length xs ≤ text_len x → OverTables s a b (λ t. IsPieceOf t x p xs) → OverTables s a b (λ t. StandsNot t x (c ∷ []) from p) →
-      FindsByte {E = E} s a b x from c (Ok (Some (p + k)))
-  first_found xs k r is h low inside piece none =
+  pub first_found : {E : Type 0} {c from p k : ℕ} {xs : List ℕ} {r : Option ℕ} → Shows s a b (λ t. IsNextPiece t x (c ∷ []) from p xs) →
+      r ≡ Some k → IsFirstByte (is_byte c) xs r → from ≤ p → p + length xs ≤ text_len x → FindsByte {E = E} s a b x from c (Ok (Some (p + k)))
+  first_found {c = c} {from = from} {p = p} {k = k} {xs = xs} next is h low inside =
       let here : NoneBefore (Passes (is_byte c) xs) 0 (length xs) k × Passes (is_byte c) xs k = rw is at h in
       let below : k < length xs = here.0.high in
-      answered v (omega (arith, low), omega (arith, below, inside)) (λ file_system agrees.
-      let text = bytes_of (s.table a file_system) x in
-      let e = piece file_system agrees in
+      answered (omega (arith, low), omega (arith, below, inside)) (shown_so next (λ t n.
+      let text = bytes_of t x in
       let before : (q : ℕ) → from ≤ q → q < p + k → StandsAt text (c ∷ []) q → ⊥ =
-      λ q low' to at. ⊎_elim (λ (lt : q < p). none file_system agrees q low' lt at) (λ (le : p ≤ q).
-      here.0.before (q - p) (omega arith) (omega arith) (passes text xs c p q e le (omega arith) (byte_there text c q at)))
-      (cases_lt q p) in
-      first_only text (c ∷ []) from (Some (p + k)) (omega arith, byte_here text c (p + k) (found text xs c p k e below here.1), before))
+      nowhere_on (StandsAt text (c ∷ [])) from p (p + k) n.none (λ q le to at. here.0.before (q - p) (omega arith) (omega arith)
+      (passes text xs c p q n.piece le (omega arith) (byte_there text c q at))) in
+      first_only text (c ∷ []) from (Some (p + k)) (omega arith, byte_here text c (p + k) (found text xs c p k n.piece below here.1), before)))
 
-  -- or at the end of the text
-  pub first_none : {E : Type 0} → text_len x ≤ p → OverTables s a b (λ t. length (bytes_of t x) ≡ text_len x) →
-      OverTables s a b (λ t. StandsNot t x (c ∷ []) from p) → FindsByte {E = E} s a b x from c (Ok None)
-  first_none end len none = answered v (tt, tt) (λ file_system agrees.
-      let text = bytes_of (s.table a file_system) x in
-      first_only text (c ∷ []) from None (λ q low at. let inside : q < length text = slice_get_within text q c (byte_there text c q at) in
-      none file_system agrees q low (omega (arith, len file_system agrees, inside)) at))
+-- or at the end of the text
+pub first_none : {S E : Type 0} {s : Ghosts S} {a b : S} (x : Option Node) (c from p : ℕ) → Shows s a b (λ t. StandsNot t x (c ∷ []) from p) → ReportsLengths s →
+    IsReadable (s.lengths a) x → text_len x ≤ p → FindsByte {E = E} s a b x from c (Ok None)
+first_none x c from p none reported readable end = answered (tt, tt) (shown_with none reported (λ t held before.
+    let text = bytes_of t x in
+    first_only text (c ∷ []) from None (λ q low at. let inside : q < length text = slice_get_within text q c (byte_there text c q at) in
+    before q low (omega (arith, end, len_in held readable, inside)) at)))
 
-module _ {S : Type 0} {s : Ghosts S} {a b : S} (x : Option Node) (c at p end : ℕ) (v : WasRead s a b) where
-  -- the same from after
-  pub last_on : (xs : List ℕ) (r : Option ℕ) → r ≡ None → IsLastByte (is_byte c) xs r → p + length xs ≡ end →
-      OverTables s a b (λ t. IsPieceOf t x p xs) → OverTables s a b (λ t. HasNot t x c end (at + 1)) →
-      OverTables s a b (λ t. HasNot t x c p (at + 1))
-  last_on xs r is h seam piece none = λ file_system agrees.
+-- a byte is at no place from the end of a piece on
+pub record IsLastPiece (t : Table) (x : Option Node) (c at end : ℕ) (xs : List ℕ) : Type 0 where
+  pub none : HasNot t x c end (at + 1)
+  pub piece : IsPieceOf t x (end - length xs) xs
+
+module _ {S : Type 0} {s : Ghosts S} {a b : S} {x : Option Node} where
+  -- the same from the end on
+  pub last_on : {c at end : ℕ} {xs : List ℕ} {r : Option ℕ} → Shows s a b (λ t. IsLastPiece t x c at end xs) → r ≡ None →
+      IsLastByte (is_byte c) xs r → length xs ≤ end → Shows s a b (λ t. HasNot t x c (end - length xs) (at + 1))
+  last_on {c} {at} {end} {xs} last is h inside =
       let nowhere : Nowhere (Passes (is_byte c) xs) 0 (length xs) = rw is at h in
-      let text = bytes_of (s.table a file_system) x in
-      λ q low to here. ⊎_elim (λ (lt : q < end). nowhere (q - p) (omega arith) (omega arith)
-      (passes text xs c p q (piece file_system agrees) low (omega arith) here))
-      (λ (le : end ≤ q). none file_system agrees q le to here) (cases_lt q end)
+      shown_so last (λ t n. nowhere_on (λ q. slice_get (bytes_of t x) q ≡ Some c) (end - length xs) end (at + 1)
+      (λ q low to there. none_in t x c (end - length xs) xs n.piece nowhere q low (omega (arith, inside, to)) there) n.none)
 
-  pub last_past : (span : Span) (n : ℕ) → ReportsLengths s → CordFitsIn (s.lengths a) x → IsCord x → p + n ≡ end →
-      IsSpanUpTo x end span → IsRunWithout span c n → OverTables s a b (λ t. HasNot t x c end (at + 1)) →
-      OverTables s a b (λ t. HasNot t x c p (at + 1))
-  last_past span n reported fits sound seam h run none = λ file_system agrees.
-      let t = s.table a file_system in
-      let held = fits_over x v reported fits file_system agrees in
-      let low : p ≡ end - span_len span = omega (arith, seam, run.len) in
-      λ q from to here. ⊎_elim (λ (lt : q < end). run.without t (q - (end - span_len span))
-      (in_span t x (end - span_len span) span c q held sound h.span (omega (arith, from, low)) (omega (arith, lt, h.inside)) here))
-      (λ (le : end ≤ q). none file_system agrees q le to here) (cases_lt q end)
+  pub last_past : {c end n : ℕ} {span : Span} (at : ℕ) → Shows s a b (λ t. HasNot t x c end (at + 1)) → IsSpanUpTo x end span →
+      IsRunWithout span c n → ReportsLengths s → IsReadable (s.lengths a) x → Shows s a b (λ t. HasNot t x c (end - n) (at + 1))
+  last_past {c} {end} {n} at none h run reported readable = shown_with none reported (λ t held after.
+      nowhere_on (λ q. slice_get (bytes_of t x) q ≡ Some c) (end - n) end (at + 1) (λ q low to there. none_past held readable h.span run q
+      (omega (arith, low, run.len)) (omega (arith, to, run.len, h.inside)) there) after)
 
-  pub last_found : {E : Type 0} (xs : List ℕ) (k : ℕ) (r : Option ℕ) → r ≡ Some k → IsLastByte (is_byte c) xs r → p + length xs ≡ end →
-      end ≤ at + 1 → OverTables s a b (λ t. IsPieceOf t x p xs) → OverTables s a b (λ t. HasNot t x c end (at + 1)) →
-      FindsLast {E = E} s a b x at c (Ok (Some (p + k)))
-  last_found xs k r is h seam high piece none =
+  pub last_found : {E : Type 0} {c at end k : ℕ} {xs : List ℕ} {r : Option ℕ} → Shows s a b (λ t. IsLastPiece t x c at end xs) → r ≡ Some k →
+      IsLastByte (is_byte c) xs r → length xs ≤ end → end ≤ at + 1 → FindsLast {E = E} s a b x at c (Ok (Some (end - length xs + k)))
+  last_found {c = c} {at = at} {end = end} {k = k} {xs = xs} last is h inside high =
       let here : NoneAfter (Passes (is_byte c) xs) 0 (length xs) k × Passes (is_byte c) xs k = rw is at h in
       let below : k < length xs = here.0.high in
-      answered v (omega (arith, below, seam, high)) (λ file_system agrees.
-      let text = bytes_of (s.table a file_system) x in
-      let e = piece file_system agrees in
-      let later : (q : ℕ) → p + k < q → q ≤ at → slice_get text q ≢ Some c =
-      λ q low to there.
-      ⊎_elim (λ (lt : q < end). here.0.after (q - p) (omega arith) (omega arith)
-      (passes text xs c p q e (omega arith) (omega arith) there))
-      (λ (le : end ≤ q). none file_system agrees q le (omega arith) there) (cases_lt q end) in
-      last_only text at c (Some (p + k)) (omega arith, found text xs c p k e below here.1, later))
+      let p : ℕ = end - length xs in
+      answered (omega (arith, below, inside, high)) (shown_so last (λ t n.
+      let text = bytes_of t x in
+      let later : (q : ℕ) → p + k < q → q ≤ at → slice_get text q ≢ Some c = λ q low to.
+      nowhere_on (λ q. slice_get text q ≡ Some c) (p + k + 1) end (at + 1) (λ q low to there. here.0.after (q - p) (omega arith) (omega arith)
+      (passes text xs c p q n.piece (omega arith) (omega arith) there)) n.none q (omega arith) (omega arith) in
+      last_only text at c (Some (p + k)) (omega arith, found text xs c p k n.piece below here.1, later)))
 
 -- up to the beginning of the text
-pub last_none : {S E : Type 0} {s : Ghosts S} {a b : S} (x : Option Node) (c at end : ℕ) → WasRead s a b → end ≤ 0 →
-    OverTables s a b (λ t. HasNot t x c end (at + 1)) → FindsLast {E = E} s a b x at c (Ok None)
-last_none {s = s} {a = a} x c at end v low none = answered v tt (λ file_system agrees.
-    last_only (bytes_of (s.table a file_system) x) at c None (λ q to there. none file_system agrees q (omega arith) (omega arith) there))
+pub last_none : {S E : Type 0} {s : Ghosts S} {a b : S} (x : Option Node) (c at end : ℕ) → end ≤ 0 →
+    Shows s a b (λ t. HasNot t x c end (at + 1)) → FindsLast {E = E} s a b x at c (Ok None)
+last_none x c at end low none = answered tt (shown_so none (λ t after.
+    last_only (bytes_of t x) at c None (λ q to there. after q (omega arith) (omega arith) there)))

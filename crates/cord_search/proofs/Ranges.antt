@@ -1,44 +1,49 @@
 -- Where spans and pieces stand in the text of a cord.
-use Rattle.cord_search.proofs.Common.{CordFitsIn, Ghosts, IsPieceOf, IsSpanOf, IsSpanUpTo, List, Node, None, Option, OverTables, Some, Span}
-use Rattle.cord_search.proofs.Common.{Table, WasRead, ap, arith, bytes_of, drop, length, length-take, length_at, range_of_range, replicate}
+use Rattle.cord_search.proofs.Common.{CordFitsIn, IsPieceOf, IsSpanOf, IsSpanUpTo, List, Node, None, Option, Some, Span}
+use Rattle.cord_search.proofs.Common.{Table, ap, arith, bytes_of, drop, length, length-take, length_at, range_of_range, replicate}
 use Rattle.cord_search.proofs.Common.{span_bytes, span_len, sym, take, take-add, take-take, take_all, take_min, ℕ, ◌++◌, ◌+◌, ◌-◌, ◌<◌, ◌∙◌}
 use Rattle.cord_search.proofs.Common.{◌≡◌, ◌≤◌}
+use Rattle.std.proofs.Common.{Bor}
 use Rattle.std.specs.Prelude.{unwrap_or, IsSomeAnd}
 use Rattle.std.proofs.lemmas.List.{drop-replicate, take-replicate}
 use Rattle.cord_io.specs.Table.{Lengths}
+use Rattle.cord_io.specs.declared.SourceId.{SourceId}
 use Rattle.cord_pos.specs.declared.span.Span.TheVariants.{Bytes, Run, Func}
 use Rattle.cord_search.specs.inner.Spans.{IsPartOf}
-use Rattle.cord_search.proofs.Reading.{ReportsLengths, fits_over}
+use Rattle.cord_search.proofs.Reading.{IsReported, fits_in}
 
 -- a range is its own first bytes
 own_range : (xs ys : List ℕ) (k : ℕ) → xs ≡ take k ys → xs ≡ take (length xs) ys
 own_range xs ys k e = e ∙ sym (take_min k ys) ∙ ap (λ (m : ℕ). take m ys) (sym (ap (λ (zs : List ℕ). length zs) e ∙ length-take k ys))
 
 -- so many times the byte of a run
-pub run_part : (t : Table) (s : Span) (xs : List ℕ) (byte len i k : ℕ) → ((t : Table) → span_bytes t s ≡ replicate len byte) →
-    i + k ≤ len → xs ≡ replicate k byte → IsPartOf t s i xs
-run_part t s xs byte len i k e h is =
-    let inside : k ≤ len - i = omega arith in
-    own_range xs (drop i (span_bytes t s)) k (is ∙ sym (take-replicate k (len - i) byte inside)
-    ∙ ap (λ (ys : List ℕ). take k ys) (sym (drop-replicate i len byte)) ∙ ap (λ (ys : List ℕ). take k (drop i ys)) (sym (e t)))
+pub run_part : {s : Span} {byte len : ℕ} (t : Table) (xs : List ℕ) (i k : ℕ) → s ≡ Run byte len → i + k ≤ span_len s →
+    xs ≡ replicate k byte → IsPartOf t s i xs
+run_part {s = s} {byte = byte} {len = len} t xs i k is le h =
+    let whole = ap span_len is in
+    let inside : k ≤ len - i = omega (arith, whole, le) in
+    own_range xs (drop i (span_bytes t s)) k (h ∙ sym (take-replicate k (len - i) byte inside)
+    ∙ ap (λ (ys : List ℕ). take k ys) (sym (drop-replicate i len byte)) ∙ ap (λ (s : Span). take k (drop i (span_bytes t s))) (sym is))
 
 -- bytes that were read of a source
-pub func_part : (t : Table) (s : Span) (xs : List ℕ) (id start len from i : ℕ) →
-    ((t : Table) → span_bytes t s ≡ take len (drop start (t id))) → from ≡ start + i → i + length xs ≤ len →
-    xs ≡ take (length xs) (drop from (t id)) → IsPartOf t s i xs
-func_part t s xs id start len from i e f h is =
-    is ∙ ap (λ (m : ℕ). take (length xs) (drop m (t id))) f ∙ sym (range_of_range (t id) i (length xs) start len h)
-    ∙ ap (λ (ys : List ℕ). take (length xs) (drop i ys)) (sym (e t))
+pub func_part : {s : Span} {id : SourceId} {start len : ℕ} (t : Table) (xs : List ℕ) (from i : ℕ) → s ≡ Func id start len →
+    from ≡ start + i → i + length xs ≤ span_len s → xs ≡ take (length xs) (drop from (t id.0)) → IsPartOf t s i xs
+func_part {id = id} {start = start} {len = len} t xs from i is f le h =
+    let whole = ap span_len is in
+    h ∙ ap (λ (m : ℕ). take (length xs) (drop m (t id.0))) f
+    ∙ sym (range_of_range (t id.0) i (length xs) start len (omega (arith, whole, le)))
+    ∙ ap (λ (s : Span). take (length xs) (drop i (span_bytes t s))) (sym is)
 
 -- the first bytes of a leaf
-pub leaf_part : (t : Table) (s : Span) (xs ys : List ℕ) (n : ℕ) → ((t : Table) → span_bytes t s ≡ ys) → xs ≡ take n ys →
+pub leaf_part : {s : Span} {bytes : Bor (List ℕ)} (t : Table) (xs : List ℕ) (n : ℕ) → s ≡ Bytes bytes → xs ≡ take n bytes.now →
     IsPartOf t s 0 xs
-leaf_part t s xs ys n e is = own_range xs (span_bytes t s) n (is ∙ ap (λ (zs : List ℕ). take n zs) (sym (e t)))
+leaf_part {s = s} t xs n is h = own_range xs (span_bytes t s) n (h ∙ ap (λ (s : Span). take n (span_bytes t s)) (sym is))
 
--- the whole of a span
-pub whole_part : (t : Table) (s : Span) (xs : List ℕ) (i : ℕ) → ((t : Table) → span_bytes t s ≡ xs) → i ≡ 0 → IsPartOf t s i xs
-whole_part t s xs i e z = sym (take_all (length xs) xs (omega arith)) ∙ ap (λ (j : ℕ). take (length xs) (drop j xs)) (sym z)
-    ∙ ap (λ (ys : List ℕ). take (length xs) (drop i ys)) (sym (e t))
+-- all of a leaf
+pub whole_part : {s : Span} {bytes : Bor (List ℕ)} (t : Table) (i : ℕ) → s ≡ Bytes bytes → i ≡ 0 → IsPartOf t s i bytes.now
+whole_part {bytes = bytes} t i is z = sym (take_all (length bytes.now) bytes.now (omega arith))
+    ∙ ap (λ (j : ℕ). take (length bytes.now) (drop j bytes.now)) (sym z)
+    ∙ ap (λ (s : Span). take (length bytes.now) (drop i (span_bytes t s))) (sym is)
 
 -- a span has no more bytes than its length says
 pub span_whole : (t : Table) (s : Span) → take (span_len s) (span_bytes t s) ≡ span_bytes t s
@@ -61,27 +66,22 @@ of_source lengths id end some inside = at (lengths id) inside
     at None h = let none : end ≤ 0 = h in absurd (omega (arith, none, some))
     at (Some len) h = h
 
-module _ {S : Type 0} {s : Ghosts S} {a b : S} (c : Option Node) where
+module _ {lengths : Lengths} {t : Table} {c : Option Node} {place : ℕ} {span : Span} (held : IsReported lengths t) (h : IsSpanOf c place span)
+    (fits : CordFitsIn lengths c) (xs : List ℕ) where
   -- what was read of a part of a span is a piece of the text
-  pub read_piece : (place : ℕ) (span : Span) (i j : ℕ) (xs : List ℕ) → WasRead s a b → ReportsLengths s → CordFitsIn (s.lengths a) c →
-      IsSpanOf c place span → i + length xs ≤ span_len span → j ≡ place + i → OverTables s a b (λ t. IsPartOf t span i xs) →
-      OverTables s a b (λ t. IsPieceOf t c j xs)
-  read_piece place span i j xs v reported fits h inside e part = λ file_system agrees.
-      let text = bytes_of (s.table a file_system) c in
-      part file_system agrees
-      ∙ ap (λ (ys : List ℕ). take (length xs) (drop i ys)) (h.text (s.table a file_system) (fits_over c v reported fits file_system agrees))
-      ∙ range_of_range text i (length xs) place (span_len span) inside ∙ ap (λ (m : ℕ). take (length xs) (drop m text)) (sym e)
+  pub part_piece : (i j : ℕ) → i + length xs ≤ span_len span → j ≡ place + i → IsPartOf t span i xs → IsPieceOf t c j xs
+  part_piece i j inside e part =
+      part ∙ ap (λ (ys : List ℕ). take (length xs) (drop i ys)) (h.text t (fits_in c held fits))
+      ∙ range_of_range (bytes_of t c) i (length xs) place (span_len span) inside
+      ∙ ap (λ (m : ℕ). take (length xs) (drop m (bytes_of t c))) (sym e)
 
   -- so is what stands at its beginning
-  pub read_prefix : (place : ℕ) (span : Span) (xs : List ℕ) → WasRead s a b → ReportsLengths s → CordFitsIn (s.lengths a) c →
-      IsSpanOf c place span → length xs ≤ span_len span → OverTables s a b (λ t. IsPartOf t span 0 xs) →
-      OverTables s a b (λ t. IsPieceOf t c place xs)
-  read_prefix place span xs v reported fits h inside part =
-      read_piece place span 0 place xs v reported fits h (omega (arith, inside)) (omega arith) part
+  pub prefix_piece : length xs ≤ span_len span → IsPartOf t span 0 xs → IsPieceOf t c place xs
+  prefix_piece inside part = part_piece 0 place (omega (arith, inside)) (omega arith) part
 
-  -- and at the end of one that ends at a place
-  pub read_end : (end : ℕ) (span : Span) (xs : List ℕ) → WasRead s a b → ReportsLengths s → CordFitsIn (s.lengths a) c →
-      IsSpanUpTo c end span → length xs ≤ span_len span → OverTables s a b (λ t. IsPartOf t span (span_len span - length xs) xs) →
-      OverTables s a b (λ t. IsPieceOf t c (end - length xs) xs)
-  read_end end span xs v reported fits h inside part = read_piece (end - span_len span) span (span_len span - length xs)
-      (end - length xs) xs v reported fits h.span (omega (arith, inside)) (omega (arith, inside, h.inside)) part
+-- and at the end of one that ends at a place
+pub end_piece : {lengths : Lengths} {t : Table} {c : Option Node} {end : ℕ} {span : Span} → IsReported lengths t → IsSpanUpTo c end span →
+    CordFitsIn lengths c → (xs : List ℕ) → length xs ≤ span_len span → IsPartOf t span (span_len span - length xs) xs →
+    IsPieceOf t c (end - length xs) xs
+end_piece {end = end} {span = span} held h fits xs inside part = part_piece held h.span fits xs (span_len span - length xs)
+    (end - length xs) (omega (arith, inside)) (omega (arith, inside, h.inside)) part

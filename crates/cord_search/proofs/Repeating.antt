@@ -1,10 +1,10 @@
 -- Texts that repeat themselves stand at few places of one another.
-use Rattle.cord_search.proofs.Common.{AreSame, IsCommon, IsPieceOf, List, Node, Option, StandsAt, StandsNot, Table, [], ap, arith, bytes_of}
+use Rattle.cord_search.proofs.Common.{AreSame, IsCommon, IsReadable, List, Node, Option, StandsAt, StandsNot, Table, [], ap, arith, bytes_of}
 use Rattle.cord_search.proofs.Common.{cases_lt, drop, get_or, get_or-drop, get_or-take, length, sym, take, text_len, ℕ, ⊎_elim, ◌++◌, ◌+◌}
-use Rattle.cord_search.proofs.Common.{◌-◌, ◌<◌, ◌∙◌, ◌∷◌, ◌≡◌, ◌≢◌, ◌≤◌}
+use Rattle.cord_search.proofs.Common.{◌-◌, ◌<◌, ◌∙◌, ◌∷◌, ◌≡◌, ◌≤◌}
 use Rattle.std.proofs.lemmas.List.{take_more}
-use Rattle.cord_search.proofs.Finding.{range_at}
-use Rattle.cord_search.proofs.Comparing.{common_on}
+use Rattle.cord_io.specs.Table.{Lengths}
+use Rattle.cord_search.proofs.Reading.{IsReported, len_in}
 use Rattle.cord_search.proofs.Standing.{stands_get, stands_inside}
 
 -- the same bytes at one place
@@ -22,28 +22,21 @@ pub agree_on : (xs ys : List ℕ) (p : ℕ) → p < length xs → p < length ys 
 agree_on xs ys p l r e same = take_more xs p 0 l ∙ ap (λ (zs : List ℕ). zs ++ get_or xs p 0 ∷ []) same
     ∙ ap (λ (b : ℕ). take p ys ++ b ∷ []) e ∙ sym (take_more ys p 0 r)
 
--- and then they differ
-pub common_end : (t : Table) (x : Option Node) (i : ℕ) (y : Option Node) (j most done n : ℕ) (piece other : List ℕ) → done + n ≤ most →
-    n < length piece → n < length other → IsPieceOf t x (i + done) piece → IsPieceOf t y (j + done) other → take n piece ≡ take n other →
-    get_or piece n 0 ≢ get_or other n 0 → AreSame t x i y j done → IsCommon t x i y j most (done + n)
-common_end t x i y j most done n piece other le p q e f h not s = record {
-  within = le;
-  same = common_on t x i y j done n piece other (omega arith) (omega arith) e f h s;
-  differ = λ _ same.
-      let left : i + done + n ≡ i + (done + n) = omega arith in
-      let right : j + done + n ≡ j + (done + n) = omega arith in
-      not (range_at (bytes_of t x) piece (i + done) n e p ∙ ap (λ (k : ℕ). get_or (bytes_of t x) k 0) left ∙ same
-      ∙ sym (range_at (bytes_of t y) other (j + done) n f q ∙ ap (λ (k : ℕ). get_or (bytes_of t y) k 0) right));
-}
-
+-- all of so many bytes are the same
 pub common_all : (t : Table) (x : Option Node) (i : ℕ) (y : Option Node) (j most done : ℕ) → done ≤ most → most ≤ done →
     AreSame t x i y j done → IsCommon t x i y j most done
 common_all t x i y j most done le ge s = record { within = le; same = s; differ = λ lt. absurd (omega (arith, lt, ge)) }
 
-module _ (t : Table) (x s : Option Node) (place period count run : ℕ) (len : length (bytes_of t x) ≡ text_len x)
-    (pattern_len : length (bytes_of t s) ≡ text_len s) (inside : period ≤ text_len s)
+module _ {lengths : Lengths} {t : Table} {x s : Option Node} {place period count run : ℕ} (held : IsReported lengths t)
+    (readable : IsReadable lengths x) (pattern : IsReadable lengths s) (inside : period ≤ text_len s)
     (repeats : IsCommon t s 0 s period (text_len s - period) count)
     (runs : IsCommon t x place x (place + period) (text_len x - (place + period)) run) where
+  len : length (bytes_of t x) ≡ text_len x
+  len = len_in held readable
+
+  pattern_len : length (bytes_of t s) ≡ text_len s
+  pattern_len = len_in held pattern
+
   -- what the text has at two places of the pattern, one a period after the other
   here : (q k : ℕ) → StandsAt (bytes_of t x) (bytes_of t s) q → k + period < text_len s →
       get_or (bytes_of t x) (q + k) 0 ≡ get_or (bytes_of t s) k 0

@@ -1,13 +1,16 @@
 -- What two texts share is the same in both.
-use Rattle.cord_search.proofs.Common.{AreAlike, AreSame, CordFits, Ghosts, IsReadable, IsSpanOf, IsSpanPrefix, IsWithin, List, Node, Option}
-use Rattle.cord_search.proofs.Common.{OverTables, Some, Span, Table, WasRead, ap, arith, bytes_of, drop, drop-drop, len_of, map, span_bytes}
-use Rattle.cord_search.proofs.Common.{span_len, sym, take, take-take, ℕ, ◌+◌, ◌<◌, ◌∙◌, ◌≡◌, ◌≤◌}
+use Rattle.cord_search.proofs.Common.{Shows, AreAlike, AreSame, CordFits, Ghosts, IsReadable, IsSpanOf, IsSpanPrefix, IsWithin, List, Node, Option}
+use Rattle.cord_search.proofs.Common.{Some, Span, Table, ap, arith, bytes_of, drop, drop-drop, len_of, map, span_bytes}
+use Rattle.cord_search.proofs.Common.{span_len, sym, take, take-take, ℕ, ◌+◌, ◌-◌, ◌<◌, ◌∙◌, ◌≡◌, ◌≤◌}
 use Rattle.cord_node.specs.Tree.{Cell, cells}
 use Rattle.cord_node.specs.Tables.{bytes_over, lengths_of, Fits, byte_at}
 use Rattle.cord_node.proofs.TableLemmas.{bytes-cells}
+use Rattle.cord_search.specs.inner.SharedParts.{IsCommonAhead, IsWay}
 use Rattle.cord_search.specs.inner.Spans.{BeginAlike, IsBlockOf}
+use Rattle.cord_search.specs.declared.shared_parts.Ahead.TheVariants.{Same}
+use Rattle.cord_search.specs.declared.shared_parts.Way.{Way}
 use Rattle.cord_search.proofs.Ranges.{take_on}
-use Rattle.cord_search.proofs.Reading.{ReportsLengths, fits_over}
+use Rattle.cord_search.proofs.Reading.{ReportsLengths, fits_in, shown_with}
 
 -- the bytes from a place of a node are those of what is within
 within_bytes : (n : Node) (place : ℕ) (m : Node) (at k : ℕ) (t : Table) → (w : IsWithin n place m at) → Fits t n → at + k ≤ len_of m →
@@ -30,15 +33,15 @@ prefix t c place s k f h le = sym (take-take k (span_len s) (drop place (bytes_o
     ∙ ap (λ (ys : List ℕ). take k ys) (sym (h.text t f))
 
 -- spans that begin alike
-pub spans_alike : (c : Option Node) (i : ℕ) (d : Option Node) (j : ℕ) (s other : Span) (k : ℕ) → IsSpanOf c i s →
-    IsSpanOf d j other → BeginAlike s other → k ≤ span_len s → k ≤ span_len other → AreAlike c i d j k
-spans_alike c i d j s other k h g alike le more = λ t f e.
+pub spans_alike : {c d : Option Node} {i j : ℕ} {s other : Span} (k : ℕ) → IsSpanOf c i s → IsSpanOf d j other → BeginAlike s other →
+    k ≤ span_len s → k ≤ span_len other → AreAlike c i d j k
+spans_alike {c} {d} {i} {j} {s} {other} k h g alike le more = λ t f e.
     prefix t c i s k f h le ∙ alike t k le more ∙ sym (prefix t d j other k e g more)
 
 -- the prefix of a span is one
-pub prefix_span : (c : Option Node) (place : ℕ) (s first : Span) (k : ℕ) → 0 < k → k ≤ span_len s → IsSpanOf c place s →
-    IsSpanPrefix s k first → IsSpanOf c place first
-prefix_span c place s first k some le h f = record {
+pub prefix_span : {c : Option Node} {place k : ℕ} {s first : Span} → 0 < k → k ≤ span_len s → IsSpanOf c place s → IsSpanPrefix s k first →
+    IsSpanOf c place first
+prefix_span {c} {place} {k} {s} some le h f = record {
   some = omega (arith, some, f.len);
   inside = omega (arith, le, f.len, h.inside);
   fits = λ lengths held. f.fits lengths (h.fits lengths held);
@@ -46,8 +49,8 @@ prefix_span c place s first k some le h f = record {
 }
 
 -- and so is a block of one
-pub block_span : (c : Option Node) (place : ℕ) (s block : Span) → IsBlockOf s block → IsSpanOf c place s → IsSpanOf c place block
-block_span c place s block b h = prefix_span c place s block (span_len block) b.some b.few h b.prefix
+pub block_span : {c : Option Node} {place : ℕ} {s block : Span} → IsBlockOf s block → IsSpanOf c place s → IsSpanOf c place block
+block_span b h = prefix_span b.some b.few h b.prefix
 
 -- where the next bytes are the same, more are
 pub same_on : (t : Table) (x : Option Node) (i : ℕ) (y : Option Node) (j done n : ℕ) → AreSame t x (i + done) y (j + done) n →
@@ -58,11 +61,23 @@ same_on t x i y j done n next same =
     take_on (drop i u) (drop j v) done n (ap (λ (ys : List ℕ). take n ys) (drop-drop done i u) ∙ next
     ∙ ap (λ (ys : List ℕ). take n ys) (sym (drop-drop done j v))) same
 
--- so they are where both texts share them
-pub alike_on : {S : Type 0} {s : Ghosts S} {a b : S} (x : Option Node) (i : ℕ) (y : Option Node) (j done n : ℕ) → WasRead s a b →
-    ReportsLengths s → IsReadable (s.lengths a) x → IsReadable (s.lengths a) y → AreAlike x (i + done) y (j + done) n →
-    OverTables s a b (λ t. AreSame t x i y j done) → OverTables s a b (λ t. AreSame t x i y j (done + n))
-alike_on {s = s} {a = a} x i y j done n v reported left right alike same = λ file_system agrees.
-    let t = s.table a file_system in
-    same_on t x i y j done n (alike t (fits_over x v reported left.fits file_system agrees)
-    (fits_over y v reported right.fits file_system agrees)) (same file_system agrees)
+-- two texts were compared from two places on, each by its way: the first `done` bytes, of `most`, are the same
+pub record IsComparing {S : Type 0} (s : Ghosts S) (a b : S) (x : Option Node) (i : ℕ) (way : Way) (y : Option Node) (j : ℕ)
+    (other_way : Way) (most done : ℕ) : Type 0 where
+  pub in_range : done ≤ most
+  pub same : Shows s a b (λ t. AreSame t x i y j done)
+  pub left_way : IsWay x way
+  pub right_way : IsWay y other_way
+
+-- so they are after bytes that both texts share
+pub alike_on : {S : Type 0} {s : Ghosts S} {a b : S} {x y : Option Node} {i j most done : ℕ} {way next_way other_way other_next : Way} →
+    ReportsLengths s → IsReadable (s.lengths a) x → IsReadable (s.lengths a) y → IsComparing s a b x i way y j other_way most done →
+    (n : ℕ) → IsCommonAhead x (i + done) y (j + done) (most - done) (Same n) → IsWay x next_way → IsWay y other_next →
+    IsComparing s a b x i next_way y j other_next most (done + n)
+alike_on {x = x} {y = y} {i = i} {j = j} {done = done} reported left right before n ahead way other = record {
+  in_range = omega (arith, ahead.1, before.in_range);
+  same = shown_with before.same reported (λ t held same. same_on t x i y j done n (ahead.2 t (fits_in x held left.fits)
+      (fits_in y held right.fits)) same);
+  left_way = way;
+  right_way = other;
+}

@@ -1,8 +1,8 @@
 -- Places of a text in another, by windows.
-use Rattle.cord_search.proofs.Common.{CordFits, Equal, Greater, HoldsText, IsCord, IsOrderOf, IsPieceOf, IsSpanOf, IsStanding, Less, List}
-use Rattle.cord_search.proofs.Common.{Node, None, NoneBefore, Nowhere, Option, Ordering, Some, Span, StandsAt, StandsNot, Table, ap}
+use Rattle.cord_search.proofs.Common.{Equal, Ghosts, Greater, HoldsText, IsOrderOf, IsPieceOf, IsReadable, IsSpanOf, IsStanding, Less, List}
+use Rattle.cord_search.proofs.Common.{Node, None, NoneBefore, Nowhere, Option, Ordering, Shows, Some, Span, StandsAt, StandsNot, Table, ap}
 use Rattle.cord_search.proofs.Common.{append_assoc, arith, bytes_of, drop, exact_bytes, false, first, get_or, get_or-drop, length}
-use Rattle.cord_search.proofs.Common.{length-bytes, length-drop, length-take-le, nat_cmp, nat_list_cmp_total, slice_cmp, span_bytes}
+use Rattle.cord_search.proofs.Common.{length-drop, length-take-le, nat_cmp, nat_list_cmp_total, slice_cmp, span_bytes}
 use Rattle.cord_search.proofs.Common.{span_len, subst, sym, take, take-add, take-append-drop, take_all, text_len, tied_itself, true, ℕ}
 use Rattle.cord_search.proofs.Common.{◌++◌, ◌+◌, ◌-◌, ◌<◌, ◌∙◌, ◌≡◌, ◌≤◌}
 use Rattle.std.proofs.Common.{length-append}
@@ -13,7 +13,9 @@ use Rattle.std.proofs.lemmas.List.{get_or_append_left, nil_from_length, take_at}
 use Rattle.memchr.specs.Find.{OccursAt, FindsNeedle}
 use Rattle.memchr.proofs.lemmas.MatchLemmas.{OccursAt-split}
 use Rattle.cord_search.specs.inner.Spans.{IsMisfit, DoesNotFit}
-use Rattle.cord_search.proofs.Finding.{nowhere_on, range_at, range_inside, first_is, first_only}
+use Rattle.cord_io.specs.Table.{Lengths}
+use Rattle.cord_search.proofs.Reading.{IsReported, fits_in, len_in, shown_so}
+use Rattle.cord_search.proofs.Finding.{IsNextPiece, nowhere_on, range_at, range_inside, first_is, first_only}
 use Rattle.cord_search.proofs.Comparing.{piece_prefix}
 
 -- bytes were copied after what was filled
@@ -65,47 +67,45 @@ occurred x window head place k some e h =
     record { within = omega (arith, there.fits); rest = drop (place + k + length head) x; here = OccursAt-split x head (place + k) there }
 
 window_on : (t : Table) (x : Option Node) (start place next m : ℕ) (window head : List ℕ) → Nowhere (OccursAt window head) 0 m →
-    next ≤ place + m → next + length head ≤ place + length window + 1 → IsPieceOf t x place window → StandsNot t x head start place →
-    StandsNot t x head start next
-window_on t x start place next m window head h p q e none = nowhere_on (StandsAt (bytes_of t x) head) start place next none
-    (λ k from to at. h (k - place) (omega arith) (omega arith) (occurs (bytes_of t x) window head place k e from (omega arith) at))
+    next ≤ place + m → next + length head ≤ place + length window + 1 → IsNextPiece t x head start place window → StandsNot t x head start next
+window_on t x start place next m window head h p q w = nowhere_on (StandsAt (bytes_of t x) head) start place next w.none
+    (λ k from to at. h (k - place) (omega arith) (omega arith) (occurs (bytes_of t x) window head place k w.piece from (omega arith) at))
 
--- bytes that don't occur in a window stand at none of its places at which they would lie inside
-pub window_none : (t : Table) (x : Option Node) (start place : ℕ) (window head : List ℕ) (r : Option ℕ) → r ≡ None →
-    FindsNeedle window head 0 r → length head ≤ length window → IsPieceOf t x place window → StandsNot t x head start place →
-    StandsNot t x head start (place + (length window - length head + 1))
-window_none t x start place window head r is h enough e none =
-    let nowhere : Nowhere (OccursAt window head) 0 (length window + 1) = rw is at h in
-    window_on t x start place (place + (length window - length head + 1)) (length window + 1) window head nowhere (omega arith)
-    (omega (arith, enough)) e none
+module _ {S : Type 0} {s : Ghosts S} {a b : S} {x : Option Node} {start place : ℕ} {window head : List ℕ} {r : Option ℕ} where
+  -- bytes that don't occur in a window stand at none of its places at which they would lie inside
+  pub window_none : Shows s a b (λ t. IsNextPiece t x head start place window) → r ≡ None → FindsNeedle window head 0 r →
+      length head ≤ length window → Shows s a b (λ t. StandsNot t x head start (place + (length window - length head + 1)))
+  window_none next is h enough =
+      let nowhere : Nowhere (OccursAt window head) 0 (length window + 1) = rw is at h in
+      shown_so next (λ t w. window_on t x start place (place + (length window - length head + 1)) (length window + 1) window head nowhere
+      (omega arith) (omega (arith, enough)) w)
 
--- or stand first where they occur first in it
-pub window_some : (t : Table) (x : Option Node) (start place k : ℕ) (window head : List ℕ) (r : Option ℕ) → r ≡ Some k → 0 < length head →
-    FindsNeedle window head 0 r → start ≤ place → IsPieceOf t x place window → StandsNot t x head start place →
-    Some (place + k) ≡ first (bytes_of t x) start head
-window_some t x start place k window head r is some h low e none =
-    let here : NoneBefore (OccursAt window head) 0 (length window + 1) k × OccursAt window head k = rw is at h in
-    let fits : k + length head ≤ length window = here.1.fits in
-    let before = window_on t x start place (place + k) k window head here.0.before (omega arith) (omega arith) e none in
-    first_only (bytes_of t x) head start (Some (place + k)) (
-      omega (arith, low),
-      occurred (bytes_of t x) window head place k some e here.1,
-      before,
-    )
+  -- or stand first where they occur first in it
+  pub window_some : {k : ℕ} → Shows s a b (λ t. IsNextPiece t x head start place window) → r ≡ Some k → FindsNeedle window head 0 r →
+      0 < length head → start ≤ place → Shows s a b (λ t. Some (place + k) ≡ first (bytes_of t x) start head)
+  window_some {k} next is h some low =
+      let here : NoneBefore (OccursAt window head) 0 (length window + 1) k × OccursAt window head k = rw is at h in
+      let fits : k + length head ≤ length window = here.1.fits in
+      shown_so next (λ t w. first_only (bytes_of t x) head start (Some (place + k)) (
+        omega (arith, low),
+        occurred (bytes_of t x) window head place k some w.piece here.1,
+        window_on t x start place (place + k) k window head here.0.before (omega arith) (omega arith) w,
+      ))
 
 -- they stand at none of the places that do not fit
-pub misfit_on : (t : Table) (x : Option Node) (start place n : ℕ) (span : Span) (head : List ℕ) → IsCord x → CordFits t x → IsSpanOf x place span → IsMisfit span head n → StandsNot t x head start place →
+pub misfit_on : {lengths : Lengths} {t : Table} {x : Option Node} {place : ℕ} {span : Span} (start n : ℕ) (head : List ℕ) →
+    IsReported lengths t → IsSpanOf x place span → IsReadable lengths x → IsMisfit span head n → StandsNot t x head start place →
     StandsNot t x head start (place + n)
-misfit_on t x start place n span head sound fits h misfit none = nowhere_on (StandsAt (bytes_of t x) head) start place (place + n) none
+misfit_on {t = t} {x = x} {place = place} {span = span} start n head held h readable misfit none =
+    nowhere_on (StandsAt (bytes_of t x) head) start place (place + n) none
     (λ q from to at. differ q at from (misfit t (q - place) (omega (arith, from, to))))
   where
     differ : (q : ℕ) → StandsAt (bytes_of t x) head q → place ≤ q → DoesNotFit t span head (q - place) → ⊥
     differ q at le d =
         let xs = bytes_of t x in
-        let text = h.text t fits in
-        let long : length (span_bytes t span) ≡ span_len span =
-        ap (λ (ys : List ℕ). length ys) text ∙ length-take-le (span_len span) (drop place xs)
-        (omega (arith, h.inside, length-bytes t x sound fits, length-drop place xs)) in
+        let text = h.text t (fits_in x held readable.fits) in
+        let long : length (span_bytes t span) ≡ span_len span = ap (λ (ys : List ℕ). length ys) text
+        ∙ length-take-le (span_len span) (drop place xs) (omega (arith, h.inside, len_in held readable, length-drop place xs)) in
         let range : span_bytes t span ≡ take (length (span_bytes t span)) (drop place xs) =
         text ∙ ap (λ (k : ℕ). take k (drop place xs)) (sym long) in
         let here : place + (q - place + d.at) ≡ q + d.at = omega (arith, le) in
@@ -156,32 +156,30 @@ nothing_stands t x s place low e p q = record {
 }
 
 -- the order tells whether a text stands in another
-order_stands : (t : Table) (x s : Option Node) (place n m : ℕ) → place + text_len s ≤ text_len x → n ≡ text_len s → m ≡ text_len s →
-    length (bytes_of t x) ≡ text_len x → length (bytes_of t s) ≡ text_len s → IsOrderOf t x place n s 0 m Equal →
-    IsStanding t x place s true
-order_stands t x s place n m inside d e p q h =
-    let y = drop place (bytes_of t x) in
-    let same : take n y ≡ bytes_of t s =
-    exact_bytes (take n y) (take m (bytes_of t s)) (sym h) ∙ take_all m (bytes_of t s) (omega (arith, e, q)) in
-    record {
-      within = omega (arith, p, inside);
-      rest = drop n y;
-      here = sym (take-append-drop n y) ∙ ap (λ (ys : List ℕ). ys ++ drop n y) same;
-    }
+module _ {lengths : Lengths} {t : Table} {x s : Option Node} {n m : ℕ} (place : ℕ) (held : IsReported lengths t)
+    (readable : IsReadable lengths x) (pattern : IsReadable lengths s) (d : n ≡ text_len s) (e : m ≡ text_len s) where
+  whole : take m (bytes_of t s) ≡ bytes_of t s
+  whole = take_all m (bytes_of t s) (omega (arith, e, len_in held pattern))
 
-order_stands_not : (t : Table) (x s : Option Node) (place n m : ℕ) (r : Ordering) → (r ≡ Equal → ⊥) → n ≡ text_len s → m ≡ text_len s →
-    length (bytes_of t s) ≡ text_len s → IsOrderOf t x place n s 0 m r → IsStanding t x place s false
-order_stands_not t x s place n m r not d e q h =
-    λ at.
-    let text = bytes_of t s in
-    let left : take n (drop place (bytes_of t x)) ≡ text = ap (λ (ys : List ℕ). take n ys) at.here ∙ take_at text at.rest n (q ∙ sym d) in
-    let right : take m text ≡ text = take_all m text (omega (arith, e, q)) in
-    not (h ∙ ap (λ (ys : List ℕ). slice_cmp nat_cmp ys (take m text)) left ∙ ap (λ (ys : List ℕ). slice_cmp nat_cmp text ys) right
-    ∙ tied_itself nat_list_cmp_total text)
+  order_stands : place + text_len s ≤ text_len x → IsOrderOf t x place n s 0 m Equal → IsStanding t x place s true
+  order_stands inside h =
+      let y = drop place (bytes_of t x) in
+      let same : take n y ≡ bytes_of t s = exact_bytes (take n y) (take m (bytes_of t s)) (sym h) ∙ whole in
+      record {
+        within = omega (arith, len_in held readable, inside);
+        rest = drop n y;
+        here = sym (take-append-drop n y) ∙ ap (λ (ys : List ℕ). ys ++ drop n y) same;
+      }
 
-pub order_tells : (t : Table) (x s : Option Node) (place n m : ℕ) (r : Ordering) → place + text_len s ≤ text_len x → n ≡ text_len s →
-    m ≡ text_len s → length (bytes_of t x) ≡ text_len x → length (bytes_of t s) ≡ text_len s → IsOrderOf t x place n s 0 m r →
-    IsStanding t x place s (is_eq r)
-order_tells t x s place n m Equal inside d e p q h = order_stands t x s place n m inside d e p q h
-order_tells t x s place n m Less inside d e p q h = order_stands_not t x s place n m Less (λ f. cc) d e q h
-order_tells t x s place n m Greater inside d e p q h = order_stands_not t x s place n m Greater (λ f. cc) d e q h
+  order_stands_not : (r : Ordering) → (r ≡ Equal → ⊥) → IsOrderOf t x place n s 0 m r → IsStanding t x place s false
+  order_stands_not r not h = λ at.
+      let text = bytes_of t s in
+      let left : take n (drop place (bytes_of t x)) ≡ text =
+      ap (λ (ys : List ℕ). take n ys) at.here ∙ take_at text at.rest n (len_in held pattern ∙ sym d) in
+      not (h ∙ ap (λ (ys : List ℕ). slice_cmp nat_cmp ys (take m text)) left ∙ ap (λ (ys : List ℕ). slice_cmp nat_cmp text ys) whole
+      ∙ tied_itself nat_list_cmp_total text)
+
+  pub order_tells : (r : Ordering) → place + text_len s ≤ text_len x → IsOrderOf t x place n s 0 m r → IsStanding t x place s (is_eq r)
+  order_tells Equal inside h = order_stands inside h
+  order_tells Less inside h = order_stands_not Less (λ f. cc) h
+  order_tells Greater inside h = order_stands_not Greater (λ f. cc) h

@@ -19,21 +19,20 @@ moved n place m at i j e w = record {
   text = w.text;
 }
 
-module _ (c : Option Node) (at : ℕ) where
+module _ {c : Option Node} {at : ℕ} {s : Spot} (h : IsSpotOf c at s) where
   -- a node that holds the place is kept
-  pub stop_kept : (k : ℕ) (stop : Stop) (s : Spot) → IsSpotOf c at s → stop.node.now ≡ s.node.now → stop.start ≡ at - s.place →
-      k + depth_of s.node.now ≤ MAX_DEPTH → IsStop c k stop
-  stop_kept k stop s h node start depth = record {
+  pub stop_kept : (k : ℕ) (stop : Stop) → stop.node.now ≡ s.node.now → stop.start ≡ at - s.place → k + depth_of s.node.now ≤ MAX_DEPTH →
+      IsStop c k stop
+  stop_kept k stop node start depth = record {
     root = h.root;
     is = h.is;
     within = rw (node, start) (moved h.root at s.node.now s.place (at - s.place) 0 (omega (arith, h.within.here)) h.within);
     depth = rw node depth;
   }
 
-module _ (c : Option Node) (at : ℕ) (s : Spot) where
   -- the side of a node that holds it
-  pub side_at : (side : Spot) → IsSpotOf c at s → IsWithin s.node.now s.place side.node.now side.place → IsSpot side → IsSpotOf c at side
-  side_at side h w spot = record {
+  pub side_at : {side : Spot} → IsWithin s.node.now s.place side.node.now side.place → IsSpot side → IsSpotOf c at side
+  side_at {side} w spot = record {
     root = h.root;
     is = h.is;
     within = within_on h.root at s.node.now s.place side.node.now side.place h.within w;
@@ -41,22 +40,22 @@ module _ (c : Option Node) (at : ℕ) (s : Spot) where
   }
 
   -- what a part has is what the cord has
-  pub span_of : (x : Span) → IsSpotOf c at s → IsSpanAt s.node.now s.place x → IsSpanOf c at x
-  span_of x h e = rw h.is (span_on h.root at s.node.now s.place x h.within e)
+  pub span_of : {x : Span} → IsSpanAt s.node.now s.place x → IsSpanOf c at x
+  span_of {x} e = rw h.is (span_on h.root at s.node.now s.place x h.within e)
 
   -- up to a place
-  pub span_to : (x : Span) → IsSpotOf c at s → span_len x ≡ s.place + 1 → IsSpanAt s.node.now 0 x → IsSpanUpTo c (at + 1) x
-  span_to x h len e = record {
+  pub span_to : {x : Span} → span_len x ≡ s.place + 1 → IsSpanAt s.node.now 0 x → IsSpanUpTo c (at + 1) x
+  span_to {x} len e = record {
     inside = omega (arith, len, h.within.here);
     span = rw h.is (span_back h.root (at + 1) s.node.now (s.place + 1) 0 x (omega (arith, len))
         (within_end h.root at s.node.now s.place h.within) e);
   }
 
 -- one place of two nodes that have one text
-pub stops_alike : (c : Option Node) (i : ℕ) (s : Spot) (d : Option Node) (j : ℕ) (o : Spot) (k : ℕ) → IsSpotOf c i s → IsSpotOf d j o →
-    AreOneSpot s o → s.place + k ≤ len_of s.node.now → AreAlike c i d j k
-stops_alike c i s d j o k h g one inside = rw (h.is, g.is) (spots_alike h.root i s.node.now s.place g.root j o.node.now o.place k
-    h.within g.within one.0 one.1 one.2 inside)
+pub stops_alike : {c d : Option Node} {i j : ℕ} {s o : Spot} (k : ℕ) → IsSpotOf c i s → IsSpotOf d j o → AreOneSpot s o →
+    s.place + k ≤ len_of s.node.now → AreAlike c i d j k
+stops_alike {i = i} {j = j} {s = s} {o = o} k h g one inside = rw (h.is, g.is) (spots_alike h.root i s.node.now s.place g.root j o.node.now
+    o.place k h.within g.within one.0 one.1 one.2 inside)
 
 -- what holds of each item by its place holds of one item more
 pub all_push : {A : Type 0} (P : ℕ → A → Type 0) (xs : List A) (x : A) → ((k : ℕ) → IfSome (slice_get xs k) (P k)) → P (length xs) x →

@@ -5,7 +5,7 @@ ghost use Rattle.cord_io.specs.Frames.{LeavesSource};
 ghost use Rattle.cord_core.specs.Cord.{text_len, bytes_of, CordFitsIn};
 ghost use Rattle.cord_core.specs.Texts.{first, last};
 ghost use Rattle.cord_search.specs.inner.Pieces.{StandsNot, HasNot};
-ghost use Rattle.cord_search.specs.inner.Searches.{OverTables, FindsByte, FindsLast};
+ghost use Rattle.cord_search.specs.inner.Searches.{Shows, FindsByte, FindsLast};
 
 use crate::PIECE_LEN;
 use crate::pieces::{copy_prefix, first_piece, last_piece};
@@ -105,7 +105,7 @@ fn first_after<S: Source>(
     requires low { from ≤ after }
     requires start { from < text_len x.now }
     requires inside { after ≤ text_len x.now }
-    requires none { OverTables ⟦<S as Source>⟧ src.old src.old (λ t. StandsNot t x.now (byte ∷ []) from after) }
+    requires none { Shows ⟦<S as Source>⟧ src.old src.old (λ t. StandsNot t x.now (byte ∷ []) from after) }
     requires fits { CordFitsIn (S.lengths src.old) x.now }
     ensures { FindsByte ⟦<S as Source>⟧ src.old src.new x.now from byte result }
 {
@@ -161,7 +161,7 @@ fn last_before<S: Source>(
 ) -> Result<Option<u64>, ReadFault>
     requires inside { at < text_len x.now }
     requires high { before ≤ at + 1 }
-    requires none { OverTables ⟦<S as Source>⟧ src.old src.old (λ t. HasNot t x.now byte before (at + 1)) }
+    requires none { Shows ⟦<S as Source>⟧ src.old src.old (λ t. HasNot t x.now byte before (at + 1)) }
     requires fits { CordFitsIn (S.lengths src.old) x.now }
     ensures { FindsLast ⟦<S as Source>⟧ src.old src.new x.now at byte result }
 {

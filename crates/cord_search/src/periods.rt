@@ -3,7 +3,7 @@ ghost use Rattle.std.specs.Prelude.{◌≡◌, ◌≢◌, ◌+◌, ◌<◌, ◌�
 ghost use Rattle.cord_core.specs.Cord.{text_len, bytes_of};
 ghost use Rattle.cord_search.specs.inner.Pieces.{IsReadable, StandsNot};
 ghost use Rattle.cord_search.specs.inner.Periods.{IsCommon, HasPeriods};
-ghost use Rattle.cord_search.specs.inner.Searches.{OverTables, IsAnswer};
+ghost use Rattle.cord_search.specs.inner.Searches.{Shows, IsAnswer};
 
 use crate::PIECE_LEN;
 use crate::pieces::first_piece;
@@ -54,7 +54,7 @@ pub(crate) fn passed<S: Source>(
     requires pattern { IsReadable (S.lengths src.old) s.now }
     requires inside { place + text_len s.now ≤ text_len x.now }
     requires period { IfSome repeats (λ r. r.period ≤ text_len s.now) }
-    requires repeats { OverTables ⟦<S as Source>⟧ src.old src.old (λ t. IfSome repeats (HasPeriods t s.now)) }
+    requires repeats { Shows ⟦<S as Source>⟧ src.old src.old (λ t. IfSome repeats (HasPeriods t s.now)) }
     ensures { IsAnswer ⟦<S as Source>⟧ src.old src.new result (λ n. (0 < n) × (n ≤ text_len x.now + 1)) (λ t n.
         StandsNot t x.now (bytes_of t s.now) (place + 1) (place + n)) }
 {

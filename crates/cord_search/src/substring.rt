@@ -4,9 +4,9 @@ ghost use Rattle.cord_io.specs.Device.{FileSystem, count_after};
 ghost use Rattle.cord_io.specs.Frames.{LeavesSource};
 ghost use Rattle.cord_core.specs.Cord.{text_len, bytes_of, CordFitsIn};
 ghost use Rattle.cord_core.specs.Texts.{first};
-ghost use Rattle.cord_search.specs.inner.Pieces.{IsReadable, IsPieceOf, IsStanding, StandsNot};
-ghost use Rattle.cord_search.specs.inner.Periods.{HasPeriods};
-ghost use Rattle.cord_search.specs.inner.Searches.{OverTables, IsRead, FindsBytesIn, FindsText};
+ghost use Rattle.cord_search.specs.inner.Pieces.{IsReadable, IsStanding, StandsNot};
+ghost use Rattle.cord_search.specs.inner.Periods.{IsKnown};
+ghost use Rattle.cord_search.specs.inner.Searches.{Shows, IsRead, FindsBytesIn, FindsText};
 
 use crate::PIECE_LEN;
 use crate::order::compare;
@@ -295,9 +295,8 @@ fn first_confirmed<S: Source>(
     requires end { end ≤ text_len x.now }
     requires some { 0 < length prefix.now }
     requires room { length prefix.now ≤ length room.old }
-    requires prefix { OverTables ⟦<S as Source>⟧ src.old src.old (λ t. IsPieceOf t s.now 0 prefix.now) }
     requires period { IfSome repeats (λ r. r.period ≤ text_len s.now) }
-    requires repeats { OverTables ⟦<S as Source>⟧ src.old src.old (λ t. IfSome repeats (HasPeriods t s.now)) }
+    requires known { Shows ⟦<S as Source>⟧ src.old src.old (λ t. IsKnown t s.now prefix.now repeats) }
     ensures { FindsText ⟦<S as Source>⟧ src.old src.new x.now start end s.now result }
 {
     let last = end - s.len();
@@ -374,7 +373,7 @@ fn first_at_or_after<S: Source>(
     requires low { start ≤ after }
     requires inside { start < text_len x.now }
     requires end { end ≤ text_len x.now }
-    requires none { OverTables ⟦<S as Source>⟧ src.old src.old (λ t. StandsNot t x.now finder.now start after) }
+    requires none { Shows ⟦<S as Source>⟧ src.old src.old (λ t. StandsNot t x.now finder.now start after) }
     requires fits { CordFitsIn (S.lengths src.old) x.now }
     ensures { FindsBytesIn ⟦<S as Source>⟧ src.old src.new x.now start end finder.now result }
 {

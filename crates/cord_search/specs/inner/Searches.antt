@@ -27,6 +27,11 @@ pub record WasRead {S : Type 0} (s : Ghosts S) (old new : S) : Type 0 where
 abbrev pub OverTables : {S : Type 0} → Ghosts S → S → S → (Table → Type 0) → Type 0
 OverTables s old new P = (file_system : FileSystem) → s.consistent new file_system → P (s.table old file_system)
 
+-- no read failed, and P holds over those tables
+pub record Shows {S : Type 0} (s : Ghosts S) (old new : S) (P : Table → Type 0) : Type 0 where
+  pub read : WasRead s old new
+  pub text : OverTables s old new P
+
 -- a source was read for an answer: Q holds of it whatever was read, and P over those tables
 pub record IsAnswer {S A E : Type 0} (s : Ghosts S) (old new : S) (result : Result A E) (Q : A → Type 0) (P : Table → A → Type 0) : Type 0 where
   pub always : IfOk result Q

@@ -1,6 +1,4 @@
-use Rattle.std.proofs.Common.{◌∙◌, ◌-◌, drop, ap, subst, sym, arith}
-use Rattle.cord_lines.specs.declared.counting.Counts.{Counts}
-use Rattle.cord_lines.specs.Counts.{plus, AreFew}
+use Rattle.cord_lines.proofs.Common.{AreFew, Counts, ap, arith, drop, plus, subst, sym, ◌-◌, ◌∙◌}
 use Rattle.cord_lines.proofs.Cuts.{few_marked, mark_more}
 use Rattle.cord_lines.proofs.Readings.{ahead_after, exact_counts}
 use Rattle.cord_lines.proofs.around.around_after.Goals as goal

@@ -1,7 +1,4 @@
-use Rattle.std.proofs.Common.{◌∙◌, ◌+◌, ap, refl, take, drop, arith}
-use Rattle.cord_lines.specs.declared.counting.Counts.{Counts}
-use Rattle.cord_lines.specs.Counts.{counts_of}
-use Rattle.cord_lines.specs.inner.Blocks.{without}
+use Rattle.cord_lines.proofs.Common.{Counts, ap, arith, counts_of, drop, refl, take, without, ◌+◌, ◌∙◌}
 use Rattle.cord_lines.proofs.Cuts.{counts_back}
 use Rattle.cord_lines.proofs.Readings.{ahead_after, exact_counts}
 use Rattle.cord_lines.proofs.around.around_up_to.Goals as goal

@@ -1,7 +1,4 @@
-use Rattle.std.proofs.Common.{◌∙◌, ◌+◌, ap, sym, subst}
-use Rattle.cord_lines.specs.declared.counting.Counts.{Counts}
-use Rattle.cord_lines.specs.Counts.{plus, AreFew}
-use Rattle.cord_lines.specs.inner.Cuts.{IsModest}
+use Rattle.cord_lines.proofs.Common.{AreFew, Counts, IsModest, ap, plus, subst, sym, ◌+◌, ◌∙◌}
 use Rattle.cord_lines.proofs.Cuts.{few_of, mark_at, modest_before}
 use Rattle.cord_lines.proofs.Readings.{around_where}
 use Rattle.cord_lines.proofs.around.around_within.Goals as goal

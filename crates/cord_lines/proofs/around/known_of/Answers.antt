@@ -1,7 +1,6 @@
-use Rattle.std.proofs.Common.{Bor, ◌≡◌, ℕ, List, Option, take, drop, subst}
+use Rattle.cord_lines.proofs.Common.{AreBlocksOf, IsMark, List, counts_of, drop, subst, take, ℕ, ◌≡◌}
+use Rattle.std.proofs.Common.{Bor, Option}
 use Rattle.std.specs.Prelude.{IfSome}
-use Rattle.cord_lines.specs.Counts.{counts_of}
-use Rattle.cord_lines.specs.inner.Cuts.{AreBlocksOf, IsMark}
 use Rattle.cord_lines.proofs.Cuts.{own_mark}
 use Rattle.cord_lines.proofs.around.known_of.Goals as goal
 

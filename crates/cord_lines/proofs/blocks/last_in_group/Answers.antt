@@ -1,7 +1,4 @@
-use Rattle.std.proofs.Common.{◌∙◌, ◌-◌, ◌≤◌, ap, length, take, drop, arith, length-take, length-drop}
-use Rattle.std.proofs.lemmas.List.{take-take}
-use Rattle.cord_lines.specs.Counts.{plus}
-use Rattle.cord_lines.specs.inner.Blocks.{total_by}
+use Rattle.cord_lines.proofs.Common.{ap, arith, drop, length, length-drop, length-take, plus, take, take-take, total_by, ◌-◌, ◌∙◌, ◌≤◌}
 use Rattle.cord_lines.proofs.Sums.{few_some, then_some}
 use Rattle.cord_lines.proofs.blocks.last_in_group.Goals as goal
 

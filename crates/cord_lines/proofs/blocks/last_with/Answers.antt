@@ -1,6 +1,4 @@
-use Rattle.std.proofs.Common.{◌∙◌, ap, arith, subst, sym}
-use Rattle.cord_lines.specs.declared.counting.Counts.{Counts}
-use Rattle.cord_lines.specs.Counts.{plus, AreFew}
+use Rattle.cord_lines.proofs.Common.{AreFew, Counts, ap, arith, plus, subst, sym, ◌∙◌}
 use Rattle.cord_lines.proofs.Sums.{none_yet, then_next, few_after}
 use Rattle.cord_lines.proofs.blocks.last_with.Goals as goal
 

@@ -1,6 +1,4 @@
-use Rattle.std.proofs.Common.{◌≡◌, ◌≤◌, take}
-use Rattle.cord_lines.specs.Counts.{plus}
-use Rattle.cord_lines.specs.inner.Blocks.{amount, total_by}
+use Rattle.cord_lines.proofs.Common.{amount, plus, take, total_by, ◌≡◌, ◌≤◌}
 use Rattle.cord_lines.proofs.blocks.last_with.Given as goal
 
 abbrev pub invariant-loop-index : goal.invariant-loop-index

@@ -1,8 +1,4 @@
-use Rattle.std.proofs.Common.{◌+◌, ◌∙◌, ap, sym, take, arith}
-use Rattle.std.proofs.lemmas.List.{take_all}
-use Rattle.cord_lines.specs.declared.counting.Counts.{Counts}
-use Rattle.cord_lines.specs.Counts.{plus}
-use Rattle.cord_lines.specs.inner.Blocks.{total_by}
+use Rattle.cord_lines.proofs.Common.{Counts, ap, arith, plus, sym, take, take_all, total_by, ◌+◌, ◌∙◌}
 use Rattle.cord_lines.proofs.Countings.{alike}
 use Rattle.cord_lines.proofs.Sums.{first_within, one_block_more}
 use Rattle.cord_lines.proofs.blocks.sum_of.Goals as goal

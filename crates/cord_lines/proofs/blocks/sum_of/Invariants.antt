@@ -1,5 +1,4 @@
-use Rattle.std.proofs.Common.{◌≡◌, take}
-use Rattle.cord_lines.specs.inner.Blocks.{total_by}
+use Rattle.cord_lines.proofs.Common.{take, total_by, ◌≡◌}
 use Rattle.cord_lines.proofs.blocks.sum_of.Given as goal
 
 abbrev pub invariant-loop-part : goal.invariant-loop-part

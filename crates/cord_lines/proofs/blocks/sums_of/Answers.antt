@@ -1,7 +1,5 @@
-use Rattle.std.proofs.Common.{◌≡◌, ◌∙◌, ◌<◌, length, ap, arith}
-use Rattle.std.proofs.lemmas.Bool.Decides.{nat_tests}
+use Rattle.cord_lines.proofs.Common.{ap, arith, length, nat_tests, total_by, ◌<◌, ◌∙◌, ◌≡◌}
 use Rattle.std.proofs.lemmas.List.{nil_from_length}
-use Rattle.cord_lines.specs.inner.Blocks.{total_by}
 use Rattle.cord_lines.proofs.Sums.{back_within, few_within, first_within, min_prefix, min_back}
 use Rattle.cord_lines.proofs.Grouping.{none_so_far, one_group_more, groups_done}
 use Rattle.cord_lines.proofs.blocks.sums_of.Goals as goal

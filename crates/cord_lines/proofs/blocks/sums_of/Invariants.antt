@@ -1,6 +1,4 @@
-use Rattle.std.proofs.Common.{length}
-use Rattle.cord_lines.specs.Counts.{AreFew}
-use Rattle.cord_lines.specs.inner.Blocks.{total_by}
+use Rattle.cord_lines.proofs.Common.{AreFew, length, total_by}
 use Rattle.cord_lines.proofs.Grouping.{GroupsSoFar}
 use Rattle.cord_lines.proofs.blocks.sums_of.Given as goal
 

@@ -1,5 +1,4 @@
-use Rattle.std.proofs.Common.{◌≡◌, ◌+◌, ◌≤◌, length}
-use Rattle.cord_lines.specs.Counts.{chars_in, ends_in}
+use Rattle.cord_lines.proofs.Common.{chars_in, ends_in, length, ◌+◌, ◌≡◌, ◌≤◌}
 use Rattle.cord_lines.proofs.counting.count_bytes.Given as goal
 
 abbrev pub invariant-loop-rest : goal.invariant-loop-rest

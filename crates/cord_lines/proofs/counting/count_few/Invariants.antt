@@ -1,5 +1,4 @@
-use Rattle.std.proofs.Common.{◌≡◌, ◌≤◌, take}
-use Rattle.cord_lines.specs.Counts.{chars_in, ends_in}
+use Rattle.cord_lines.proofs.Common.{chars_in, ends_in, take, ◌≡◌, ◌≤◌}
 use Rattle.cord_lines.proofs.counting.count_few.Given as goal
 
 abbrev pub invariant-loop-byte : goal.invariant-loop-byte

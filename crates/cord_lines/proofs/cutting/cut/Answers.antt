@@ -1,6 +1,4 @@
-use Rattle.std.proofs.Common.{◌≡◌, ◌∙◌, ℕ, ◌+◌, ◌-◌, take, drop, ap, sym, arith, subst}
-use Rattle.cord_lines.specs.Counts.{counts_of, AreNarrow}
-use Rattle.cord_lines.specs.inner.Cuts.{AreBlocksOf}
+use Rattle.cord_lines.proofs.Common.{AreBlocksOf, AreNarrow, ap, arith, counts_of, drop, subst, sym, take, ℕ, ◌+◌, ◌-◌, ◌∙◌, ◌≡◌}
 use Rattle.cord_lines.proofs.Cuts.{one_piece_more, range_more, short, narrow}
 use Rattle.cord_lines.proofs.cutting.cut.Goals as goal
 

@@ -1,5 +1,4 @@
-use Rattle.std.proofs.Common.{◌≤◌, ◌-◌, take, drop}
-use Rattle.cord_lines.specs.inner.Cuts.{AreBlocksOf}
+use Rattle.cord_lines.proofs.Common.{AreBlocksOf, drop, take, ◌-◌, ◌≤◌}
 use Rattle.cord_lines.proofs.cutting.cut.Given as goal
 
 abbrev pub invariant-loop-place : goal.invariant-loop-place

@@ -1,4 +1,4 @@
-use Rattle.std.proofs.Common.{◌∙◌, arith}
+use Rattle.cord_lines.proofs.Common.{arith, ◌∙◌}
 use Rattle.cord_lines.proofs.Linings.{keeps_end}
 use Rattle.cord_lines.proofs.index.lacks_end_after.Goals as goal
 

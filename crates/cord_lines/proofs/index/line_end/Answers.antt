@@ -1,6 +1,4 @@
-use Rattle.std.proofs.Common.{◌∙◌, true, false, ◌-◌, refl, sym, arith}
-use Rattle.std.specs.Prelude.{slice_get}
-use Rattle.cord_lines.specs.Lines.{is_inside_line}
+use Rattle.cord_lines.proofs.Common.{arith, false, is_inside_line, refl, slice_get, sym, true, ◌-◌, ◌∙◌}
 use Rattle.cord_lines.proofs.Linings.{later, line_from}
 use Rattle.cord_lines.proofs.index.line_end.Goals as goal
 

@@ -1,4 +1,4 @@
-use Rattle.std.proofs.Common.{◌∙◌, ap, sym}
+use Rattle.cord_lines.proofs.Common.{ap, sym, ◌∙◌}
 use Rattle.cord_lines.proofs.Linings.{begin_of, last_begins}
 use Rattle.cord_lines.proofs.reading.after_last_end.Goals as goal
 

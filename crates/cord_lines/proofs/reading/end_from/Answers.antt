@@ -1,4 +1,4 @@
-use Rattle.std.proofs.Common.{◌≡◌, [], length, drop, ap, arith, length-drop}
+use Rattle.cord_lines.proofs.Common.{[], ap, arith, drop, length, length-drop, ◌≡◌}
 use Rattle.cord_lines.proofs.reading.end_from.Goals as goal
 
 pub unreachable-requires : goal.unreachable-requires

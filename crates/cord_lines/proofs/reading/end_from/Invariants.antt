@@ -1,5 +1,4 @@
-use Rattle.std.proofs.Common.{◌≡◌, ◌+◌, ◌-◌, ◌≤◌, length, drop}
-use Rattle.cord_lines.specs.Lines.{after_ends}
+use Rattle.cord_lines.proofs.Common.{after_ends, drop, length, ◌+◌, ◌-◌, ◌≡◌, ◌≤◌}
 use Rattle.cord_lines.proofs.reading.end_from.Given as goal
 
 -- the place, and the way from there

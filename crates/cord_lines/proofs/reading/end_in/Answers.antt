@@ -1,9 +1,5 @@
-use Rattle.std.proofs.Common.{◌≡◌, ◌-◌, ◌≤◌, ap, sym, ◌∙◌, arith, replicate}
-use Rattle.cord.specs.declared.chunks.Chunk.{Chunk}
-use Rattle.cord.specs.Chunks.{chunk_bytes}
-use Rattle.cord_lines.specs.declared.counting.Counts.{Counts}
-use Rattle.cord_lines.specs.Counts.{ends_in}
-use Rattle.cord_lines.specs.Lines.{after_ends}
+use Rattle.cord_lines.proofs.Common.{Chunk, Counts, after_ends, ap, arith, chunk_bytes, ends_in, sym, ◌-◌, ◌∙◌, ◌≡◌, ◌≤◌}
+use Rattle.std.proofs.Common.{replicate}
 use Rattle.cord_lines.proofs.Ends.{run_end}
 use Rattle.cord_lines.proofs.Readings.{found_in, missing_in}
 use Rattle.cord_lines.proofs.reading.end_in.Goals as goal

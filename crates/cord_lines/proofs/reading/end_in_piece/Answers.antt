@@ -1,4 +1,4 @@
-use Rattle.std.proofs.Common.{drop, arith}
+use Rattle.cord_lines.proofs.Common.{arith, drop}
 use Rattle.cord_lines.proofs.Ends.{none_passed}
 use Rattle.cord_lines.proofs.reading.end_in_piece.Goals as goal
 

@@ -1,5 +1,4 @@
-use Rattle.std.proofs.Common.{◌≡◌, ◌+◌, drop}
-use Rattle.cord_lines.specs.Lines.{after_ends}
+use Rattle.cord_lines.proofs.Common.{after_ends, drop, ◌+◌, ◌≡◌}
 use Rattle.cord_lines.proofs.reading.end_in_piece.Given as goal
 
 abbrev pub invariant-loop-place : goal.invariant-loop-place

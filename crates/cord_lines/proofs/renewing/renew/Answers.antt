@@ -1,10 +1,7 @@
-use Rattle.std.proofs.Common.{List, ◌+◌, ◌-◌, drop, sym, subst, arith, Option, length-drop}
-use Rattle.std.proofs.Math.ListN.{set}
-use Rattle.std.proofs.lemmas.List.Sums.{sum_by-take-le}
-use Rattle.cord_lines.specs.declared.counting.Counts.{Counts}
-use Rattle.cord_lines.specs.declared.blocks.Block.{Block}
-use Rattle.cord_lines.specs.inner.Cuts.{AreBlocksOf, AreOfSomeText}
-use Rattle.cord_lines.specs.inner.Edits.{replaced, AreRemoved, FollowEdit}
+use Rattle.cord_lines.proofs.Common.{AreBlocksOf, AreOfSomeText, Block, Counts, FollowEdit, List, arith, drop, length-drop, replaced, set}
+use Rattle.cord_lines.proofs.Common.{subst, sum_by-take-le, sym, ◌+◌, ◌-◌}
+use Rattle.std.proofs.Common.{Option}
+use Rattle.cord_lines.specs.inner.Edits.{AreRemoved}
 use Rattle.cord_lines.proofs.Cuts.{few_by, modest_by}
 use Rattle.cord_lines.proofs.Edits.{few_with, replaced_follow, replaced_some, set_follows, set_some}
 use Rattle.cord_lines.proofs.renewing.renew.Goals as goal
@@ -20,21 +17,18 @@ block_with-requires-clause-few c =
 
 pub set-requires-clause-few : goal.set-requires-clause-few
 set-requires-clause-few c = few_by (set c.args.blocks.now c.span_of-span.result.first c.in-Some-block_with.block)
-    (set_some c.args.blocks.now c.args.edit c.get.result c.in-Some.removed c.count_range-inserted.result c.in-Some-block_with.block c.span_of-span.result
-    c.args.after.now c.span_of-span.ensures (omega arith) c.in-Some-block_with.ensures c.requires.blocks c.requires.edit
+    (set_some c.args.after.now c.span_of-span.ensures (omega arith) c.in-Some-block_with.ensures c.requires.blocks c.requires.edit
     (omega (arith, c.len-len_after.ensures.value, c.len-len_after.ensures.limit)))
 
 pub returns-in-Some-block_with-clause-blocks : goal.returns-in-Some-block_with-clause-blocks
 returns-in-Some-block_with-clause-blocks c = subst AreOfSomeText (sym c.set.ensures)
-    (set_some c.args.blocks.now c.args.edit c.get.result c.in-Some.removed c.count_range-inserted.result c.in-Some-block_with.block c.span_of-span.result
-    c.args.after.now c.span_of-span.ensures (omega arith) c.in-Some-block_with.ensures c.requires.blocks c.requires.edit
+    (set_some c.args.after.now c.span_of-span.ensures (omega arith) c.in-Some-block_with.ensures c.requires.blocks c.requires.edit
     (omega (arith, c.len-len_after.ensures.value, c.len-len_after.ensures.limit)))
 
 pub returns-in-Some-block_with-clause-cut : goal.returns-in-Some-block_with-clause-cut
 returns-in-Some-block_with-clause-cut c = λ before here known edited. subst (λ (ys : List Block). AreBlocksOf ys c.args.after.now) (sym c.set.ensures)
-    (set_follows c.args.blocks.now c.args.edit c.get.result c.in-Some.removed c.count_range-inserted.result c.in-Some-block_with.block c.span_of-span.result
-    c.args.after.now c.span_of-span.ensures (omega arith) c.in-Some-block_with.ensures c.get.ensures c.count_range-inserted.ensures before here
-    (subst (λ (r : Option Counts). AreRemoved r c.args.edit before) c.in-Some.is known) edited)
+    (set_follows c.args.after.now c.span_of-span.ensures (omega arith) c.in-Some-block_with.ensures c.get.ensures c.count_range-inserted.ensures
+    before here (subst (λ (r : Option Counts). AreRemoved r c.args.edit before) c.in-Some.is known) edited)
 
 pub cut-requires-clause-range : goal.cut-requires-clause-range
 cut-requires-clause-range c =
@@ -48,19 +42,16 @@ replace-requires c = record {
   inside = c.span_of-span.ensures.span.inside;
   old = modest_by c.args.blocks.now c.requires.blocks;
   new = modest_by (replaced c.args.blocks.now c.span_of-span.result.first c.span_of-span.result.count c.deref.result.now)
-      (replaced_some c.args.blocks.now c.deref.result.now c.span_of-span.result c.args.edit c.args.after.now c.span_of-span.ensures
-      (rw c.deref.ensures.value c.in_ok-fresh.ensures.cut) c.requires.blocks c.requires.edit
-      (omega (arith, c.len-len_after.ensures.value, c.len-len_after.ensures.limit)));
+      (replaced_some c.deref.result.now c.args.after.now c.span_of-span.ensures (rw c.deref.ensures.value c.in_ok-fresh.ensures.cut)
+      c.requires.blocks c.requires.edit (omega (arith, c.len-len_after.ensures.value, c.len-len_after.ensures.limit)));
 }
 
 pub returns-clause-blocks : goal.returns-clause-blocks
 returns-clause-blocks c = subst AreOfSomeText (sym c.in_ok-replace.ensures.blocks)
-    (replaced_some c.args.blocks.now c.deref.result.now c.span_of-span.result c.args.edit c.args.after.now c.span_of-span.ensures
-    (rw c.deref.ensures.value c.in_ok-fresh.ensures.cut) c.requires.blocks c.requires.edit
-    (omega (arith, c.len-len_after.ensures.value, c.len-len_after.ensures.limit)))
+    (replaced_some c.deref.result.now c.args.after.now c.span_of-span.ensures (rw c.deref.ensures.value c.in_ok-fresh.ensures.cut)
+    c.requires.blocks c.requires.edit (omega (arith, c.len-len_after.ensures.value, c.len-len_after.ensures.limit)))
 
 pub returns-clause-cut : goal.returns-clause-cut
 returns-clause-cut c =
     subst (λ (ys : List Block). FollowEdit c.args.blocks.now ys c.args.after.now c.args.edit c.args.removed) (sym c.in_ok-replace.ensures.blocks)
-    (replaced_follow c.args.blocks.now c.deref.result.now c.span_of-span.result c.args.edit c.args.after.now c.span_of-span.ensures
-    (rw c.deref.ensures.value c.in_ok-fresh.ensures.cut) c.args.removed)
+    (replaced_follow c.deref.result.now c.args.after.now c.span_of-span.ensures (rw c.deref.ensures.value c.in_ok-fresh.ensures.cut) c.args.removed)

@@ -1,4 +1,4 @@
-use Rattle.std.proofs.Common.{◌+◌, arith}
+use Rattle.cord_lines.proofs.Common.{arith, ◌+◌}
 use Rattle.cord_lines.proofs.Sums.{room}
 use Rattle.cord_lines.proofs.renewing.span_over.Goals as goal
 

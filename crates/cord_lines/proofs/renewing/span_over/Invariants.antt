@@ -1,4 +1,4 @@
-use Rattle.std.proofs.Common.{◌≡◌, ◌+◌, ◌-◌, length}
+use Rattle.cord_lines.proofs.Common.{length, ◌+◌, ◌-◌, ◌≡◌}
 use Rattle.cord_lines.specs.inner.Edits.{IsSpan}
 use Rattle.cord_lines.proofs.renewing.span_over.Given as goal
 

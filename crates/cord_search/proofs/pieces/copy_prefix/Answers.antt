@@ -1,20 +1,15 @@
-use Rattle.cord_search.proofs.Common.{Span, ap, arith, length_at, rules, span_bytes, span_len, ◌+◌, ◌≡◌, ◌≤◌}
+use Rattle.cord_search.proofs.Common.{ap, arith, length_at, rules, span_len, ◌+◌, ◌≡◌, ◌≤◌}
 use Rattle.std.proofs.lemmas.Result.{IfOk-weaker}
-use Rattle.cord_search.proofs.Reading.{nothing, not_read, answered}
+use Rattle.cord_search.proofs.Reading.{answered, not_read, nothing, shown}
 use Rattle.cord_search.proofs.Ranges.{leaf_part, run_part, func_part}
 use Rattle.cord_search.proofs.pieces.copy_prefix.Goals as goal
 
 pub returns-in-Bytes : goal.returns-in-Bytes
-returns-in-Bytes g c = answered not_read tt (λ file_system agrees. leaf_part (g.S.Source.table c.args.src.now file_system) c.args.span
-    c.copy_from_slice.new.self c.in-Bytes.bytes.now _ (λ t. ap (λ (s : Span). span_bytes t s) c.in-Bytes.is)
-    c.copy_from_slice.ensures.after)
+returns-in-Bytes g c = answered tt (shown not_read (λ t. leaf_part t c.copy_from_slice.new.self _ c.in-Bytes.is c.copy_from_slice.ensures.after))
 
 pub returns-in-Run : goal.returns-in-Run
-returns-in-Run g c =
-    let whole : span_len c.args.span ≡ c.in-Run.len = ap span_len c.in-Run.is in
-    answered not_read tt (λ file_system agrees. run_part (g.S.Source.table c.args.src.now file_system) c.args.span _ c.in-Run.byte
-    c.in-Run.len 0 _ (λ t. ap (λ (s : Span). span_bytes t s) c.in-Run.is) (omega (arith, whole, c.requires.inside))
-    (c.fill.ensures.after (λ y e. e)))
+returns-in-Run g c = answered tt (shown not_read (λ t. run_part t c.fill.new.self 0 _ c.in-Run.is (omega (arith, c.requires.inside))
+    (c.fill.ensures.after (λ y e. e))))
 
 pub read-requires : goal.read-requires
 read-requires g c =
@@ -25,12 +20,9 @@ read-requires g c =
     search (rules, whole, inside)
 
 pub returns-in-Func : goal.returns-in-Func
-returns-in-Func g c =
-    let whole : span_len c.args.span ≡ c.in-Func.len = ap span_len c.in-Func.is in
-    record {
-      always = nothing c.read.result;
-      text = λ file_system agrees. IfOk-weaker c.read.result _ _ (λ _ e. func_part (g.S.Source.table c.args.src.now file_system) c.args.span
-          c.read.new.out c.in-Func.id.0 c.in-Func.start c.in-Func.len c.in-Func.start 0 (λ t. ap (λ (s : Span). span_bytes t s) c.in-Func.is)
-          (omega arith) (omega (arith, whole, c.requires.inside, c.read.auto.out)) e) (c.read.ensures.bytes file_system agrees);
-      read = search rules;
-    }
+returns-in-Func g c = record {
+  always = nothing c.read.result;
+  text = λ file_system agrees. IfOk-weaker c.read.result _ _ (λ _ e. func_part (g.S.Source.table c.args.src.now file_system) c.read.new.out
+      c.in-Func.start 0 c.in-Func.is (omega arith) (omega (arith, c.requires.inside, c.read.auto.out)) e) (c.read.ensures.bytes file_system agrees);
+  read = search rules;
+}

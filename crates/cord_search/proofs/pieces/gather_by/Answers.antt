@@ -1,7 +1,7 @@
 use Rattle.cord_search.proofs.Common.{IsSpanOf, arith, drop, length, length-drop, length-take-le, ◌+◌, ◌-◌, ◌∙◌, ◌≡◌}
-use Rattle.cord_search.proofs.Reading.{read_on, answer_on}
+use Rattle.cord_search.proofs.Reading.{shown_on, span_fits}
 use Rattle.cord_search.proofs.Comparing.{cord_limit}
-use Rattle.cord_search.proofs.Ranges.{read_prefix}
+use Rattle.cord_search.proofs.Ranges.{prefix_piece}
 use Rattle.cord_search.proofs.Standing.{filled_on, filled_inside}
 use Rattle.cord_search.proofs.pieces.gather_by.Given.{Over}
 use Rattle.cord_search.proofs.pieces.gather_by.Goals.{After-span_from-span}
@@ -14,17 +14,15 @@ span_is g c = rw c.loop-done.invariant.position.cord at c.span_from-span.ensures
 
 pub overflow_add-place : goal.overflow_add-place
 overflow_add-place g c =
-    let limit = cord_limit c.args.position.now.cord c.requires.text.sound in
-    omega (arith, c.requires.inside, c.loop-done-test.true, c.loop-done.auto.out, limit)
+    omega (arith, c.requires.inside, c.loop-done-test.true, c.loop-done.auto.out, cord_limit c.args.position.now.cord c.requires.text.sound)
 
 pub span_from-span-requires-clause-inside : goal.span_from-span-requires-clause-inside
 span_from-span-requires-clause-inside g c = rw c.loop-done.invariant.position.cord
     (omega (arith, c.requires.inside, c.loop-done-test.true, c.loop-done.auto.out))
 
 pub copy_prefix-requires-clause-fits : goal.copy_prefix-requires-clause-fits
-copy_prefix-requires-clause-fits g c =
-    let span = span_is g (goal.at.copy_prefix-requires-clause-fits g c).After-span_from-span in
-    rw c.loop-done.invariant.read.lengths (span.fits (g.S.Source.lengths c.args.src.now) c.requires.text.fits)
+copy_prefix-requires-clause-fits g c = span_fits c.loop-done.invariant.filled.read
+    (span_is g (goal.at.copy_prefix-requires-clause-fits g c).After-span_from-span) c.requires.text.fits
 
 pub loop-done-preserved : goal.loop-done-preserved
 loop-done-preserved g c =
@@ -32,18 +30,14 @@ loop-done-preserved g c =
     let n = c.min-count.result in
     let part = c.copy_prefix.new.out in
     let before = c.loop-done.invariant in
+    let span = span_is g (goal.at.loop-done-preserved g c).After-span_from-span in
     let cut = length-take-le (done + n - done) (drop done c.loop-done.out)
     (omega (arith, c.min-count.ensures, length-drop done c.loop-done.out)) in
     let long : length part ≡ n = omega (arith, c.copy_prefix.auto.out ∙ cut) in
-    let read = read_on before.read c.in_ok-copy_prefix.ensures.read in
-    let text = read_prefix c.args.position.now.cord (c.args.place + done) c.span_from-span.result part read g.met.S.Source.lengths_of_table
-    c.requires.text.fits (span_is g (goal.at.loop-done-preserved g c).After-span_from-span)
-    (omega (arith, long, c.min-count.ensures, c.len.ensures)) (answer_on before.read c.in_ok-copy_prefix.ensures).text in
     record {
       in_range = filled_inside done _ n c.loop-done.out part long before.in_range;
-      filled = λ file_system agrees. filled_on (g.S.Source.table c.args.src.now file_system) c.args.position.now.cord c.args.place done _ n
-          c.loop-done.out part (before.filled file_system (c.in_ok-copy_prefix.ensures.read.earlier file_system agrees))
-          (text file_system agrees) long before.in_range;
+      filled = shown_on before.filled c.in_ok-copy_prefix.ensures g.met.S.Source.lengths_of_table (λ t held filled text. filled_on t
+          c.args.position.now.cord c.args.place done _ n c.loop-done.out part filled (prefix_piece held span c.requires.text.fits part
+          (omega (arith, long, c.min-count.ensures, c.len.ensures)) text) long before.in_range);
       position = rw before.position.cord at c.span_from-span.ensures.moved;
-      read = read;
     }

@@ -6,7 +6,7 @@ pub returns-then-begin_alike : goal.returns-then-begin_alike
 returns-then-begin_alike c = λ x i y j left right. (
   omega (arith, c.min-count.ensures, c.min.ensures, c.len.ensures, c.len-2.ensures, c.requires, left.some, right.some),
   omega (arith, c.min-count.ensures, c.min.ensures),
-  spans_alike x i y j c.args.span c.args.other c.min-count.result left right (c.begin_alike.ensures c.if-begin_alike.true)
+  spans_alike c.min-count.result left right (c.begin_alike.ensures c.if-begin_alike.true)
       (omega (arith, c.min-count.ensures, c.min.ensures, c.len.ensures)) (omega (arith, c.min-count.ensures, c.len-2.ensures)),
 )
 
@@ -14,8 +14,8 @@ pub returns : goal.returns
 returns c = λ x i y j left right.
     let k = c.min-count.result in
     let some : 0 < k = omega (arith, c.min-count.ensures, c.min.ensures, c.len.ensures, c.len-2.ensures, c.requires, left.some, right.some) in (
-      prefix_span x i c.args.span c.up_to.result k some (omega (arith, c.min-count.ensures, c.min.ensures, c.len.ensures)) left c.up_to.ensures,
-      prefix_span y j c.args.other c.up_to-2.result k some (omega (arith, c.min-count.ensures, c.len-2.ensures)) right c.up_to-2.ensures,
+      prefix_span some (omega (arith, c.min-count.ensures, c.min.ensures, c.len.ensures)) left c.up_to.ensures,
+      prefix_span some (omega (arith, c.min-count.ensures, c.len-2.ensures)) right c.up_to-2.ensures,
       omega (arith, c.up_to.ensures.len, c.up_to-2.ensures.len),
       omega (arith, c.up_to.ensures.len, c.min-count.ensures, c.min.ensures),
     )

@@ -7,7 +7,7 @@ loop-way-preserved-then-len c =
     let step = c.in-Some.ensures in
     record {
       left = record {
-        spot = side_at c.args.x.now c.args.i c.loop-way.spot c.in-Some.side before.spot step.side.within step.side.spot;
+        spot = side_at before.spot step.side.within step.side.spot;
         way = step.way c.args.x.now before.spot before.way;
         room = step.room;
       };
@@ -21,7 +21,7 @@ loop-way-preserved c =
     record {
       left = c.loop-way.invariant.left;
       right = record {
-        spot = side_at c.args.y.now c.args.j c.loop-way.other c.in-Some-step.side before.spot step.side.within step.side.spot;
+        spot = side_at before.spot step.side.within step.side.spot;
         way = step.way c.args.y.now before.spot before.way;
         room = step.room;
       };

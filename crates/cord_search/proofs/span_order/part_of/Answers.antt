@@ -1,6 +1,5 @@
-use Rattle.cord_search.proofs.Common.{Span, ap, arith, length, length-take-le, length_at, rules, span_bytes, span_len, take, ◌+◌, ◌∙◌, ◌≡◌}
-use Rattle.cord_search.proofs.Common.{◌≤◌}
-use Rattle.cord_search.proofs.Reading.{not_read, answered}
+use Rattle.cord_search.proofs.Common.{ap, arith, length, length-take-le, length_at, rules, span_len, take, ◌+◌, ◌∙◌, ◌≡◌, ◌≤◌}
+use Rattle.cord_search.proofs.Reading.{answered, not_read, shown}
 use Rattle.cord_search.proofs.Ranges.{run_part, func_part, of_source}
 use Rattle.cord_search.proofs.span_order.part_of.Goals as goal
 
@@ -18,23 +17,17 @@ read-requires g c =
 
 pub returns-in-Run : goal.returns-in-Run
 returns-in-Run g c =
-    let s = c.args.span in
-    let whole : span_len s ≡ c.in-Run.len = ap span_len c.in-Run.is in
     let cut = length-take-le c.args.count c.args.buffer.now c.requires.room in
-    answered not_read (omega (arith, cut, c.fill.ensures.len)) (λ file_system agrees. run_part (g.S.Source.table c.args.src.now file_system)
-    s c.fill.new.self c.in-Run.byte c.in-Run.len c.args.from (length (take c.args.count c.args.buffer.now))
-    (λ t. ap (λ (s : Span). span_bytes t s) c.in-Run.is) (omega (arith, whole, cut, c.requires.inside)) (c.fill.ensures.after (λ y e. e)))
+    answered (omega (arith, cut, c.fill.ensures.len)) (shown not_read (λ t. run_part t c.fill.new.self c.args.from
+    (length (take c.args.count c.args.buffer.now)) c.in-Run.is (omega (arith, cut, c.requires.inside)) (c.fill.ensures.after (λ y e. e))))
 
 pub returns-in_ok-read-in-Func : goal.returns-in_ok-read-in-Func
 returns-in_ok-read-in-Func g c =
-    let s = c.args.span in
     let out = c.read.new.out in
-    let whole : span_len s ≡ c.in-Func.len = ap span_len c.in-Func.is in
     let long : length out ≡ c.args.count = c.read.auto.out ∙ length-take-le c.args.count c.args.buffer.now c.requires.room in
     record {
       always = long;
-      text = λ file_system agrees. func_part (g.S.Source.table c.args.src.now file_system) s out c.in-Func.id.0 c.in-Func.start c.in-Func.len
-          (c.in-Func.start + c.args.from) c.args.from (λ t. ap (λ (s : Span). span_bytes t s) c.in-Func.is) (omega arith)
-          (omega (arith, whole, long, c.requires.inside)) (c.in_ok-read-in-Func.ensures.bytes file_system agrees);
+      text = λ file_system agrees. func_part (g.S.Source.table c.args.src.now file_system) out (c.in-Func.start + c.args.from) c.args.from
+          c.in-Func.is (omega arith) (omega (arith, long, c.requires.inside)) (c.in_ok-read-in-Func.ensures.bytes file_system agrees);
       read = search rules;
     }

@@ -2,5 +2,4 @@ use Rattle.cord_search.proofs.Ways.{span_of}
 use Rattle.cord_search.proofs.spans.cord_span_at.Goals as goal
 
 pub returns : goal.returns
-returns c = span_of c.args.cord.now c.args.place c.of_part-part.result c.span.result c.of_part-part.ensures.spot
-    c.span.ensures.span
+returns c = span_of c.of_part-part.ensures.spot c.span.ensures.span

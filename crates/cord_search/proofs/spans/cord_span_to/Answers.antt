@@ -3,5 +3,4 @@ use Rattle.cord_search.proofs.Ways.{span_to}
 use Rattle.cord_search.proofs.spans.cord_span_to.Goals as goal
 
 pub returns : goal.returns
-returns c = span_to c.args.cord.now c.args.at c.of_part-part.result c.span.result c.of_part-part.ensures.spot
-    (omega (arith, c.span.ensures.len)) c.span.ensures.span
+returns c = span_to c.of_part-part.ensures.spot (omega (arith, c.span.ensures.len)) c.span.ensures.span

@@ -1,6 +1,6 @@
 use Rattle.cord_search.proofs.Common.{List, ap, arith, bytes_of, first, length, length-take-le, replicate, take, text_len, ℕ, ◌∙◌, ◌≡◌}
 use Rattle.std.proofs.lemmas.List.{length-replicate}
-use Rattle.cord_search.proofs.Reading.{read_once, answer_on, len_over}
+use Rattle.cord_search.proofs.Reading.{answer_on, len_in, read_once, shown_on, shown_once}
 use Rattle.cord_search.proofs.Standing.{whole_text}
 use Rattle.cord_search.proofs.substring.place_of_short.Goals as goal
 
@@ -18,13 +18,9 @@ returns g c =
     let found = answer_on gathered c.in_ok-place.ensures in
     record {
       always = rw (c.new-finder.ensures, long) at found.always;
-      text = λ file_system agrees.
-          let t = g.S.Source.table c.args.src.now file_system in
-          let before = c.in_ok-place.ensures.read.earlier file_system agrees in
-          let len = len_over c.args.s.now gathered g.met.S.Source.lengths_of_table c.requires.pattern.sound c.requires.pattern.fits
-          file_system before in
-          rw c.new-finder.ensures at found.text file_system agrees
-          ∙ ap (λ (xs : List ℕ). first (take c.args.end (bytes_of t c.args.x.now)) c.args.start xs)
-          (whole_text t c.args.s.now pattern (c.in_ok-gather.ensures.text file_system before) long len);
+      text = (shown_on (shown_once {R = λ t. pattern ≡ bytes_of t c.args.s.now} c.in_ok-gather.ensures g.met.S.Source.lengths_of_table
+          (λ t held piece. whole_text t c.args.s.now pattern piece long (len_in held c.requires.pattern))) c.in_ok-place.ensures
+          g.met.S.Source.lengths_of_table (λ t held is place. rw c.new-finder.ensures at place
+          ∙ ap (λ (xs : List ℕ). first (take c.args.end (bytes_of t c.args.x.now)) c.args.start xs) is)).text;
       read = found.read;
     }

@@ -1,8 +1,6 @@
-use Rattle.std.proofs.Common.{◌≡◌, ◌∙◌, ap, sym, subst, List, take, arith}
-use Rattle.cord_lines.specs.declared.counting.Counts.{Counts}
-use Rattle.cord_lines.specs.declared.blocks.Block.{Block}
-use Rattle.cord_lines.specs.Counts.{no_counts, plus, AreFew}
-use Rattle.cord_lines.specs.inner.Blocks.{block_counts, own, total, total_by, AreSummed, IsFound}
+use Rattle.cord_lines.proofs.Common.{AreFew, AreSummed, Block, Counts, List, ap, arith, block_counts, no_counts, own, plus, subst, sym}
+use Rattle.cord_lines.proofs.Common.{take, total, total_by, ◌∙◌, ◌≡◌}
+use Rattle.cord_lines.specs.inner.Blocks.{IsFound}
 use Rattle.cord_lines.proofs.Countings.{same_counts}
 use Rattle.cord_lines.proofs.Sums.{group_of, sums_all}
 use Rattle.cord_lines.proofs.blocks.Blocks.find.Goals as goal

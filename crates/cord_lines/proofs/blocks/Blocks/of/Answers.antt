@@ -1,6 +1,4 @@
-use Rattle.std.proofs.Common.{◌∙◌, ap, subst, sym}
-use Rattle.cord_lines.specs.Counts.{AreFew}
-use Rattle.cord_lines.specs.inner.Blocks.{block_counts, own, total_by}
+use Rattle.cord_lines.proofs.Common.{AreFew, ap, block_counts, own, subst, sym, total_by, ◌∙◌}
 use Rattle.cord_lines.proofs.Sums.{sums_all}
 use Rattle.cord_lines.proofs.blocks.Blocks.of.Goals as goal
 

@@ -1,9 +1,5 @@
-use Rattle.std.proofs.Common.{◌≡◌, ◌∙◌, ◌/◌, ◌<◌, ℕ, ap, get_or, refl, sym, List, length, arith, subst}
-use Rattle.std.proofs.Math.ListN.{set}
-use Rattle.cord_lines.specs.declared.counting.Counts.{Counts}
-use Rattle.cord_lines.specs.declared.blocks.Block.{Block}
-use Rattle.cord_lines.specs.Counts.{AreFew}
-use Rattle.cord_lines.specs.inner.Blocks.{block_counts, exchanged, own, total, AreSummed, AreSumsOf, CanExchange}
+use Rattle.cord_lines.proofs.Common.{AreFew, AreSummed, AreSumsOf, Block, CanExchange, Counts, List, ap, arith, block_counts, exchanged}
+use Rattle.cord_lines.proofs.Common.{get_or, length, own, refl, set, subst, sym, total, ℕ, ◌/◌, ◌<◌, ◌∙◌, ◌≡◌}
 use Rattle.cord_lines.proofs.Sums.{all_can, all_is, enough, sum_can, sum_changed, sums_all}
 use Rattle.cord_lines.proofs.blocks.Blocks.set.Goals as goal
 

@@ -1,7 +1,4 @@
-use Rattle.std.proofs.Common.{◌+◌, ◌∙◌, List, sym, subst, arith}
-use Rattle.cord_lines.specs.declared.blocks.Block.{Block}
-use Rattle.cord_lines.specs.Counts.{AreFew}
-use Rattle.cord_lines.specs.inner.Blocks.{total}
+use Rattle.cord_lines.proofs.Common.{AreFew, Block, List, arith, subst, sym, total, ◌+◌, ◌∙◌}
 use Rattle.cord_lines.proofs.Sums.{one_replaced, replaced_few}
 use Rattle.cord_lines.proofs.blocks.Blocks.set_each.Goals as goal
 

@@ -1,5 +1,4 @@
-use Rattle.std.proofs.Common.{◌≡◌, take}
-use Rattle.cord_lines.specs.inner.Edits.{replaced}
+use Rattle.cord_lines.proofs.Common.{replaced, take, ◌≡◌}
 use Rattle.cord_lines.proofs.blocks.Blocks.set_each.Given as goal
 
 abbrev pub invariant-loop-offset : goal.invariant-loop-offset

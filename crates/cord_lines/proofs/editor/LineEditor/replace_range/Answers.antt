@@ -1,4 +1,4 @@
-use Rattle.std.proofs.Common.{sym, arith}
+use Rattle.cord_lines.proofs.Common.{arith, sym}
 use Rattle.cord_lines.proofs.Edits.{capped}
 use Rattle.cord_lines.proofs.editor.LineEditor.replace_range.Goals as goal
 

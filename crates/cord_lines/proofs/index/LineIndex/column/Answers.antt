@@ -1,6 +1,4 @@
-use Rattle.std.proofs.Common.{◌≡◌, ◌∙◌, ℕ, ap, arith, take}
-use Rattle.cord_lines.specs.Counts.{ends_in}
-use Rattle.cord_lines.specs.Lines.{after_ends}
+use Rattle.cord_lines.proofs.Common.{after_ends, ap, arith, ends_in, take, ℕ, ◌∙◌, ◌≡◌}
 use Rattle.cord_lines.proofs.Linings.{begins_before}
 use Rattle.cord_lines.proofs.index.LineIndex.column.Goals as goal
 

@@ -1,5 +1,4 @@
-use Rattle.std.proofs.Common.{◌∙◌, ap, arith}
-use Rattle.cord_lines.specs.Counts.{counts_of}
+use Rattle.cord_lines.proofs.Common.{ap, arith, counts_of, ◌∙◌}
 use Rattle.cord_lines.proofs.Cuts.{cut_from, few_by, marked_from, modest_by}
 use Rattle.cord_lines.proofs.Sums.{min_prefix}
 use Rattle.cord_lines.proofs.index.LineIndex.counts_before.Goals as goal

@@ -1,4 +1,4 @@
-use Rattle.std.proofs.lemmas.Result.{on_ok_weaker}
+use Rattle.cord_lines.proofs.Common.{on_ok_weaker}
 use Rattle.cord_lines.proofs.index.LineIndex.edited.Goals as goal
 
 pub returns-clause-index : goal.returns-clause-index

@@ -1,6 +1,4 @@
-use Rattle.std.proofs.Common.{List, [], refl, sym, subst, arith}
-use Rattle.cord_lines.specs.declared.blocks.Block.{Block}
-use Rattle.cord_lines.specs.inner.Cuts.{AreBlocksOf}
+use Rattle.cord_lines.proofs.Common.{AreBlocksOf, Block, List, [], arith, refl, subst, sym}
 use Rattle.cord_lines.proofs.index.LineIndex.empty.Goals as goal
 
 pub invariant_of-result : goal.invariant_of-result

@@ -1,5 +1,4 @@
-use Rattle.std.proofs.Common.{◌∙◌, ap, sym}
-use Rattle.cord_lines.specs.Index.{Indexed}
+use Rattle.cord_lines.proofs.Common.{Indexed, ap, sym, ◌∙◌}
 use Rattle.cord_lines.proofs.Countings.{alike}
 use Rattle.cord_lines.proofs.Cuts.{cut_from, few_by, index_from, kept_mark, marked_from, modest_by, total_is}
 use Rattle.cord_lines.proofs.index.LineIndex.follow.Goals as goal

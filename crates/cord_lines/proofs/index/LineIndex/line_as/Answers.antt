@@ -1,7 +1,5 @@
-use Rattle.std.proofs.Common.{◌≡◌, ◌∙◌, ℕ, List, Some, ◌-◌, ◌<◌, length, take, drop, ap, sym, arith}
-use Rattle.std.specs.Prelude.{slice_get}
-use Rattle.cord.specs.Lines.{lines, lines_as}
-use Rattle.cord_lines.specs.Lines.{after_ends}
+use Rattle.cord_lines.proofs.Common.{List, Some, after_ends, ap, arith, drop, length, lines, lines_as, slice_get, sym, take, ℕ, ◌-◌, ◌<◌}
+use Rattle.cord_lines.proofs.Common.{◌∙◌, ◌≡◌}
 use Rattle.cord_lines.proofs.Linings.{nth, as_drop, as_none, get_after}
 use Rattle.cord_lines.proofs.index.LineIndex.line_as.Goals as goal
 

@@ -1,5 +1,4 @@
-use Rattle.std.proofs.Common.{◌∙◌, ℕ, ap, sym, arith}
-use Rattle.cord_lines.specs.Lines.{after_ends}
+use Rattle.cord_lines.proofs.Common.{after_ends, ap, arith, sym, ℕ, ◌∙◌}
 use Rattle.cord_lines.proofs.Ends.{none_passed}
 use Rattle.cord_lines.proofs.Cuts.{cut_from, modest_by, past_counts}
 use Rattle.cord_lines.proofs.index.LineIndex.line_start.Goals as goal

@@ -1,7 +1,5 @@
-use Rattle.std.proofs.Common.{◌≡◌, ◌∙◌, ◌+◌, ◌≤◌, ℕ, Bool, true, false, cond, refl, ap, sym, arith}
+use Rattle.cord_lines.proofs.Common.{Bool, Indexed, ap, arith, cond, ends_in, false, refl, sym, true, ℕ, ◌+◌, ◌∙◌, ◌≡◌, ◌≤◌}
 use mir.Val.{bool_byte}
-use Rattle.cord_lines.specs.Counts.{ends_in}
-use Rattle.cord_lines.specs.Index.{Indexed}
 use Rattle.cord_lines.proofs.Countings.{alike}
 use Rattle.cord_lines.proofs.Linings.{line_count}
 use Rattle.cord_lines.proofs.Cuts.{modest_by, cut_from, total_is}

@@ -1,6 +1,4 @@
-use Rattle.std.proofs.Common.{◌≡◌, ◌∙◌, ◌+◌, ◌++◌, ap, take, drop, arith}
-use Rattle.std.proofs.Math.Seq.{take-add}
-use Rattle.cord_lines.specs.Counts.{counts_of}
+use Rattle.cord_lines.proofs.Common.{ap, arith, counts_of, drop, take, take-add, ◌++◌, ◌+◌, ◌∙◌, ◌≡◌}
 use Rattle.cord_lines.proofs.Countings.{alike, counts-append}
 use Rattle.cord_lines.proofs.Sums.{min_prefix}
 use Rattle.cord_lines.proofs.index.LineIndex.utf8_len.Goals as goal

@@ -2,5 +2,4 @@ use Rattle.cord_search.proofs.Ways.{side_at}
 use Rattle.cord_search.proofs.shared_parts.Spot.of_part.Goals as goal
 
 pub loop-side-preserved : goal.loop-side-preserved
-loop-side-preserved c = side_at c.args.cord.now c.args.at c.loop-side.spot c.in-Some.side c.loop-side.invariant
-    c.in-Some.ensures.side.within c.in-Some.ensures.side.spot
+loop-side-preserved c = side_at c.loop-side.invariant c.in-Some.ensures.side.within c.in-Some.ensures.side.spot

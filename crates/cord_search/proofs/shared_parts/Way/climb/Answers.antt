@@ -12,4 +12,4 @@ returns-clause-way c =
     let depth : length items + depth_of spot.node.now ≤ MAX_DEPTH =
     omega (arith, none, depth_limit spot.node.now c.of-spot.ensures.spot.spot.0) in
     rw c.push.ensures.items (all_push (λ k o. IfSome o (IsStop c.args.cord.now k)) items (Some root) c.loop-last.invariant
-    (stop_kept c.args.cord.now c.args.at (length items) root spot c.of-spot.ensures.spot refl (omega (arith, c.of-spot.ensures.place)) depth))
+    (stop_kept c.of-spot.ensures.spot (length items) root refl (omega (arith, c.of-spot.ensures.place)) depth))
