@@ -1,23 +1,18 @@
 -- Cords are put one after another, short leaves first.
-use Rattle.std.specs.Prelude.{◌≡◌, ◌<◌, ◌≤◌, ◌+◌, ◌-◌, ◌∷◌, ◌++◌}
-use Rattle.cord_run.proofs.Common.{ℕ, zero, suc, List, [], drop, length, get_or, map, refl, arith, ◌∙◌, sym, ap, subst, append_assoc}
-use Rattle.cord_run.proofs.Common.{append-nil, length-append, drop-drop, drop_all, map-append, take_all, take_more, Option, None, Some}
-use Rattle.cord_run.proofs.Common.{take, Node, Cell, known, Part, leaf_part, PartsFrom, IsFrom-small, PartsFrom-both, PartsFrom-self}
-use Rattle.cord_run.proofs.Common.{PartsFrom-trans, PartsFrom_same, text, text_len, parts_of, IsCord, all_text, all_len, all_parts}
-use Rattle.cord_run.proofs.Common.{IsLeafOf, IsCatting, catting_step, ArePreceding, IsJoinOfFirst}
+use Rattle.cord_run.proofs.Common.{ℕ, zero, suc, List, [], drop, length, get_or, map, refl, arith, ◌∙◌, sym, ap, subst, append-nil}
+use Rattle.cord_run.proofs.Common.{length-append, drop-drop, drop_all, map-append, take_all, take_more, Option, None, Some, take, Node}
+use Rattle.cord_run.proofs.Common.{Cell, known, Part, leaf_part, PartsFrom, IsFrom-small, PartsFrom-both, PartsFrom-self, PartsFrom-trans}
+use Rattle.cord_run.proofs.Common.{PartsFrom_same, text, text_len, parts_of, IsCord, all_text, all_len, all_parts, IsLeafOf, IsCatting}
+use Rattle.cord_run.proofs.Common.{catting_step, ArePreceding, IsJoinOfFirst, ◌≡◌, ◌<◌, ◌≤◌, ◌+◌, ◌-◌, ◌∷◌, ◌++◌, SMALL_LEN}
 use Rattle.std.proofs.lemmas.List.{length-drop}
 use Rattle.std.specs.Rc.{rc_slice_items}
 use Rattle.cord_node.specs.declared.Node.TheVariants.{Leaf, Run, Func, Cat'}
-use Rattle.cord_node.specs.declared.TheConstants.{SMALL_LEN}
 use Rattle.cord_core.proofs.Parts.{leaf_text, leaf_len}
-use Rattle.cord_run.proofs.Ranges.{all_len_more}
+use Rattle.cord_run.proofs.Ranges.{all_len_more, all_more, all_split}
 
 -- the first so many, and those after them
 texts_split : (n : ℕ) (cs : List (Option Node)) → all_text (take n cs) ++ all_text (drop n cs) ≡ all_text cs
-texts_split zero cs = refl
-texts_split (suc n) [] = refl
-texts_split (suc n) (c ∷ cs) = append_assoc (text c) (all_text (take n cs)) (all_text (drop n cs))
-    ∙ ap (λ (xs : List Cell). text c ++ xs) (texts_split n cs)
+texts_split = all_split all_text text refl (λ c cs. refl)
 
 lengths_split : (n : ℕ) (cs : List (Option Node)) → all_len (take n cs) + all_len (drop n cs) ≡ all_len cs
 lengths_split zero cs = omega arith
@@ -25,19 +20,13 @@ lengths_split (suc n) [] = refl
 lengths_split (suc n) (c ∷ cs) = let rest = lengths_split n cs in omega (arith, rest)
 
 parts_split : (n : ℕ) (cs : List (Option Node)) → all_parts (take n cs) ++ all_parts (drop n cs) ≡ all_parts cs
-parts_split zero cs = refl
-parts_split (suc n) [] = refl
-parts_split (suc n) (c ∷ cs) = append_assoc (parts_of c) (all_parts (take n cs)) (all_parts (drop n cs))
-    ∙ ap (λ (ps : List Part). parts_of c ++ ps) (parts_split n cs)
+parts_split = all_split all_parts parts_of refl (λ c cs. refl)
 
 texts_more : (cs : List (Option Node)) (c : Option Node) → all_text (cs ++ c ∷ []) ≡ all_text cs ++ text c
-texts_more [] c = append-nil (text c)
-texts_more (x ∷ cs) c = ap (λ (xs : List Cell). text x ++ xs) (texts_more cs c) ∙ sym (append_assoc (text x) (all_text cs) (text c))
+texts_more = all_more all_text text refl (λ c cs. refl)
 
 parts_more : (cs : List (Option Node)) (c : Option Node) → all_parts (cs ++ c ∷ []) ≡ all_parts cs ++ parts_of c
-parts_more [] c = append-nil (parts_of c)
-parts_more (x ∷ cs) c = ap (λ (ps : List Part). parts_of x ++ ps) (parts_more cs c)
-    ∙ sym (append_assoc (parts_of x) (all_parts cs) (parts_of c))
+parts_more = all_more all_parts parts_of refl (λ c cs. refl)
 
 -- one leaf of few bytes has its part from any parts that there are
 pub leaf_from : (b : List ℕ) (c : Option Node) → IsLeafOf b c → length b ≤ SMALL_LEN → (ps : List Part) → 0 < length ps →

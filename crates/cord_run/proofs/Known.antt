@@ -1,13 +1,13 @@
 -- Lengths that are known without being computed.
-use Rattle.std.specs.Prelude.{◌≡◌, ◌+◌, ◌-◌, ◌^◌, ◌&&◌, ◌∷◌, ◌++◌, if◌then◌else◌}
 use Rattle.cord_run.proofs.Common.{Bool, ByLength, Entry, Expr, Exprs, FaultKind, HasContent, IsExtent, IsKnownAt, IsKnownOf, Joined, List}
 use Rattle.cord_run.proofs.Common.{Long, MAX_LEN, Made, Measure, Named, Number, Numeral, Ok, Operation, Reading, Result, Shared, Some}
 use Rattle.cord_run.proofs.Common.{StaysKnown, [], and_then, ap, append, arith, as_length, bytes_eq, bytes_eq-Decides, cat, content_in}
 use Rattle.cord_run.proofs.Common.{content_length, extent_in, false, file_made, lacks, length, length_in, map, measured_copies}
 use Rattle.cord_run.proofs.Common.{measured_part, member, members_extent, members_of, min, name, names, names_of, not, nothing}
 use Rattle.cord_run.proofs.Common.{number_names, operand_in, passes, refl, run, shared_view, slice_get, sub, subst, suc, sym, true, ℕ, ◌∙◌}
-use Rattle.cord_plan.specs.Extending.{Extends, IsLonger, joined_at, joined_by}
+use Rattle.cord_run.proofs.Common.{◌≡◌, ◌+◌, ◌-◌, ◌^◌, ◌&&◌, ◌∷◌, ◌++◌, if◌then◌else◌}
 use Rattle.cord_run.specs.declared.targets.files.Reading.TheVariants.{Eager, Lazy}
+use Rattle.cord_plan.specs.Extending.{Extends, IsLonger, joined_at, joined_by}
 use Rattle.cord_run.proofs.MemberRanges.{added, extent_both}
 use Rattle.cord_run.proofs.Lengths.{Both, both, length_passed}
 use Rattle.cord_run.proofs.ShortTexts.{counted_length}

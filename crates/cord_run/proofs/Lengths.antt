@@ -1,12 +1,12 @@
 -- The lengths known of expressions are those of their texts, over every table that the names fit.
-use Rattle.std.specs.Prelude.{◌≡◌, ◌≤◌, ◌-◌, ◌&&◌, ◌∷◌, ◌++◌, if◌then◌else◌}
 use Rattle.cord_run.proofs.Common.{ℕ, ℤ, Bool, true, false, List, [], length, replicate, Ok, Err, refl, sym, ap, subst, ◌∙◌, inl, inr}
 use Rattle.cord_run.proofs.Common.{arith, nat_le, min, Some, None, leb-true, length-replicate, Table, Lengths, MAX_LEN, lengths_of}
 use Rattle.cord_run.proofs.Common.{len_limit, bytes_of, CordFitsIn, IsCord, length-bytes, Number, Numeral, Named, TooLong, State}
 use Rattle.cord_run.proofs.Common.{number_value, and_then, as_index, as_byte, as_length, Expr, name, run, cat, sub, measured}
 use Rattle.cord_run.proofs.Common.{measured_members, length_of, text_in, Held, Text, Holding, plain, is_text, held_text, held_length}
 use Rattle.cord_run.proofs.Common.{all_texts, cords, extent, Content, Whole, Long, Entry, extent_in, content_in, length_in, operand_in}
-use Rattle.cord_run.proofs.Common.{content_length, cord_in, ContentFits, IsOver, held_over, holding_of, plain_of, passes}
+use Rattle.cord_run.proofs.Common.{content_length, cord_in, ContentFits, IsOver, held_over, holding_of, plain_of, passes, ◌≡◌, ◌≤◌, ◌-◌}
+use Rattle.cord_run.proofs.Common.{◌&&◌, ◌∷◌, ◌++◌, if◌then◌else◌}
 use Rattle.cord_plan.specs.Meaning as meaning
 use Rattle.cord_plan.proofs.Evaluation.{In, value_same, extent_is}
 

@@ -11,15 +11,12 @@ pub mod Output
 pub mod Failures
 pub mod Operations
 pub mod Steps
-pub mod Blank
 pub mod Branches
-pub mod Loop
 pub mod Readers
 pub mod Meaning
 pub mod Literals
 pub mod Refusals
 pub mod Definitions
-pub mod TargetNames
 pub mod Edits
 pub mod Numbers
 pub mod Extensibles

@@ -1,5 +1,4 @@
 -- Literals, starts of functions, cords of names and of extensible cords, and prints.
-use Rattle.std.specs.Prelude.{◌≡◌, ◌≤◌, ◌+◌, ◌++◌, ◌≢◌, ◌<◌, ◌∷◌}
 use Rattle.cord_run.proofs.Common.{AreHeldIn, Argument, Bytes, Cell, CordFitsIn, Digits, Entry, Err, ExtensibleFits, FaultKind, Function}
 use Rattle.cord_run.proofs.Common.{IsCord, IsCordOf, IsCordOfText, IsExtended, IsFaultOver, IsGrownBy, IsOver, IsSameText, IsSourceRange}
 use Rattle.cord_run.proofs.Common.{IsStartOf, IsTextOver, Lengths, List, MAX_LEN, Node, None, Ok, Option, Piece, Result, Some, Table, []}
@@ -7,13 +6,11 @@ use Rattle.cord_run.proofs.Common.{and_then, ap, argument_in, arith, byte_at, by
 use Rattle.cord_run.proofs.Common.{content_in, cord_in, digit_at, drop, extended_over, extensible_in, fault_of, format_text}
 use Rattle.cord_run.proofs.Common.{function_source, inl, is_within, known, length, length-map, length-text_of, length_above, length_of}
 use Rattle.cord_run.proofs.Common.{lengths_in, lengths_of, map, piece_argument, plain_of, refl, stop_of_print, subst, sym, table_in, take}
-use Rattle.cord_run.proofs.Common.{unless_refused, within, ℕ, ◌∙◌}
+use Rattle.cord_run.proofs.Common.{unless_refused, within, ℕ, ◌∙◌, ◌≡◌, ◌≤◌, ◌+◌, ◌++◌, ◌≢◌, ◌<◌, ◌∷◌, Arg, PrintError}
 use Rattle.cord_io.specs.FunctionTexts.{text_of}
 use Rattle.cord_io.proofs.FunctionRanges.{range-text_of}
 use Rattle.cord_run.proofs.Lengths.{content_text, cord_fits, operand_value}
-use Rattle.cord_printf.specs.declared.arguments.Arg.{Arg}
 use Rattle.cord_printf.specs.declared.arguments.Arg.TheVariants as args
-use Rattle.cord_printf.specs.declared.errors.PrintError.{PrintError}
 use Rattle.cord_printf.specs.declared.errors.PrintError.TheVariants as refusals
 use Rattle.cord_printf.specs.Over.{ArgumentsFitIn, IsPrintOf, argument_over}
 use Rattle.cord_printf.specs.PieceText.{PieceArgument, number, text, first_refusal, printed}

@@ -1,12 +1,11 @@
 -- Members joined: prefixes of them, from which cords their pieces come, and what a walk over them adds.
-use Rattle.std.specs.Prelude.{◌≡◌, ◌+◌, ◌-◌, ◌^◌, ◌++◌, ◌∷◌, ◌<◌, ◌≤◌}
 use Rattle.cord_run.proofs.Common.{ℕ, true, List, [], length, Result, Ok, Err, refl, sym, ap, ◌∙◌, append_assoc, length-append, arith, min}
 use Rattle.cord_run.proofs.Common.{Table, lengths_of, FaultKind, and_then, Expr, Exprs, append, member, nothing, all_texts, cords, cords_of}
 use Rattle.cord_run.proofs.Common.{text_in, passes, MAX_LEN, Entry, counted, extent_in, members_extent, IsOver, holding_of, plain_of}
 use Rattle.cord_run.proofs.Common.{Origin, origins, origins_of, joined_over, subst, append-nil, inl, inr, ⊎_elim, Option, Node, InTurn}
 use Rattle.cord_run.proofs.Common.{IsPieceFrom, AddsAtMostOne, AddsInTurn, Bool, false, take, drop, length-drop, nat_le, leb-true}
-use Rattle.cord_run.proofs.Common.{leb-false, take_min, Lengths, all_bytes, AllFitIn, Wanted, AddsExpression, AddsFew, AddsMembers, AddsRange}
-use Rattle.cord_run.proofs.Common.{Adds, IsAfter, IsPast}
+use Rattle.cord_run.proofs.Common.{leb-false, take_min, Lengths, all_bytes, AllFitIn, Wanted, AddsExpression, AddsMembers, AddsRange, Adds}
+use Rattle.cord_run.proofs.Common.{IsAfter, IsPast, ◌≡◌, ◌+◌, ◌-◌, ◌^◌, ◌++◌, ◌∷◌, ◌<◌, ◌≤◌, all_len, State, cat, within}
 use Rattle.cord_run.proofs.Lengths.{text_length, texts_split}
 use Rattle.cord_node.proofs.Ranges.{range_left, range_right, range_both}
 
@@ -71,6 +70,13 @@ joined_thrice (Ok a) (Ok b) (Ok c) = ap (λ (text : List ℕ). Ok text) (sym (ap
 joined_thrice (Ok a) (Ok b) (Err kind) = refl
 joined_thrice (Ok a) (Err kind) p = refl
 joined_thrice (Err kind) q p = refl
+
+-- two expressions
+pub two_joined : (s : State) (a b : Expr) (x y : List ℕ) → text_in MAX_LEN s a ≡ Ok x → text_in MAX_LEN s b ≡ Ok y →
+    text_in MAX_LEN s (cat (member a (member b nothing))) ≡ within MAX_LEN (x ++ y)
+two_joined s a b x y first last =
+    (λ j. and_then (joined (first j) (joined (last j) (Ok []))) (λ text. within MAX_LEN text))
+    ∙ ap (λ (u : List ℕ). within MAX_LEN (x ++ u)) (append-nil y)
 
 pub joined_both : (entries : List Entry) (es others : Exprs) (t : Table) → joined_over entries (append es others) t
     ≡ joined (joined_over entries es t) (joined_over entries others t)
@@ -305,7 +311,7 @@ pub record SoFar (entries : List Entry) (es : Exprs) (wanted : Wanted) (old : Li
       (all_bytes t old ++ take wanted.count (drop wanted.skip text))
   pub turns : TurnsSoFar entries es old left_over now
   pub past : (after : Wanted) → IsAfter (members_extent entries left_over) left after → IsAfter (members_extent entries es) wanted after
-  pub few : AddsFew wanted left old now
+  pub few : all_len now + left.count ≤ all_len old + wanted.count
 
 -- at the start
 pub starts : (entries : List Entry) (es : Exprs) (wanted : Wanted) (old : List (Option Node)) → SoFar entries es wanted old es wanted old

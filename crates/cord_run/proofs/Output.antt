@@ -1,10 +1,9 @@
 -- Cords that a sink is handed one after another.
-use Rattle.std.specs.Prelude.{◌≡◌, ◌+◌, ◌<◌, ◌≤◌, ◌∷◌, ◌++◌}
 use Rattle.cord_run.proofs.Common.{ℕ, zero, suc, true, List, [], length, take, drop, get_or, Result, Ok, Err, refl, sym, ap, subst, ◌∙◌}
 use Rattle.cord_run.proofs.Common.{append-nil, arith, Option, take_all, Table, Lengths, HasLengths, MAX_LEN, CordError, Node, bytes_of}
 use Rattle.cord_run.proofs.Common.{all_bytes, CordFitsIn, AllFitIn, FailureCounts, CountsFaults, IsPrefixOf, Takes, FaultKind, Expr}
 use Rattle.cord_run.proofs.Common.{all_texts, cords, text_in, Stop, Entry, IsOver, holding_of, plain_of, CountsStops, PutsText, Wrote}
-use Rattle.cord_run.proofs.Common.{stop_of_cord, Some, AreWhole, IsUnbuilt}
+use Rattle.cord_run.proofs.Common.{stop_of_cord, Some, AreWhole, IsUnbuilt, ◌≡◌, ◌+◌, ◌<◌, ◌≤◌, ◌∷◌, ◌++◌}
 use Rattle.cord_io.specs.declared.faults.CordError.TheVariants.{NoMemory, TooLong, ReadFailed, WriteFailed}
 use Rattle.cord_io.specs.declared.writing.Sink as sinks
 use Rattle.cord_iter.proofs.Takes.{appends_both, prefix_join, prefix_more}

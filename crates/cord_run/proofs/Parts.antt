@@ -1,21 +1,20 @@
 -- Cords of expressions, whole and of parts.
-use Rattle.std.specs.Prelude.{◌≡◌, ◌∷◌, ◌++◌, ◌+◌, ◌≤◌, ◌<◌}
 use Rattle.cord_run.proofs.Common.{ℕ, true, List, [], length, take, drop, Result, Ok, Err, refl, sym, ap, subst, ◌∙◌, arith, Option}
 use Rattle.cord_run.proofs.Common.{take_all, Table, MAX_LEN, Node, lengths_of, PartsFrom, all_bytes, all_parts, parts_of, AllFitIn, IsCord}
 use Rattle.cord_run.proofs.Common.{IsAllOf, FaultKind, Expr, all_texts, cords, length_of, text_in, Entry, extent_in, IsOver, holding_of}
-use Rattle.cord_run.proofs.Common.{Wanted, plain_of, AddsExpression, AddsInTurn, InTurn, origins, AreWhole, Builds, IsBuilt, ℤ, replicate, inl, append-nil}
-use Rattle.cord_run.proofs.Common.{append_assoc, length-append, Lengths, CordError, Part, PartsFrom-join, PartsFrom-self, bytes_of}
+use Rattle.cord_run.proofs.Common.{Wanted, plain_of, AddsExpression, AddsInTurn, InTurn, origins, AreWhole, Builds, IsBuilt, ℤ, replicate}
+use Rattle.cord_run.proofs.Common.{inl, append-nil, length-append, Lengths, CordError, Part, PartsFrom-join, PartsFrom-self, bytes_of}
 use Rattle.cord_run.proofs.Common.{text_len, CordFits, CordFitsIn, IsCatOf, IsSubstring, HasText, IsRefusal, length-bytes, Number, TooLong}
 use Rattle.cord_run.proofs.Common.{number_value, and_then, as_index, as_byte, as_length, name, run, cat, sub, member, nothing, copies}
 use Rattle.cord_run.proofs.Common.{measured_copies, part_of, within, Stop, stop_of_cord, content_in, cord_in, operand_in, IsUnbuilt, Origin}
-use Rattle.cord_run.proofs.Common.{named, copied, IsCutOf, IsPieceFrom, stop_by, is_within, same_text}
-use Rattle.std.specs.Prelude.{IsErrAnd}
+use Rattle.cord_run.proofs.Common.{named, copied, IsCutOf, IsPieceFrom, stop_by, is_within, same_text, ◌≡◌, ◌∷◌, ◌++◌, ◌+◌, ◌≤◌, ◌<◌}
+use Rattle.cord_run.proofs.Common.{IsErrAnd}
 use Rattle.cord_run.proofs.Lengths.{text_reported, Both, cord_fits, content_text, length_passed, operand_value, texts_split}
 use Rattle.cord_io.specs.declared.faults.CordError.TheVariants as errors
 use Rattle.cord_run.specs.declared.stops.Stop.TheVariants as stops
-use Rattle.cord_run.proofs.TargetNames.{long_text}
-use Rattle.cord_run.proofs.MemberRanges.{joined, turns_joined}
-use Rattle.cord_run.proofs.Definitions.{cord_within}
+use Rattle.cord_run.proofs.Definitions.{long_text, cord_within}
+use Rattle.cord_run.proofs.MemberRanges.{joined, turns_joined, two_joined}
+use Rattle.cord_run.proofs.Ranges.{all_both, all_fit_both}
 
 -- a text that has a length
 record Known (r : Result (List ℕ) FaultKind) (len : ℕ) : Type 0 where
@@ -197,20 +196,6 @@ module _ (entries : List Entry) where
         ∙ ap (λ (u : List ℕ). Ok u) (sym (has.bytes t)))
 
 -- ---- two parts
-all_fit_both : (lengths : Lengths) (ps qs : List (Option Node)) → AllFitIn lengths ps → AllFitIn lengths qs → AllFitIn lengths (ps ++ qs)
-all_fit_both lengths [] qs first second = second
-all_fit_both lengths (p ∷ ps) qs first second = (first.0, all_fit_both lengths ps qs first.1 second)
-
-all_bytes_both : (t : Table) (ps qs : List (Option Node)) → all_bytes t (ps ++ qs) ≡ all_bytes t ps ++ all_bytes t qs
-all_bytes_both t [] qs = refl
-all_bytes_both t (p ∷ ps) qs = ap (λ (u : List ℕ). bytes_of t p ++ u) (all_bytes_both t ps qs)
-    ∙ sym (append_assoc (bytes_of t p) (all_bytes t ps) (all_bytes t qs))
-
-all_parts_both : (ps qs : List (Option Node)) → all_parts (ps ++ qs) ≡ all_parts ps ++ all_parts qs
-all_parts_both [] qs = refl
-all_parts_both (p ∷ ps) qs = ap (λ (u : List Part). parts_of p ++ u) (all_parts_both ps qs)
-    ∙ sym (append_assoc (parts_of p) (all_parts ps) (all_parts qs))
-
 module _ (entries : List Entry) (d e : Expr) where
   abbrev pub both : Expr
   both = cat (member d (member e nothing))
@@ -225,13 +210,6 @@ module _ (entries : List Entry) (d e : Expr) where
         second = subst (λ (xs : List (List ℕ)). all_texts (holding_of t entries) xs ≡ true) (append-nil (cords e)) split.second;
       }
 
-  -- the texts of both, joined
-  both_text : (t : Table) (u v : List ℕ) → text_in MAX_LEN (plain_of t entries) d ≡ Ok u → text_in MAX_LEN (plain_of t entries) e ≡ Ok v →
-      text_in MAX_LEN (plain_of t entries) both ≡ within MAX_LEN (u ++ v)
-  both_text t u v first second =
-      (λ j. and_then (joined (first j) (joined (second j) (Ok []))) (λ text. within MAX_LEN text))
-      ∙ ap (λ (w : List ℕ). within MAX_LEN (u ++ w)) (append-nil v)
-
   module _ (prefix suffix : Option Node) (one : IsBuilt entries d prefix) (other : IsBuilt entries e suffix) where
     long : (t : Table) → IsOver (lengths_of t) entries → text_len prefix + text_len suffix ≡ length (bytes_of t prefix ++ bytes_of t suffix)
     long t over =
@@ -244,7 +222,7 @@ module _ (entries : List Entry) (d e : Expr) where
         (bytes_of t prefix ++ bytes_of t suffix)
     pair_text t over there short =
         let h = here t there in
-        both_text t (bytes_of t prefix) (bytes_of t suffix) (one.bytes t over h.first) (other.bytes t over h.second)
+        two_joined (plain_of t entries) d e (bytes_of t prefix) (bytes_of t suffix) (one.bytes t over h.first) (other.bytes t over h.second)
         ∙ is_within MAX_LEN (bytes_of t prefix ++ bytes_of t suffix) (subst (λ (n : ℕ). n ≤ MAX_LEN) (long t over) short)
 
     -- the bytes of the pieces of both
@@ -256,7 +234,8 @@ module _ (entries : List Entry) (d e : Expr) where
         same_text _ (bytes_of t prefix) (all_bytes t one.pieces) (one.bytes t over h.first) (one.whole.bytes t over h.first) in
         let after_same : bytes_of t suffix ≡ all_bytes t other.pieces =
         same_text _ (bytes_of t suffix) (all_bytes t other.pieces) (other.bytes t over h.second) (other.whole.bytes t over h.second) in
-        (λ j. prefix_same j ++ after_same j) ∙ sym (all_bytes_both t one.pieces other.pieces)
+        (λ j. prefix_same j ++ after_same j)
+        ∙ sym (all_both (λ (ps : List (Option Node)). all_bytes t ps) (λ (p : Option Node). bytes_of t p) refl (λ p ps. refl) one.pieces other.pieces)
 
     pub pair_built : (cord : Option Node) → IsCatOf prefix suffix cord → IsCord cord →
         PartsFrom (parts_of prefix ++ parts_of suffix) (parts_of cord) → text_len prefix + text_len suffix ≤ MAX_LEN → IsBuilt entries both
@@ -273,7 +252,8 @@ module _ (entries : List Entry) (d e : Expr) where
       };
       in_turn = turns_joined entries (origins d) (origins e ++ []) one.pieces other.pieces one.in_turn
           (subst (λ (os : List Origin). InTurn entries os other.pieces) (sym (append-nil (origins e))) other.in_turn);
-      shared = subst (λ (ps : List Part). PartsFrom ps (parts_of cord)) (sym (all_parts_both one.pieces other.pieces))
+      shared = subst (λ (ps : List Part). PartsFrom ps (parts_of cord))
+          (sym (all_both all_parts parts_of refl (λ p ps. refl) one.pieces other.pieces))
           (PartsFrom-join (all_parts one.pieces) (all_parts other.pieces) (parts_of prefix) (parts_of suffix) (parts_of cord) one.shared
           other.shared kept);
     }
@@ -282,7 +262,7 @@ module _ (entries : List Entry) (d e : Expr) where
     pub pair_too_long : MAX_LEN < text_len prefix + text_len suffix → IsUnbuilt entries both (stops.Fault TooLong)
     pair_too_long above = λ t over there.
         let h = here t there in
-        both_text t (bytes_of t prefix) (bytes_of t suffix) (one.bytes t over h.first) (other.bytes t over h.second)
+        two_joined (plain_of t entries) d e (bytes_of t prefix) (bytes_of t suffix) (one.bytes t over h.first) (other.bytes t over h.second)
         ∙ long_text (bytes_of t prefix ++ bytes_of t suffix) (subst (λ (n : ℕ). MAX_LEN < n) (long t over) above)
 
     -- their join is refused

@@ -1,8 +1,8 @@
 -- How many paths a script has.
-use Rattle.std.specs.Prelude.{◌≡◌, ◌+◌, ◌<◌, ◌≤◌, ◌⊎◌, ◌∷◌, ◌++◌, if◌then◌else◌}
 use Rattle.cord_run.proofs.Common.{ℕ, Bool, true, false, List, [], map, length, inl, inr, refl, sym, subst, length-append, arith, Argument}
 use Rattle.cord_run.proofs.Common.{Grammar, argument_term, terms_of, AreAllowed, Scope, LinesSay, ReadsBy, after_all, paths_after, start}
-use Rattle.cord_run.proofs.Common.{with_path, Statement, File, Eager, Lazy, Catn, Sprintf}
+use Rattle.cord_run.proofs.Common.{with_path, Statement, File, Eager, Lazy, Catn, Sprintf, ◌≡◌, ◌+◌, ◌<◌, ◌≤◌, ◌⊎◌, ◌∷◌, ◌++◌}
+use Rattle.cord_run.proofs.Common.{if◌then◌else◌}
 use Rattle.cord_file.specs.declared.TheConstants.{MAX_FILES}
 use Rattle.cord_operands.specs.declared.operands.Argument.TheVariants as arguments
 use Rattle.cord_script.specs.declared.TheConstants.{MAX_PATHS}

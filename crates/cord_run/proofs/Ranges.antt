@@ -1,27 +1,42 @@
 -- What is wanted of expressions, among the cords of their parts.
-use Rattle.std.specs.Prelude.{◌≡◌, ◌+◌, ◌-◌, ◌<◌, ◌≤◌, ◌∷◌, ◌++◌}
 use Rattle.cord_run.proofs.Common.{ℕ, Bool, true, false, ℤ, List, [], length, take, drop, replicate, Result, Ok, Err, refl, sym, ap, subst}
 use Rattle.cord_run.proofs.Common.{◌∙◌, append-nil, append_assoc, length-take, arith, IfOk, min, nat_le, Option, IfOk-at_ok, leb-true}
 use Rattle.cord_run.proofs.Common.{leb-false, drop-drop, drop-replicate, drop-take, length-replicate, take_all, take_min, take-replicate}
-use Rattle.cord_run.proofs.Common.{take-take, Table, Lengths, MAX_LEN, Node, lengths_of, text_len, bytes_of, CordFits, CordFitsIn}
-use Rattle.cord_run.proofs.Common.{all_bytes, all_len, AllFitIn, IsSubstring, HasText, Number, FaultKind, number_value, and_then, as_index}
-use Rattle.cord_run.proofs.Common.{as_byte, as_length, Expr, name, run, cat, sub, Exprs, held_text, within, copies, part_of}
-use Rattle.cord_run.proofs.Common.{measured_copies, text_in, passes, fits_within, cat_joined, Wanted, Entry, extent_in, members_extent}
-use Rattle.cord_run.proofs.Common.{content_in, cord_in, length_in, operand_in, holding_of, plain_of, named, copied, PartsFrom, parts_of, inl, inr}
-use Rattle.cord_run.proofs.Common.{IsCord, IsCordOfText, Adds, AddsCordRange, AddsCopies, AddsRun, AddsExpression, AddsMembers, AddsFew, IsAfter, IsPast}
+use Rattle.cord_run.proofs.Common.{take-take, Table, Lengths, MAX_LEN, Node, lengths_of, text_len, bytes_of, CordFits, all_bytes, all_len}
+use Rattle.cord_run.proofs.Common.{AllFitIn, IsSubstring, HasText, Number, FaultKind, number_value, and_then, as_index, as_byte, as_length}
+use Rattle.cord_run.proofs.Common.{Expr, name, run, cat, sub, Exprs, held_text, within, copies, part_of, measured_copies, text_in, passes}
+use Rattle.cord_run.proofs.Common.{fits_within, cat_joined, Wanted, Entry, extent_in, members_extent, content_in, cord_in, length_in}
+use Rattle.cord_run.proofs.Common.{operand_in, holding_of, plain_of, named, copied, PartsFrom, parts_of, inl, inr, IsCord, IsCordOfText}
+use Rattle.cord_run.proofs.Common.{Adds, AddsCordRange, AddsCopies, AddsRun, AddsExpression, AddsMembers, IsAfter, IsPast, ◌≡◌, ◌+◌, ◌-◌}
+use Rattle.cord_run.proofs.Common.{◌<◌, ◌≤◌, ◌∷◌, ◌++◌, take-append-drop}
 use Rattle.cord_run.proofs.MemberRanges.{nothing_taken, one_in_turn}
 use Rattle.cord_run.proofs.Lengths.{cord_fits, content_text, operand_value, length_passed}
 
+-- ---- what the members of a list have, one after the other
+module _ {A B : Type 0} (all : List A → List B) (one : A → List B) (nil : all [] ≡ [])
+    (cons : (x : A) (xs : List A) → all (x ∷ xs) ≡ one x ++ all xs) where
+  -- two lists
+  pub all_both : (xs ys : List A) → all (xs ++ ys) ≡ all xs ++ all ys
+  all_both [] ys = sym (ap (λ (zs : List B). zs ++ all ys) nil)
+  all_both (x ∷ xs) ys = cons x (xs ++ ys) ∙ ap (λ (zs : List B). one x ++ zs) (all_both xs ys)
+      ∙ sym (append_assoc (one x) (all xs) (all ys)) ∙ ap (λ (zs : List B). zs ++ all ys) (sym (cons x xs))
+
+  -- one member more
+  pub all_more : (xs : List A) (x : A) → all (xs ++ x ∷ []) ≡ all xs ++ one x
+  all_more xs x = all_both xs (x ∷ []) ∙ ap (λ (zs : List B). all xs ++ zs) (cons x [] ∙ ap (λ (zs : List B). one x ++ zs) nil
+      ∙ append-nil (one x))
+
+  -- the first so many, and those after them
+  pub all_split : (n : ℕ) (xs : List A) → all (take n xs) ++ all (drop n xs) ≡ all xs
+  all_split n xs = sym (all_both (take n xs) (drop n xs)) ∙ ap all (take-append-drop n xs)
+
 -- ---- one cord more
-all_fit_more : (lengths : Lengths) (old : List (Option Node)) (c : Option Node) → AllFitIn lengths old → CordFitsIn lengths c →
-    AllFitIn lengths (old ++ c ∷ [])
-all_fit_more lengths [] c all one = (one, tt)
-all_fit_more lengths (x ∷ old) c all one = (all.0, all_fit_more lengths old c all.1 one)
+pub all_fit_both : (lengths : Lengths) (ps qs : List (Option Node)) → AllFitIn lengths ps → AllFitIn lengths qs → AllFitIn lengths (ps ++ qs)
+all_fit_both lengths [] qs first second = second
+all_fit_both lengths (p ∷ ps) qs first second = (first.0, all_fit_both lengths ps qs first.1 second)
 
 all_bytes_more : (t : Table) (old : List (Option Node)) (c : Option Node) → all_bytes t (old ++ c ∷ []) ≡ all_bytes t old ++ bytes_of t c
-all_bytes_more t [] c = append-nil (bytes_of t c)
-all_bytes_more t (x ∷ old) c = ap (λ (u : List ℕ). bytes_of t x ++ u) (all_bytes_more t old c)
-    ∙ sym (append_assoc (bytes_of t x) (all_bytes t old) (bytes_of t c))
+all_bytes_more t = all_more (λ (ps : List (Option Node)). all_bytes t ps) (λ (p : Option Node). bytes_of t p) refl (λ p ps. refl)
 
 pub all_len_more : (old : List (Option Node)) (c : Option Node) → all_len (old ++ c ∷ []) ≡ all_len old + text_len c
 all_len_more [] c = omega arith
@@ -32,7 +47,7 @@ module _ (cord : Option Node) (wanted : Wanted) where
   pub part_added : (part : Option Node) (old new : List (Option Node)) → IsSubstring wanted.skip wanted.count cord part →
       PartsFrom (parts_of cord) (parts_of part) → new ≡ old ++ part ∷ [] → AddsCordRange cord wanted old new
   part_added part old new is shared pushed = subst (AddsCordRange cord wanted old) (sym pushed) (record {
-    fits = λ lengths one all. all_fit_more lengths old part all (is.fits lengths one);
+    fits = λ lengths one all. all_fit_both lengths old (part ∷ []) all (is.fits lengths one, tt);
     bytes = λ t one. all_bytes_more t old part ∙ ap (λ (u : List ℕ). all_bytes t old ++ u) (is.bytes t one);
     in_turn = inr (part, refl, record { start = wanted.skip; count = wanted.count; range = is; shared = shared });
   })
@@ -49,7 +64,7 @@ module _ (cord : Option Node) (wanted : Wanted) where
 
 -- one piece more, of the bytes that are taken
 pub few_more : (wanted after : Wanted) (len : ℕ) (old new : List (Option Node)) (piece : Option Node) → IsPast len wanted after →
-    text_len piece ≡ min wanted.count (len - wanted.skip) → new ≡ old ++ piece ∷ [] → AddsFew wanted after old new
+    text_len piece ≡ min wanted.count (len - wanted.skip) → new ≡ old ++ piece ∷ [] → all_len new + after.count ≤ all_len old + wanted.count
 few_more wanted after len old new piece past long pushed =
     let more : all_len new ≡ all_len old + text_len piece = ap all_len pushed ∙ all_len_more old piece in
     let left : after.count ≡ wanted.count - (len - wanted.skip) = past.count in
@@ -67,7 +82,7 @@ copies_text b count cord short has sound = record {
 pub copies_added : (z : ℤ) (b count : ℕ) (made : Option Node) (old new : List (Option Node)) → as_byte z ≡ Ok b →
     HasText (replicate count b) made → text_len made ≡ count → new ≡ old ++ made ∷ [] → AddsCopies z count old new
 copies_added z b count made old new is text len pushed = subst (AddsCopies z count old) (sym pushed) (record {
-  fits = λ lengths all. all_fit_more lengths old made all (text.fits lengths);
+  fits = λ lengths all. all_fit_both lengths old (made ∷ []) all (text.fits lengths, tt);
   bytes = λ t a same. all_bytes_more t old made ∙ ap (λ (u : List ℕ). all_bytes t old ++ u)
       (text.bytes t ∙ ap (λ (x : ℕ). replicate count x) (same_byte a same));
   len = all_len_more old made ∙ ap (λ (n : ℕ). all_len old + n) len;

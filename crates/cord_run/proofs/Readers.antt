@@ -1,10 +1,10 @@
 -- The operations of a plan read and put where the script's statements do.
-use Rattle.std.specs.Prelude.{◌≡◌, ◌+◌, ◌∷◌, ◌||◌}
 use Rattle.cord_run.proofs.Common.{ℕ, List, [], Bool, true, false, refl, sym, ◌∙◌, subst, inl, inr, Statement, Let, File, Eager, Lazy}
 use Rattle.cord_run.proofs.Common.{Chars, Nul, FromFn, Cat, Catn, Catc, Substr, Balance, EcToCord, Sprintf, Put, IsPut, IsReading, line_of}
 use Rattle.cord_run.proofs.Common.{Expr, operation_line, target_of, Made, Joined, Literal, OfFile, OfEager, OfLazy, OfFunction, Balanced}
 use Rattle.cord_run.proofs.Common.{OfExtensible, Printed, Operation, gives, is_dead, is_first, operation, operations, or_nothing, planned}
-use Rattle.cord_run.proofs.Common.{trivial, FailsNowhereElse, IsFileMade, IsReader, IsWriter, IsPlanBy, Way, ByPlan, AsWritten}
+use Rattle.cord_run.proofs.Common.{trivial, FailsNowhereElse, IsFileMade, IsReader, IsWriter, IsPlanBy, Way, ByPlan, AsWritten, ◌≡◌, ◌+◌}
+use Rattle.cord_run.proofs.Common.{◌∷◌, ◌||◌}
 use Rattle.cord_plan.specs.Inlined.{ChoiceTable, exprs, defining}
 
 gives_line : (m : Bool) (line : ℕ) (target : List ℕ) (made : Made) → operation_line (gives m line target made) ≡ line

@@ -1,19 +1,14 @@
 -- Members one by one, texts that are slices of memory, and such texts side by side that are gathered.
-use Rattle.std.specs.Prelude.{◌≡◌, ◌<◌, ◌≤◌, ◌+◌, ◌-◌, ◌^◌, ◌∷◌, ◌++◌}
-use Rattle.cord_run.proofs.Common.{ℕ, List, Result, Ok, sym, ap, ◌∙◌, IfNone, Option, Some, None, MAX_LEN, Number, FaultKind, number_value}
-use Rattle.cord_run.proofs.Common.{and_then, name, sub, part_of, Entry, content_in, cord_in, operand_in, plain_of, IsSliceOf, IsTextIn}
-use Rattle.cord_run.proofs.Common.{Bool, true, false, length, drop, get_or, Err, refl, arith, min, nat_le, leb-true, leb-false, drop_more}
-use Rattle.cord_run.proofs.Common.{drop_all, as_length, length_above, Shared, shared_view, counted, extent_in, members_extent, members_seen}
-use Rattle.cord_run.proofs.Common.{[], subst, append_assoc, append-nil, all_texts, cords, cords_of, holding_of, AreTextsIn, joined_over}
+use Rattle.cord_run.proofs.Common.{ℕ, List, Result, Ok, sym, ap, ◌∙◌, MAX_LEN, Number, FaultKind, number_value, and_then, name, sub}
+use Rattle.cord_run.proofs.Common.{part_of, Entry, content_in, cord_in, operand_in, plain_of, IsSliceOf, IsTextIn, Bool, true, false}
+use Rattle.cord_run.proofs.Common.{length, drop, get_or, Err, refl, arith, min, nat_le, leb-true, leb-false, drop_more, drop_all, as_length}
+use Rattle.cord_run.proofs.Common.{length_above, Shared, shared_view, counted, extent_in, members_extent, members_seen, [], subst}
+use Rattle.cord_run.proofs.Common.{append_assoc, append-nil, all_texts, cords, cords_of, holding_of, AreTextsIn, joined_over, ◌≡◌, ◌<◌, ◌≤◌}
+use Rattle.cord_run.proofs.Common.{◌+◌, ◌-◌, ◌^◌, ◌∷◌, ◌++◌}
 use Rattle.cord_run.proofs.Lengths.{content_text, operand_value, texts_split}
 use Rattle.cord_plan.specs.Exprs as plain
 use Rattle.cord_plan.proofs.MemberTexts as texts
 use Rattle.cord_run.proofs.MemberRanges.{joined, joined_both, names_both}
-
--- what follows from what a call gives with None
-pub still_none : {A : Type 0} {P Q : Type 0} (o : Option A) → (P → Q) → IfNone o P → IfNone o Q
-still_none (Some a) f p = tt
-still_none None f p = f p
 
 module _ (entries : List Entry) (x slice : List ℕ) (is : IsSliceOf (cord_in (content_in entries x)) slice) where
   -- the text of a name

@@ -4,22 +4,20 @@ mod contents;
 pub(crate) mod cords;
 mod slots;
 
-ghost use Rattle.std.specs.Prelude.{◌≡◌, ◌+◌, ◌<◌, ◌≤◌, ℕ, List, true, false, [], length, IfOk, IfSome, IfNone, OnOk};
-ghost use Rattle.std.specs.Prelude.{Err, None, Some, IfErr, IsErr};
+ghost use Rattle.std.specs.Prelude.{◌≡◌, ◌<◌, ℕ, List, true, [], length, IfOk, IfSome, MatchOption, None, Some};
 ghost use Rattle.cord_core.specs.Cord.{text_len};
-ghost use Rattle.cord_core.specs.Refusals.{IsRefusal};
-ghost use Rattle.cord_run.specs.inner.Contents.{HasSplice, IsWholeContent, IsWholeAt, spliced_len};
+ghost use Rattle.cord_run.specs.inner.Contents.{HasSplice, IsWholeAt, Splices, spliced_len};
 ghost use Rattle.cord_run.specs.inner.Contents.Entries.{are_distinct, cells_in, cells_or_none, content_in};
 ghost use Rattle.cord_run.specs.inner.Contents.Entries.{content_length, cord_in, extensible_in, length_in, names_in};
-ghost use Rattle.cord_run.specs.inner.Contents.Entries.{number_in, operand_in, Grew, HasContent, HasExtensible};
-ghost use Rattle.cord_run.specs.inner.Contents.Entries.{HasNoEntry, HasNumber, IsEntryAt, IsFirstEntry};
+ghost use Rattle.cord_run.specs.inner.Contents.Entries.{number_in, operand_in, Appends, Grew, HasContent, HasExtensible};
+ghost use Rattle.cord_run.specs.inner.Contents.Entries.{HasNoEntry, HasNumber, IsEntryAt, IsFirstEntry, IsSlotOf};
 
 use crate::store::appends::append_at;
 use crate::store::contents::{set_content, set_extensible, set_length, set_number, splice_content};
 use crate::store::slots::{entry_by, hinted, slot_by, slot_for};
 use cord_core::Cord;
 use cord_ec::ExtCord;
-use cord_io::{CordError, MAX_LEN};
+use cord_io::CordError;
 use cord_script::{Name, Number};
 use std::alloc::{AllocError, Global};
 
@@ -34,10 +32,7 @@ impl Content {
     /// The cord, where there is no length alone.
     #[inline(always)]
     pub(crate) fn cord(&self) -> Option<&Cord>
-        ensures some { IfSome result (λ cord. cord.now ≡ cord_in self.now) }
-        ensures len { IfSome result (λ cord. text_len cord.now ≡ content_length self.now) }
-        ensures whole { IfSome result (λ _. IsWholeContent self.now) }
-        ensures none { IfNone result (cord_in self.now ≡ None) }
+        ensures { MatchOption result (cord_in self.now ≡ None) (λ cord. self.now ≡ Content.Whole cord.now) }
     {
         match self {
             Content::Whole(cord) => Some(cord),
@@ -86,9 +81,8 @@ impl Store {
     /// The place of a name.
     #[inline(always)]
     pub(crate) fn place(&self, name: &Name) -> Option<usize>
-        ensures within { IfSome result (λ place. place < length self.now.entries.items) }
-        ensures some { IfSome result (IsEntryAt self.now.entries.items name.now) }
-        ensures none { IfNone result (HasNoEntry self.now.entries.items name.now) }
+        ensures { MatchOption result (HasNoEntry self.now.entries.items name.now)
+            (IsSlotOf self.now.entries.items name.now) }
     {
         slot_by(&self.entries, name)
     }
@@ -96,8 +90,8 @@ impl Store {
     // The entry of a name.
     #[inline(always)]
     fn entry(&self, name: &Name) -> Option<&Entry>
-        ensures some { IfSome result (λ entry. IsFirstEntry self.now.entries.items name.now entry.now) }
-        ensures none { IfNone result (HasNoEntry self.now.entries.items name.now) }
+        ensures { MatchOption result (HasNoEntry self.now.entries.items name.now)
+            (λ entry. IsFirstEntry self.now.entries.items name.now entry.now) }
     {
         entry_by(&self.entries, name)
     }
@@ -105,9 +99,8 @@ impl Store {
     /// The cord of a name, where it has one that isn't empty.
     #[inline(always)]
     pub(crate) fn cord_of(&self, name: &Name) -> Option<&Cord>
-        ensures some { IfSome result (λ cord. cord.now ≡ cord_in (content_in self.now.entries.items name.now)) }
-        ensures len { IfSome result (λ cord. text_len cord.now ≡ length_in self.now.entries.items name.now) }
-        ensures none { IfNone result (cord_in (content_in self.now.entries.items name.now) ≡ None) }
+        ensures { MatchOption result (cord_in (content_in self.now.entries.items name.now) ≡ None)
+            (λ cord. content_in self.now.entries.items name.now ≡ Content.Whole cord.now) }
     {
         match self.entry(name) {
             None => None,
@@ -120,17 +113,10 @@ impl Store {
     pub(crate) fn cord_at(&self, place: usize) -> Option<&Cord>
         requires { place < length self.now.entries.items }
         ensures some { IfSome result (λ cord. (name : List ℕ) → IsEntryAt self.now.entries.items name place →
-            cord.now ≡ cord_in (content_in self.now.entries.items name)) }
-        ensures len { IfSome result (λ cord. (name : List ℕ) → IsEntryAt self.now.entries.items name place →
-            text_len cord.now ≡ length_in self.now.entries.items name) }
+            content_in self.now.entries.items name ≡ Content.Whole cord.now) }
         ensures whole { IfSome result (λ _. IsWholeAt place self.now.entries.items) }
-        ensures none { IfNone result ((name : List ℕ) → IsEntryAt self.now.entries.items name place →
-            cord_in (content_in self.now.entries.items name) ≡ None) }
     {
-        match &self.entries[place].content {
-            Content::Whole(cord) => Some(cord),
-            Content::Long(_) => None,
-        }
+        self.entries[place].content.cord()
     }
 
     /// The length known of the name of a cord.
@@ -178,13 +164,10 @@ impl Store {
     ) -> Result<(), CordError>
         requires within { place < length self.old.entries.items }
         requires whole { IsWholeAt place self.old.entries.items }
-        ensures spliced { IfOk result (λ _. (name : List ℕ) → IsEntryAt self.old.entries.items name place →
-            HasSplice name start count middle.now self.old.entries.items self.new.entries.items) }
-        ensures too_long { result ≡ Err CordError.TooLong →
-            (name : List ℕ) → IsEntryAt self.old.entries.items name place →
-            MAX_LEN < spliced_len start count middle.now (text_len (cord_in (content_in self.old.entries.items name))) }
-        ensures unchanged { IsErr result → self.new.entries.items ≡ self.old.entries.items }
-        ensures refused { IfErr result IsRefusal }
+        ensures { (name : List ℕ) → IsEntryAt self.old.entries.items name place → Splices
+            (HasSplice name start count middle.now self.old.entries.items self.new.entries.items)
+            (spliced_len start count middle.now (text_len (cord_in (content_in self.old.entries.items name))))
+            self.old.entries.items self.new.entries.items result }
     {
         splice_content(alloc, &mut self.entries, place, start, count, middle)
     }
@@ -256,14 +239,11 @@ impl Store {
         name: &Name,
         bytes: &[u8],
     ) -> Result<(), CordError>
-        ensures grown { IfOk result (λ _. Grew name.now bytes.now self.old.entries.items self.new.entries.items) }
-        ensures fits { OnOk result (length (cells_or_none (extensible_in self.old.entries.items name.now))
-            + length bytes.now ≤ MAX_LEN) }
-        ensures too_long { result ≡ Err CordError.TooLong →
-            MAX_LEN < length (cells_or_none (extensible_in self.old.entries.items name.now)) + length bytes.now }
+        ensures { Appends (cells_or_none (extensible_in self.old.entries.items name.now)) bytes.now
+            (λ _. Grew name.now bytes.now self.old.entries.items self.new.entries.items) result }
     {
         let place = slot_for(&mut self.entries, name)?;
-        append_at(alloc, &mut self.entries, name, place, bytes)
+        append_at(alloc, &mut self.entries, place, bytes)
     }
 
     /// Takes the extensible cord of a name out, which then has none.

@@ -1,9 +1,9 @@
 // Expressions that are put.
-ghost use Rattle.std.specs.Prelude.{◌≡◌, true};
+ghost use Rattle.std.specs.Prelude.{◌≡◌, ◌++◌, true, MatchResult};
 ghost use Rattle.cord_io.specs.Frames.{LeavesSource};
-ghost use Rattle.cord_iter.specs.Output.{CountsFaults, failures_of};
+ghost use Rattle.cord_iter.specs.Output.{CountsFaults, IsPrefixOf, Takes, failures_of};
 ghost use Rattle.cord_run.specs.inner.{all_bytes, AllFitIn, MAX_LEN, all_texts, cords, text_in, expr_view, IsOver};
-ghost use Rattle.cord_run.specs.inner.{holding_of, plain_of, CountsStops, Puts, PutsBytes, PutsText, Wrote};
+ghost use Rattle.cord_run.specs.inner.{holding_of, plain_of, CountsStops, PutsBytes, PutsText, Wrote};
 ghost use Rattle.cord_run.specs.inner.{FileSystem};
 
 use crate::expressions::pieces_of;
@@ -91,7 +91,10 @@ fn put_pieces<R: Source, S: Sink>(
 ) -> Result<(), CordError>
     requires fits { AllFitIn (R.lengths source.old) pieces.now }
     ensures puts { (file_system : FileSystem) → R.consistent source.new file_system →
-        Puts (all_bytes (R.table source.old file_system) pieces.now) (S.taken sink.old) (S.taken sink.new) result }
+        MatchResult result
+        (λ _. S.taken sink.new ≡ S.taken sink.old ++ all_bytes (R.table source.old file_system) pieces.now)
+        (λ _. Takes (IsPrefixOf (all_bytes (R.table source.old file_system) pieces.now)) (S.taken sink.old)
+        (S.taken sink.new)) }
     ensures faults { CountsFaults (failures_of ⟦<R as Source>⟧ ⟦<S as Sink>⟧ source.old sink.old)
         (failures_of ⟦<R as Source>⟧ ⟦<S as Sink>⟧ source.new sink.new) result }
     ensures finished { S.finished sink.new ≡ S.finished sink.old }

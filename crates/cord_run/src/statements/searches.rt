@@ -1,10 +1,10 @@
 // The numbers that statements find in cords. Each checks its numbers in order, before it reads.
-ghost use Rattle.std.specs.Prelude.{◌≡◌, ◌<◌, ◌≤◌, IfOk, IfSome, Ok, drop, is_err, pos, take};
+ghost use Rattle.std.specs.Prelude.{◌≡◌, ◌<◌, ◌≤◌, IfOk, IfSome, Ok, drop, is_err, pos, take, ⊤};
 ghost use Rattle.cord_core.specs.Texts.{first, order};
 ghost use Rattle.cord_io.specs.Frames.{LeavesSource};
 ghost use Rattle.cord_meaning.specs.State as meant;
 ghost use Rattle.cord_meaning.specs.Statements as statements;
-ghost use Rattle.cord_run.specs.inner.{and_then, bytes_of, text_len, CordFitsIn, MAX_LEN, byte_place, Checks};
+ghost use Rattle.cord_run.specs.inner.{and_then, bytes_of, text_len, CordFitsIn, MAX_LEN, byte_place};
 ghost use Rattle.cord_run.specs.inner.{count_after, Finds, HasReadForNumber, nearest, FileSystem};
 
 use crate::checks::{as_byte, as_index};
@@ -26,7 +26,7 @@ pub(crate) enum Direction {
 pub(crate) fn fetched<R: Source>(cord: &Cord, index: i64, source: &mut R) -> Result<i64, Stop>
     requires fits { CordFitsIn (R.lengths source.old) cord.now }
     ensures found { (file_system : FileSystem) → R.consistent source.new file_system →
-        Finds (and_then (meant.as_index index) (λ i. and_then
+        Finds ⊤ (and_then (meant.as_index index) (λ i. and_then
         (statements.byte_of_text (bytes_of (R.table source.old file_system) cord.now) i) (λ b. Ok (pos b)))) result }
     ensures read { HasReadForNumber ⟦<R as Source>⟧ source.old source.new result }
 {
@@ -45,7 +45,7 @@ pub(crate) fn compared<R: Source>(left: &Cord, right: &Cord, source: &mut R) -> 
     requires left_fits { CordFitsIn (R.lengths source.old) left.now }
     requires right_fits { CordFitsIn (R.lengths source.old) right.now }
     ensures found { (file_system : FileSystem) → R.consistent source.new file_system →
-        Finds (Ok (order (bytes_of (R.table source.old file_system) left.now)
+        Finds ⊤ (Ok (order (bytes_of (R.table source.old file_system) left.now)
         (bytes_of (R.table source.old file_system) right.now))) result }
     ensures read { HasReadForNumber ⟦<R as Source>⟧ source.old source.new result }
 {
@@ -68,7 +68,7 @@ pub(crate) fn ranges_compared<R: Source>(
     requires left_fits { CordFitsIn (R.lengths source.old) left.now }
     requires right_fits { CordFitsIn (R.lengths source.old) right.now }
     ensures found { (file_system : FileSystem) → R.consistent source.new file_system →
-        Finds (and_then (meant.as_index left_start) (λ i. and_then (meant.as_index right_start) (λ j.
+        Finds ⊤ (and_then (meant.as_index left_start) (λ i. and_then (meant.as_index right_start) (λ j.
         and_then (meant.as_index count) (λ k. Ok (order
         (take k (drop i (bytes_of (R.table source.old file_system) left.now)))
         (take k (drop j (bytes_of (R.table source.old file_system) right.now)))))))) result }
@@ -93,7 +93,7 @@ pub(crate) fn text_found<R: Source>(
     requires fits { CordFitsIn (R.lengths source.old) cord.now }
     requires pattern_fits { CordFitsIn (R.lengths source.old) pattern.now }
     ensures found { (file_system : FileSystem) → R.consistent source.new file_system →
-        Finds (and_then (meant.as_index start) (λ i. Ok (statements.place_number (first
+        Finds ⊤ (and_then (meant.as_index start) (λ i. Ok (statements.place_number (first
         (bytes_of (R.table source.old file_system) cord.now) i
         (bytes_of (R.table source.old file_system) pattern.now))))) result }
     ensures read { HasReadForNumber ⟦<R as Source>⟧ source.old source.new result }
@@ -116,7 +116,7 @@ pub(crate) fn byte_found<R: Source>(
 ) -> Result<i64, Stop>
     requires fits { CordFitsIn (R.lengths source.old) cord.now }
     ensures found { (file_system : FileSystem) → R.consistent source.new file_system →
-        Finds (byte_place direction (bytes_of (R.table source.old file_system) cord.now) start byte) result }
+        Finds ⊤ (byte_place direction (bytes_of (R.table source.old file_system) cord.now) start byte) result }
     ensures read { HasReadForNumber ⟦<R as Source>⟧ source.old source.new result }
 {
     let index = checked_index(start)?;
@@ -165,14 +165,14 @@ fn place_number(place: Option<u64>, len: u64) -> i64
 
 // A number in the place of a byte.
 fn checked_byte(value: i64) -> Result<u8, Stop>
-    ensures { Checks (meant.as_byte value) result }
+    ensures { Finds ⊥ (meant.as_byte value) result }
 {
     Ok(as_byte(value)?)
 }
 
 // A number in the place of an index or a count.
 fn checked_index(value: i64) -> Result<u64, Stop>
-    ensures { Checks (meant.as_index value) result }
+    ensures { Finds ⊥ (meant.as_index value) result }
 {
     Ok(as_index(value)?)
 }

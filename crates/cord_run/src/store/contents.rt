@@ -1,22 +1,20 @@
 // What the entry of a name gets.
-ghost use Rattle.std.specs.Prelude.{◌≡◌, ◌<◌, ℕ, List, true, length, Err, IfErr, IfOk, IsErr};
-ghost use Rattle.cord_run.specs.inner.{text_len, IsRefusal, HasSplice, IsContentSpliced, IsWholeContent, IsWholeAt};
-ghost use Rattle.cord_run.specs.inner.{spliced_len, are_distinct, cells_in, content_in, cord_in, extensible_in};
-ghost use Rattle.cord_run.specs.inner.{names_in, HasContent, HasExtensible, HasNumber, IsEntryAt};
+ghost use Rattle.std.specs.Prelude.{◌≡◌, ◌<◌, ℕ, List, length};
+ghost use Rattle.cord_run.specs.inner.{text_len, HasSplice, IsContentSpliced, IsWholeContent, IsWholeAt, IsSetAt, Splices};
+ghost use Rattle.cord_run.specs.inner.{spliced_len, cells_in, content_in, cord_in, extensible_in};
+ghost use Rattle.cord_run.specs.inner.{HasContent, HasExtensible, HasNumber, IsEntryAt};
 
 use crate::store::{Content, Entry};
 use cord_core::Cord;
 use cord_ec::ExtCord;
-use cord_io::{CordError, MAX_LEN};
+use cord_io::CordError;
 use std::alloc::Global;
 use std::mem::replace;
 
 /// Puts another content into the entry at a place.
 pub(crate) fn set_content(entries: &mut [Entry], place: usize, content: Content)
     requires { place < length entries.old }
-    ensures set { (name : List ℕ) → IsEntryAt entries.old name place →
-        HasContent name content entries.old entries.new }
-    ensures distinct { are_distinct (names_in entries.old) ≡ true → are_distinct (names_in entries.new) ≡ true }
+    ensures { IsSetAt place (λ name. HasContent name content entries.old entries.new) entries.old entries.new }
 {
     let entry = &mut entries[place];
     entry.content = content;
@@ -26,9 +24,7 @@ pub(crate) fn set_content(entries: &mut [Entry], place: usize, content: Content)
 #[inline(always)]
 pub(crate) fn set_length(entries: &mut [Entry], place: usize, len: u64)
     requires { place < length entries.old }
-    ensures set { (name : List ℕ) → IsEntryAt entries.old name place →
-        HasContent name (Content.Long len) entries.old entries.new }
-    ensures distinct { are_distinct (names_in entries.old) ≡ true → are_distinct (names_in entries.new) ≡ true }
+    ensures { IsSetAt place (λ name. HasContent name (Content.Long len) entries.old entries.new) entries.old entries.new }
 {
     let entry = &mut entries[place];
     become_length(&mut entry.content, len);
@@ -56,13 +52,9 @@ pub(crate) fn splice_content(
 ) -> Result<(), CordError>
     requires within { place < length entries.old }
     requires whole { IsWholeAt place entries.old }
-    ensures spliced { IfOk result (λ _. (name : List ℕ) → IsEntryAt entries.old name place →
-        HasSplice name start count middle.now entries.old entries.new) }
-    ensures too_long { result ≡ Err CordError.TooLong → (name : List ℕ) → IsEntryAt entries.old name place →
-        MAX_LEN < spliced_len start count middle.now (text_len (cord_in (content_in entries.old name))) }
-    ensures unchanged { IsErr result → entries.new ≡ entries.old }
-    ensures refused { IfErr result IsRefusal }
-    ensures distinct { are_distinct (names_in entries.old) ≡ true → are_distinct (names_in entries.new) ≡ true }
+    ensures { IsSetAt place (λ name. Splices (HasSplice name start count middle.now entries.old entries.new)
+        (spliced_len start count middle.now (text_len (cord_in (content_in entries.old name))))
+        entries.old entries.new result) entries.old entries.new }
 {
     let entry = &mut entries[place];
     splice_within(alloc, &mut entry.content, start, count, middle)
@@ -77,11 +69,8 @@ fn splice_within(
     middle: &Cord,
 ) -> Result<(), CordError>
     requires { IsWholeContent content.old }
-    ensures spliced { IfOk result (λ _. IsContentSpliced start count middle.now content.old content.new) }
-    ensures too_long { result ≡ Err CordError.TooLong →
-        MAX_LEN < spliced_len start count middle.now (text_len (cord_in content.old)) }
-    ensures unchanged { IsErr result → content.new ≡ content.old }
-    ensures refused { IfErr result IsRefusal }
+    ensures { Splices (IsContentSpliced start count middle.now content.old content.new)
+        (spliced_len start count middle.now (text_len (cord_in content.old))) content.old content.new result }
 {
     match content {
         Content::Whole(cord) => cord.splice(alloc, start, count, middle),
@@ -93,8 +82,7 @@ fn splice_within(
 #[inline(always)]
 pub(crate) fn set_number(entries: &mut [Entry], place: usize, number: i64)
     requires { place < length entries.old }
-    ensures set { (name : List ℕ) → IsEntryAt entries.old name place → HasNumber name number entries.old entries.new }
-    ensures distinct { are_distinct (names_in entries.old) ≡ true → are_distinct (names_in entries.new) ≡ true }
+    ensures { IsSetAt place (λ name. HasNumber name number entries.old entries.new) entries.old entries.new }
 {
     let entry = &mut entries[place];
     entry.number = number;
@@ -109,9 +97,8 @@ pub(crate) fn set_extensible(
     requires { place < length entries.old }
     ensures before { (name : List ℕ) → IsEntryAt entries.old name place →
         cells_in result ≡ extensible_in entries.old name }
-    ensures set { (name : List ℕ) → IsEntryAt entries.old name place →
-        HasExtensible name (cells_in extensible) entries.old entries.new }
-    ensures distinct { are_distinct (names_in entries.old) ≡ true → are_distinct (names_in entries.new) ≡ true }
+    ensures set { IsSetAt place (λ name. HasExtensible name (cells_in extensible) entries.old entries.new)
+        entries.old entries.new }
 {
     let entry = &mut entries[place];
     replace(&mut entry.extensible, extensible)

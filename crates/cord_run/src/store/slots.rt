@@ -1,6 +1,6 @@
 // The slots of names among the entries.
-ghost use Rattle.std.specs.Prelude.{◌≡◌, ◌<◌, true, length, IfOk, IfSome, IfNone};
-ghost use Rattle.cord_run.specs.inner.{are_distinct, names_in, HasNoEntry, IsEntryAt, IsFirstEntry, SameEntries};
+ghost use Rattle.std.specs.Prelude.{◌≡◌, true, IfSome, MatchOption};
+ghost use Rattle.cord_run.specs.inner.{are_distinct, names_in, HasNoEntry, HasSlot, IsFirstEntry, IsSlotOf};
 
 use crate::store::{Content, Entry};
 use cord_core::Cord;
@@ -11,8 +11,7 @@ use std::alloc::AllocError;
 #[inline(always)]
 pub(crate) fn hinted(entries: &[Entry], name: &Name) -> Option<usize>
     requires { are_distinct (names_in entries.now) ≡ true }
-    ensures within { IfSome result (λ place. place < length entries.now) }
-    ensures place { IfSome result (IsEntryAt entries.now name.now) }
+    ensures { IfSome result (IsSlotOf entries.now name.now) }
 {
     let place = name.hint();
     if place >= entries.len() {
@@ -29,9 +28,9 @@ pub(crate) fn hinted(entries: &[Entry], name: &Name) -> Option<usize>
 /// The entry of a name: the one of its hint, where it stands there.
 #[inline(always)]
 pub(crate) fn entry_by<'a>(entries: &'a [Entry], name: &Name) -> Option<&'a Entry>
-    requires distinct { are_distinct (names_in entries.now) ≡ true }
-    ensures some { IfSome result (λ entry. IsFirstEntry entries.now name.now entry.now) }
-    ensures none { IfNone result (HasNoEntry entries.now name.now) }
+    requires { are_distinct (names_in entries.now) ≡ true }
+    ensures { MatchOption result (HasNoEntry entries.now name.now)
+        (λ entry. IsFirstEntry entries.now name.now entry.now) }
 {
     match hinted(entries, name) {
         Some(place) => Some(&entries[place]),
@@ -43,8 +42,8 @@ pub(crate) fn entry_by<'a>(entries: &'a [Entry], name: &Name) -> Option<&'a Entr
 #[cold]
 #[inline(never)]
 fn entry_of<'a>(entries: &'a [Entry], name: &Name) -> Option<&'a Entry>
-    ensures some { IfSome result (λ entry. IsFirstEntry entries.now name.now entry.now) }
-    ensures none { IfNone result (HasNoEntry entries.now name.now) }
+    ensures { MatchOption result (HasNoEntry entries.now name.now)
+        (λ entry. IsFirstEntry entries.now name.now entry.now) }
 {
     let place = find_slot(entries, name)?;
     Some(&entries[place])
@@ -53,10 +52,8 @@ fn entry_of<'a>(entries: &'a [Entry], name: &Name) -> Option<&'a Entry>
 /// The slot of a name: the one of its hint, where it stands there.
 #[inline(always)]
 pub(crate) fn slot_by(entries: &[Entry], name: &Name) -> Option<usize>
-    requires distinct { are_distinct (names_in entries.now) ≡ true }
-    ensures within { IfSome result (λ place. place < length entries.now) }
-    ensures some { IfSome result (IsEntryAt entries.now name.now) }
-    ensures none { IfNone result (HasNoEntry entries.now name.now) }
+    requires { are_distinct (names_in entries.now) ≡ true }
+    ensures { MatchOption result (HasNoEntry entries.now name.now) (IsSlotOf entries.now name.now) }
 {
     match hinted(entries, name) {
         Some(place) => Some(place),
@@ -68,9 +65,7 @@ pub(crate) fn slot_by(entries: &[Entry], name: &Name) -> Option<usize>
 #[cold]
 #[inline(never)]
 fn find_slot(entries: &[Entry], name: &Name) -> Option<usize>
-    ensures within { IfSome result (λ place. place < length entries.now) }
-    ensures some { IfSome result (IsEntryAt entries.now name.now) }
-    ensures none { IfNone result (HasNoEntry entries.now name.now) }
+    ensures { MatchOption result (HasNoEntry entries.now name.now) (IsSlotOf entries.now name.now) }
 {
     for (place, entry) in entries.iter().enumerate() {
         if name.is(&entry.name) {
@@ -83,11 +78,8 @@ fn find_slot(entries: &[Entry], name: &Name) -> Option<usize>
 /// The slot of a name, which gets an entry where it has none.
 #[inline(always)]
 pub(crate) fn slot_for(entries: &mut Vec<Entry>, name: &Name) -> Result<usize, AllocError>
-    requires distinct { are_distinct (names_in entries.old.items) ≡ true }
-    ensures within { IfOk result (λ place. place < length entries.new.items) }
-    ensures place { IfOk result (IsEntryAt entries.new.items name.now) }
-    ensures same { IfOk result (λ _. SameEntries entries.old.items entries.new.items) }
-    ensures distinct { are_distinct (names_in entries.new.items) ≡ true }
+    requires { are_distinct (names_in entries.old.items) ≡ true }
+    ensures { HasSlot name.now entries.old.items entries.new.items result }
 {
     match slot_by(entries, name) {
         Some(place) => Ok(place),
@@ -95,30 +87,15 @@ pub(crate) fn slot_for(entries: &mut Vec<Entry>, name: &Name) -> Result<usize, A
     }
 }
 
-// The slot of a new entry, for a name that has none.
+// The slot of a new entry, of nothing yet, for a name that has none.
 #[cold]
 #[inline(never)]
 fn new_slot(entries: &mut Vec<Entry>, name: &Name) -> Result<usize, AllocError>
     requires absent { HasNoEntry entries.old.items name.now }
     requires distinct { are_distinct (names_in entries.old.items) ≡ true }
-    ensures within { IfOk result (λ place. place < length entries.new.items) }
-    ensures place { IfOk result (IsEntryAt entries.new.items name.now) }
-    ensures same { IfOk result (λ _. SameEntries entries.old.items entries.new.items) }
-    ensures distinct { are_distinct (names_in entries.new.items) ≡ true }
+    ensures { HasSlot name.now entries.old.items entries.new.items result }
 {
     let name = name.clone()?;
-    add(entries, name)
-}
-
-// Adds an entry, of nothing yet, for a name that has none.
-fn add(entries: &mut Vec<Entry>, name: Name) -> Result<usize, AllocError>
-    requires absent { HasNoEntry entries.old.items name }
-    requires distinct { are_distinct (names_in entries.old.items) ≡ true }
-    ensures within { IfOk result (λ place. place < length entries.new.items) }
-    ensures place { IfOk result (IsEntryAt entries.new.items name) }
-    ensures same { IfOk result (λ _. SameEntries entries.old.items entries.new.items) }
-    ensures distinct { are_distinct (names_in entries.new.items) ≡ true }
-{
     let place = entries.len();
     entries.push(Entry {
         name,

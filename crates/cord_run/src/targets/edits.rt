@@ -2,6 +2,7 @@
 // it is held.
 ghost use Rattle.std.specs.Prelude.{◌≡◌, IfErr, IfOk, IfSome, IsErr};
 ghost use Rattle.cord_run.specs.inner.{made_view, IsUnmadeOfNames, Edited, IsEdit, IsMiddle, IsNoMiddle, IsReplaced};
+ghost use Rattle.cord_run.specs.inner.{operand_in};
 ghost use Rattle.cord_plan.specs.Edits.{edit_view};
 ghost use Rattle.cord_plan.specs.Planned as plan;
 ghost use Rattle.cord_plan.specs.declared.edits.Edit.TheVariants as edits;
@@ -29,21 +30,14 @@ pub(crate) struct Edit<'a> {
     middle: Option<&'a Expr>,
 }
 
-/// The edit by which a name gets what it is made of, where all that lies before and after the bytes that are replaced
-/// stays.
+/// The edit by which a name gets what it is made of, where all before and after the bytes that are replaced stays.
 pub(crate) fn edit_of<'a>(target: &Name, made: &'a Made, store: &Store) -> Option<Edit<'a>>
     ensures { IfSome result (IsEdit store.now.entries.items target.now (made_view made.now)) }
 {
     let form = form_of(target, made)?;
     let place = store.place(target)?;
     let cord = store.cord_at(place)?;
-    let replaced = replaced_of(
-        cord.len(),
-        store.value_of(form.prefix.start),
-        store.value_of(form.prefix.count),
-        store.value_of(form.suffix.start),
-        store.value_of(form.suffix.count),
-    )?;
+    let replaced = replaced_by(cord.len(), form, store)?;
     Some(Edit {
         place,
         replaced,
@@ -61,9 +55,26 @@ fn form_of<'a>(target: &Name, made: &'a Made) -> Option<Replacement<'a>>
     }
 }
 
-/// The bytes of a text of this length that stand in neither of two ranges, where the first range begins the text, the
-/// second one ends it, and they have no byte in common.
-pub(crate) fn replaced_of(
+/// The bytes of a text of this length in whose place an edit puts something, where all before and after them stays.
+#[inline(always)]
+pub(crate) fn replaced_by(len: u64, form: Replacement<'_>, store: &Store) -> Option<Replaced>
+    ensures { IfSome result (IsReplaced len (operand_in store.now.entries.items form.entry.prefix.start.now)
+        (operand_in store.now.entries.items form.entry.prefix.count.now)
+        (operand_in store.now.entries.items form.entry.suffix.start.now)
+        (operand_in store.now.entries.items form.entry.suffix.count.now)) }
+{
+    replaced_of(
+        len,
+        store.value_of(form.prefix.start),
+        store.value_of(form.prefix.count),
+        store.value_of(form.suffix.start),
+        store.value_of(form.suffix.count),
+    )
+}
+
+// The bytes of a text of this length that stand in neither of two ranges, where the first range begins the text, the
+// second one ends it, and they have no byte in common.
+fn replaced_of(
     len: u64,
     first_start: i64,
     first_count: i64,

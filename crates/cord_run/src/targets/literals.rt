@@ -41,8 +41,7 @@ fn gathered(alloc: Global, text: &[u8]) -> Result<Cord, CordError>
     Ok(cord)
 }
 
-/// The cord of as many first bytes of a function as a number asks for. Refused with the number's fault, or with
-/// `NoMemory`.
+/// The cord of as many first bytes of a function as a number asks for. Refused with its fault, or with `NoMemory`.
 pub(crate) fn start(alloc: Global, function: Function, count: i64) -> Result<Cord, Stop>
     ensures made { IfOk result (λ cord. (n : ℕ) × (start_extent count ≡ Ok n) × IsStartOf function n cord) }
     ensures refused { IfErr result (IsStopBy (λ kind. start_extent count ≡ Err kind)) }

@@ -1,6 +1,5 @@
-use Rattle.std.specs.Prelude.{◌≡◌}
 use Rattle.cord_run.proofs.Common.{List, map, subst, sym, device_in, Counts, NamesDevice, Operation, operation_view, NamesFinish}
-use Rattle.cord_run.proofs.Common.{counts_over}
+use Rattle.cord_run.proofs.Common.{counts_over, ◌≡◌}
 use Rattle.cord_run.proofs.Meaning.{fails_where, ends_faithfully}
 use Rattle.cord_run.proofs.runner.run.Goals as goal
 

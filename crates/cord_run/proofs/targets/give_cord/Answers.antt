@@ -1,6 +1,6 @@
 use Rattle.cord_run.proofs.Common.{rules, as_long_as_reported, Grows, device_in, opened_in, made_view, world_of}
 use Rattle.cord_run.proofs.Edits.{edited_serves}
-use Rattle.cord_run.proofs.TargetNames.{built_serves}
+use Rattle.cord_run.proofs.Definitions.{built_serves}
 use Rattle.cord_run.proofs.targets.give_cord.Goals as goal
 
 pub returns-in_ok-cord-in-None : goal.returns-in_ok-cord-in-None

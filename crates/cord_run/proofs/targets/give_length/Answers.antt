@@ -1,6 +1,6 @@
 use Rattle.cord_run.proofs.Common.{as_long_as_reported, device_in, opened_in, made_view, world_of}
 use Rattle.cord_run.proofs.Known.{measured_stays}
-use Rattle.cord_run.proofs.TargetNames.{given_then, measured_serves, nothing_changed}
+use Rattle.cord_run.proofs.Definitions.{given_then, measured_serves, nothing_changed}
 use Rattle.cord_run.proofs.targets.give_length.Goals as goal
 
 pub returns-clause-serves : goal.returns-clause-serves

@@ -1,8 +1,7 @@
-use Rattle.std.specs.Prelude.{◌≡◌}
 use Rattle.cord_run.proofs.Common.{rules, subst, Asks, IfErr, FileSystem, as_long_as_reported, device_in, opened_in, Made, made_view}
-use Rattle.cord_run.proofs.Common.{IsFileMade, FailsBy, IsMade, IsUnmade, file_made}
+use Rattle.cord_run.proofs.Common.{IsFileMade, FailsBy, IsMade, IsUnmade, file_made, ◌≡◌}
 use Rattle.cord_run.proofs.Failures.{fails_reading, never_fails}
-use Rattle.cord_run.proofs.TargetNames.{of_file, names_made, names_unmade, no_device}
+use Rattle.cord_run.proofs.Definitions.{of_file, names_made, names_unmade, no_device}
 use Rattle.cord_run.proofs.targets.make.Goals as goal
 
 pub returns-in-Some : goal.returns-in-Some

@@ -1,8 +1,8 @@
-use Rattle.std.specs.Prelude.{◌≡◌}
 use Rattle.cord_run.proofs.Common.{rules, sym, subst, Asks, IfErr, IfOk-weaker, FileSystem, as_long_as_reported, device_in, opened_in, Made}
-use Rattle.cord_run.proofs.Common.{made_view, IsFileMade, FailsBy, IsLength, IsUnmeasured, TakesNoMemory, file_made}
+use Rattle.cord_run.proofs.Common.{made_view, IsFileMade, FailsBy, IsLength, IsUnmeasured, TakesNoMemory, file_made, ◌≡◌}
 use Rattle.cord_run.proofs.Failures.{fails_reading, never_fails}
-use Rattle.cord_run.proofs.TargetNames.{asks_then, file_measured, file_unmeasured, of_file, takes_memory, names_reported, names_unreported, no_device}
+use Rattle.cord_run.proofs.Definitions.{asks_then, file_measured, file_unmeasured, of_file, takes_memory, names_reported, names_unreported}
+use Rattle.cord_run.proofs.Definitions.{no_device}
 use Rattle.cord_run.proofs.Known.{file_extent}
 use Rattle.cord_run.proofs.targets.measure.Goals as goal
 

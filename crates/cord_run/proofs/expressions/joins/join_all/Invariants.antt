@@ -1,5 +1,4 @@
-use Rattle.std.specs.Prelude.{◌≤◌, ◌-◌}
-use Rattle.cord_run.proofs.Common.{length, drop, IsCatting}
+use Rattle.cord_run.proofs.Common.{length, drop, IsCatting, ◌≤◌, ◌-◌}
 use Rattle.cord_run.proofs.expressions.joins.join_all.Given as goal
 
 -- the text so far and that of the cords that are left are the whole

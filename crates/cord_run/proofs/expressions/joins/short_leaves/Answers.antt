@@ -1,5 +1,4 @@
-use Rattle.std.specs.Prelude.{◌+◌}
-use Rattle.cord_run.proofs.Common.{rules, refl, ap, ℕ}
+use Rattle.cord_run.proofs.Common.{rules, refl, ap, ℕ, ◌+◌}
 use Rattle.cord_run.proofs.Joins.{more_preceding, none_preceding}
 use Rattle.cord_run.proofs.expressions.joins.short_leaves.Goals as goal
 

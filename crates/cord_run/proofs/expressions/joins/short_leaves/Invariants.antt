@@ -1,5 +1,4 @@
-use Rattle.std.specs.Prelude.{◌≡◌}
-use Rattle.cord_run.proofs.Common.{ArePreceding}
+use Rattle.cord_run.proofs.Common.{ArePreceding, ◌≡◌}
 use Rattle.cord_run.proofs.expressions.joins.short_leaves.Given as goal
 
 -- the cords so far are in front

@@ -1,7 +1,6 @@
-use Rattle.std.specs.Prelude.{◌≡◌, ◌<◌, ◌+◌}
 use Rattle.cord_run.proofs.Common.{ℕ, Result, Ok, drop, sym, ap, subst, ◌∙◌, rules, IfSome, Option, expr_view, members_view, shared_view}
 use Rattle.cord_run.proofs.Common.{view-Cat, view-Name, FaultKind, and_then, prefix_falls, halves_Some, rest_falls, length_in, counted}
-use Rattle.cord_run.proofs.Common.{extent_in, members_extent, members_seen, handed_on}
+use Rattle.cord_run.proofs.Common.{extent_in, members_extent, members_seen, handed_on, ◌≡◌, ◌<◌, ◌+◌}
 use Rattle.cord_plan.specs.Exprs as plain
 use Rattle.cord_plan.specs.declared.expressions.Expr.{Expr}
 use Rattle.cord_run.specs.declared.expressions.lengths.Named.{Named}

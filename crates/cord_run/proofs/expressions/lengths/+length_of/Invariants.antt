@@ -1,5 +1,5 @@
-use Rattle.std.specs.Prelude.{◌≡◌, ◌+◌, ◌<◌, ◌^◌}
-use Rattle.cord_run.proofs.Common.{drop, IfSome, expr_view, members_view, length_in, counted, members_extent, members_seen}
+use Rattle.cord_run.proofs.Common.{drop, IfSome, expr_view, members_view, length_in, counted, members_extent, members_seen, ◌≡◌, ◌+◌, ◌<◌}
+use Rattle.cord_run.proofs.Common.{◌^◌}
 use Rattle.cord_run.proofs.ShortTexts.{weight, weights}
 use Rattle.cord_run.proofs.expressions.lengths.+length_of.Given as goal
 

@@ -1,6 +1,5 @@
-use Rattle.std.specs.Prelude.{◌≡◌, ◌++◌}
 use Rattle.cord_run.proofs.Common.{ℕ, Result, sym, subst, ◌∙◌, refl, Option, FileSystem, Table, Lengths, CordError, Node, all_bytes}
-use Rattle.cord_run.proofs.Common.{bytes_of, CordFitsIn, FailureCounts, CountsFaults, IsPrefixOf, Takes, Puts, handed_on}
+use Rattle.cord_run.proofs.Common.{bytes_of, CordFitsIn, FailureCounts, CountsFaults, IsPrefixOf, Takes, MatchResult, handed_on, ◌≡◌, ◌++◌}
 use Rattle.cord_run.proofs.Output.{fits_at, puts_none, puts_next, puts_cut, puts_all}
 use Rattle.cord_run.proofs.expressions.output.put_pieces.Goals as goal
 
@@ -35,7 +34,8 @@ returns-in_err-put-clause-puts g c = λ file_system agrees.
     let d = g.S.Sink.taken c.put.new.sink in
     let before = c.in_err-put.ensures.source.earlier file_system agrees in
     let t = g.R.Source.table c.args.source.now file_system in
-    subst (λ (r : Result (Unit {0}) CordError). Puts (all_bytes t c.args.pieces.now) a d r)
+    subst (λ (r : Result (Unit {0}) CordError). MatchResult r (λ _. d ≡ a ++ all_bytes t c.args.pieces.now)
+    (λ _. Takes (IsPrefixOf (all_bytes t c.args.pieces.now)) a d))
     (handed_on c.in_err-put.field-0.0 c.from_residual.result c.from_residual.ensures.1)
     (puts_cut t c.args.pieces.now c.loop-piece.piece-index piece c.loop-piece-test.true
     c.piece-item.is a b d (c.loop-piece.invariant.puts file_system before)

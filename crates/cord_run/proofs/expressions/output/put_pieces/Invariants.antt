@@ -1,5 +1,4 @@
-use Rattle.std.specs.Prelude.{◌≡◌, ◌++◌}
-use Rattle.cord_run.proofs.Common.{take, FileSystem, all_bytes}
+use Rattle.cord_run.proofs.Common.{take, FileSystem, all_bytes, ◌≡◌, ◌++◌}
 use Rattle.cord_run.proofs.expressions.output.put_pieces.Given as goal
 
 abbrev pub invariant-loop-piece : goal.invariant-loop-piece

@@ -1,8 +1,7 @@
-use Rattle.std.specs.Prelude.{◌≡◌, ◌++◌}
 use Rattle.cord_run.proofs.Common.{CountsFaults, CountsStops, Err, FailureCounts, IsPrefixOf, List, MAX_LEN, Node, Option, Result, Stop}
 use Rattle.cord_run.proofs.Common.{Takes, Wrote, all_bytes, ap, expr_view, handed_on, plain_of, refl, stop_of_cord, subst, text_in, ℕ, ◌∙◌}
-use Rattle.cord_run.proofs.Output.{short_counts, short_wrote, stop_counts, unbuilt_counts, wrote_nothing, wrote_part}
-use Rattle.cord_run.proofs.Output.{wrote_whole}
+use Rattle.cord_run.proofs.Common.{◌≡◌, ◌++◌}
+use Rattle.cord_run.proofs.Output.{short_counts, short_wrote, stop_counts, unbuilt_counts, wrote_nothing, wrote_part, wrote_whole}
 use Rattle.cord_run.proofs.expressions.output.write.Goals as goal
 
 pub returns-in-Some : goal.returns-in-Some

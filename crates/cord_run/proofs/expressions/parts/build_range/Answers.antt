@@ -1,5 +1,4 @@
-use Rattle.std.specs.Prelude.{◌≡◌}
-use Rattle.cord_run.proofs.Common.{Ok, sym, ◌∙◌, rules, as_index, operand_in}
+use Rattle.cord_run.proofs.Common.{Ok, sym, ◌∙◌, rules, as_index, operand_in, ◌≡◌}
 use Rattle.cord_run.proofs.Numbers.{handed}
 use Rattle.cord_run.proofs.Parts.{range_built}
 use Rattle.cord_run.proofs.expressions.parts.build_range.Goals as goal

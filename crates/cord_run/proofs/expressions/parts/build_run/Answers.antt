@@ -1,5 +1,4 @@
-use Rattle.std.specs.Prelude.{◌≡◌}
-use Rattle.cord_run.proofs.Common.{Ok, sym, ◌∙◌, rules, MAX_LEN, as_byte, measured_copies, operand_in}
+use Rattle.cord_run.proofs.Common.{Ok, sym, ◌∙◌, rules, MAX_LEN, as_byte, measured_copies, operand_in, ◌≡◌}
 use Rattle.cord_run.proofs.Numbers.{handed}
 use Rattle.cord_run.proofs.Parts.{run_built}
 use Rattle.cord_run.proofs.expressions.parts.build_run.Goals as goal

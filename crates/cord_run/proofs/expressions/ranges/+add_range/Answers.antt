@@ -1,7 +1,6 @@
-use Rattle.std.specs.Prelude.{◌≡◌, ◌<◌, ◌+◌}
-use Rattle.cord_run.proofs.Common.{AddsExpression, AddsMembers, IfOk, IfOk-weaker, ap, drop, drop_all, expr_view, halves_Some}
-use Rattle.cord_run.proofs.Common.{members_seen, members_view, prefix_falls, rest_falls, rules, shared_view, subst, sym, view-Cat}
-use Rattle.cord_run.proofs.Common.{view-Name, view-Run, view-Sub, ◌∙◌}
+use Rattle.cord_run.proofs.Common.{AddsExpression, AddsMembers, IfOk, IfOk-weaker, ap, drop, drop_all, expr_view, halves_Some, members_seen}
+use Rattle.cord_run.proofs.Common.{members_view, prefix_falls, rest_falls, rules, shared_view, subst, sym, view-Cat, view-Name, view-Run}
+use Rattle.cord_run.proofs.Common.{view-Sub, ◌∙◌, ◌≡◌, ◌<◌, ◌+◌}
 use Rattle.cord_plan.specs.Exprs as plain
 use Rattle.cord_plan.specs.declared.expressions.Expr.{Expr}
 use Rattle.cord_run.proofs.ShortTexts.{weight, weights, member_smaller, members_left}

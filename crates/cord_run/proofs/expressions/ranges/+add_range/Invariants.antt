@@ -1,5 +1,4 @@
-use Rattle.std.specs.Prelude.{◌+◌}
-use Rattle.cord_run.proofs.Common.{drop, expr_view, members_view, members_seen}
+use Rattle.cord_run.proofs.Common.{drop, expr_view, members_view, members_seen, ◌+◌}
 use Rattle.cord_run.proofs.ShortTexts.{weight, weights}
 use Rattle.cord_run.proofs.MemberRanges.{SoFar}
 use Rattle.cord_run.proofs.expressions.ranges.+add_range.Given as goal

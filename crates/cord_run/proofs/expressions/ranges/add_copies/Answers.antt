@@ -1,5 +1,4 @@
-use Rattle.std.specs.Prelude.{◌≡◌, ◌++◌, ◌∷◌}
-use Rattle.cord_run.proofs.Common.{[], rules}
+use Rattle.cord_run.proofs.Common.{[], rules, ◌≡◌, ◌++◌, ◌∷◌}
 use Rattle.cord_run.proofs.Ranges.{copies_added}
 use Rattle.cord_run.proofs.expressions.ranges.add_copies.Goals as goal
 

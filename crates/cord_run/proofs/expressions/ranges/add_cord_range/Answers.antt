@@ -1,5 +1,4 @@
-use Rattle.std.specs.Prelude.{◌≡◌, ◌-◌, ◌++◌, ◌∷◌}
-use Rattle.cord_run.proofs.Common.{[], ℕ, ap, arith, sym, ◌∙◌, rules, min, subst, IsPast}
+use Rattle.cord_run.proofs.Common.{[], ℕ, ap, arith, sym, ◌∙◌, rules, min, subst, IsPast, ◌≡◌, ◌-◌, ◌++◌, ◌∷◌}
 use Rattle.cord_run.proofs.Ranges.{few_more, part_added, part_passed}
 use Rattle.cord_run.proofs.expressions.ranges.add_cord_range.Goals as goal
 

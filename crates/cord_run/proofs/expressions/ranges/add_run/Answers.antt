@@ -1,5 +1,5 @@
-use Rattle.std.specs.Prelude.{◌≡◌}
-use Rattle.cord_run.proofs.Common.{ℕ, Ok, Result, arith, sym, subst, ◌∙◌, rules, FaultKind, IsAfter, MAX_LEN, as_byte, measured_copies, operand_in}
+use Rattle.cord_run.proofs.Common.{ℕ, Ok, Result, arith, sym, subst, ◌∙◌, rules, FaultKind, IsAfter, MAX_LEN, as_byte, measured_copies}
+use Rattle.cord_run.proofs.Common.{operand_in, ◌≡◌}
 use Rattle.cord_run.proofs.Numbers.{handed}
 use Rattle.cord_run.proofs.Ranges.{run_picked}
 use Rattle.cord_run.proofs.expressions.ranges.add_run.Goals as goal

@@ -1,5 +1,4 @@
-use Rattle.std.specs.Prelude.{◌≤◌}
-use Rattle.cord_run.proofs.Common.{ℕ, List, subst, rules, take-replicate, HasText}
+use Rattle.cord_run.proofs.Common.{ℕ, List, subst, rules, take-replicate, HasText, ◌≤◌}
 use Rattle.cord_run.proofs.Ranges.{copies_text}
 use Rattle.cord_run.proofs.expressions.ranges.copies_of.Goals as goal
 

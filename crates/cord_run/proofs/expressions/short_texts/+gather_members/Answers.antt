@@ -1,5 +1,4 @@
-use Rattle.std.specs.Prelude.{◌<◌}
-use Rattle.cord_run.proofs.Common.{rules, members_view, prefix_lighter}
+use Rattle.cord_run.proofs.Common.{rules, members_view, prefix_lighter, ◌<◌}
 use Rattle.cord_run.proofs.ShortTexts.{weights}
 use Rattle.cord_run.proofs.expressions.short_texts.+gather_members.Goals as goal
 

@@ -1,5 +1,4 @@
-use Rattle.std.specs.Prelude.{◌≤◌}
-use Rattle.cord_run.proofs.Common.{rules, length, subst, expr_view, IsTextIn}
+use Rattle.cord_run.proofs.Common.{rules, length, subst, expr_view, IsTextIn, ◌≤◌}
 use Rattle.cord_plan.specs.declared.expressions.Expr.{Expr}
 use Rattle.cord_run.proofs.ShortTexts.{gathered_all, gathered_more, gathered_none}
 use Rattle.cord_run.proofs.expressions.short_texts.gather_all.Goals as goal

@@ -1,5 +1,4 @@
-use Rattle.std.specs.Prelude.{◌≤◌}
-use Rattle.cord_run.proofs.Common.{length}
+use Rattle.cord_run.proofs.Common.{length, ◌≤◌}
 use Rattle.cord_run.proofs.ShortTexts.{GatheredOf}
 use Rattle.cord_run.proofs.expressions.short_texts.gather_all.Given as goal
 

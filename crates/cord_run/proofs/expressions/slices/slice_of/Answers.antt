@@ -1,6 +1,5 @@
-use Rattle.std.specs.Prelude.{◌≡◌}
 use Rattle.cord_run.proofs.Common.{Ok, ℤ, IfSome, of_z, to_z, w64, sym, ap, subst, ◌∙◌, rules, IfSome_then, MAX_LEN, part_of, expr_view}
-use Rattle.cord_run.proofs.Common.{view-Name, view-Sub, operand_in, IsTextIn}
+use Rattle.cord_run.proofs.Common.{view-Name, view-Sub, operand_in, IsTextIn, ◌≡◌}
 use Rattle.cord_plan.specs.Exprs as plain
 use Rattle.cord_run.proofs.Numbers.{handed}
 use Rattle.cord_run.proofs.ShortTexts.{name_is, sub_is}

@@ -1,8 +1,8 @@
-use Rattle.std.specs.Prelude.{◌≡◌, ◌+◌, ◌-◌, ◌^◌}
 use Rattle.cord_run.proofs.Common.{List, Some, arith, ap, refl, subst, ◌∙◌, map, min, slice_get, made_view, members_view, operation_view}
+use Rattle.cord_run.proofs.Common.{◌≡◌, ◌+◌, ◌-◌, ◌^◌}
 use Rattle.cord_plan.specs.declared.operations.Operation.{Operation}
 use Rattle.cord_run.proofs.Known.{next_known}
-use Rattle.cord_run.proofs.Loop.{here_at}
+use Rattle.cord_run.proofs.Operations.{here_at}
 use Rattle.cord_run.proofs.runner.known_lengths.known_after.Goals as goal
 
 pub returns : goal.returns

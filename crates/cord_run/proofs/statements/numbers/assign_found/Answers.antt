@@ -1,6 +1,5 @@
-use Rattle.std.specs.Prelude.{◌≡◌}
 use Rattle.cord_run.proofs.Common.{ℤ, Some, None, Result, refl, subst, rules, IfOk, Stop, HasNumber, CountsFinding, FindsOver}
-use Rattle.cord_run.proofs.Common.{CountsReadStop, MeansOver, handed_on}
+use Rattle.cord_run.proofs.Common.{CountsReadStop, MeansOver, handed_on, ◌≡◌}
 use Rattle.cord_syntax.specs.Targets.{target_of}
 use Rattle.cord_run.proofs.Numbers.{assigns_none, kept_giving, none_counted, none_found, number_counted, handed}
 use Rattle.cord_run.proofs.statements.numbers.assign_found.Goals as goal

@@ -1,6 +1,5 @@
-use Rattle.std.specs.Prelude.{◌≡◌, ◌+ℤ◌, ◌-ℤ◌}
 use Rattle.cord_run.proofs.Common.{ℤ, Ok, refl, sym, subst, ap, ◌∙◌, to_z, of_z, w64, rules, number_value, statement_of, Computation, Add}
-use Rattle.cord_run.proofs.Common.{Len, Sub, plain_of, in_i64, MeansOver}
+use Rattle.cord_run.proofs.Common.{Len, Sub, plain_of, in_i64, MeansOver, ◌≡◌, ◌+ℤ◌, ◌-ℤ◌}
 use Rattle.cord_syntax.specs.declared.families.Family.TheVariants as families
 use Rattle.cord_run.proofs.Lengths.{operand_value}
 use Rattle.cord_run.proofs.Numbers.{len_finds, sum_finds, handed}

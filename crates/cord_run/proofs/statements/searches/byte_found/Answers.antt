@@ -1,5 +1,5 @@
-use Rattle.std.specs.Prelude.{◌≡◌, ◌<◌, ◌≤◌}
-use Rattle.cord_run.proofs.Common.{ℕ, ℤ, Ok, refl, sym, subst, rules, IfSome, bytes_of, text_len, as_byte, as_index, byte_place, Finds}
+use Rattle.cord_run.proofs.Common.{ℕ, ℤ, Ok, refl, sym, subst, rules, IfSome, bytes_of, text_len, as_byte, as_index, byte_place, Finds, ◌≡◌}
+use Rattle.cord_run.proofs.Common.{⊤, ◌<◌, ◌≤◌}
 use Rattle.cord_run.proofs.Numbers.{byte_placed, handed, past_byte}
 use Rattle.cord_run.proofs.statements.searches.byte_found.Goals as goal
 
@@ -17,7 +17,7 @@ returns-in-Ok-clause-found g c = λ file_system agrees.
     let good : as_byte c.args.byte ≡ Ok c.in_ok-wanted.wanted = search rules in
     let within : c.in_ok-index.index < text_len c.args.cord.now = search rules in
     let table = g.R.Source.table c.args.source.now file_system in
-    subst (λ (z : ℤ). Finds (byte_place c.args.direction (bytes_of table c.args.cord.now) c.args.start c.args.byte) (Ok z))
+    subst (λ (z : ℤ). Finds ⊤ (byte_place c.args.direction (bytes_of table c.args.cord.now) c.args.start c.args.byte) (Ok z))
     (sym (handed c.place_number.result (search rules) refl))
     (byte_placed (g.R.Source.lengths c.args.source.now) c.args.cord.now c.len-len.ensures.sound c.requires.fits c.args.start
     c.in_ok-index.index checked c.args.direction c.args.byte c.in_ok-wanted.wanted good table

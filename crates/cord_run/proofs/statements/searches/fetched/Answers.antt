@@ -1,5 +1,4 @@
-use Rattle.std.specs.Prelude.{◌≡◌}
-use Rattle.cord_run.proofs.Common.{Ok, rules, as_index}
+use Rattle.cord_run.proofs.Common.{Ok, rules, as_index, ◌≡◌}
 use Rattle.cord_run.proofs.Numbers.{past_fetched}
 use Rattle.cord_run.proofs.statements.searches.fetched.Goals as goal
 

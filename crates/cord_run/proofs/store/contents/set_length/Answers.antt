@@ -1,17 +1,7 @@
-use Rattle.cord_run.proofs.Common.{refl, subst, get_or, slice_set, Content, Entry, HasContent}
-use Rattle.cord_run.proofs.Entries.{content_set, distinct_set, name_at_place}
+use Rattle.cord_run.proofs.Common.{refl, Long}
+use Rattle.cord_run.proofs.Entries.{content_set}
 use Rattle.cord_run.proofs.store.contents.set_length.Goals as goal
 
 pub returns : goal.returns
 returns c =
-    let entries = c.args.entries.now in
-    let there = c.index-entries-place.result in
-    let from : Entry = get_or entries c.args.place there in
-    let to : Entry =
-    record { name = from.name; content = c.become_length.new.content; number = from.number; extensible = from.extensible } in
-    record {
-      set = λ name here. subst (λ (content : Content). HasContent name content entries (slice_set entries c.args.place to))
-          c.become_length.ensures
-          (content_set name there to entries c.args.place here (name_at_place entries name c.args.place there here) refl refl);
-      distinct = λ distinct. distinct_set entries c.args.place there to refl distinct;
-    }
+    content_set c.args.entries.now c.args.place c.index-entries-place.result _ refl (Long c.args.len) c.become_length.ensures refl refl

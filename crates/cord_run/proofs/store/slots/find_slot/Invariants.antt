@@ -1,5 +1,4 @@
-use Rattle.std.specs.Prelude.{◌+◌}
-use Rattle.cord_run.proofs.Common.{ℕ, drop, HasNoEntry, IsEntryAt}
+use Rattle.cord_run.proofs.Common.{ℕ, drop, HasNoEntry, IsEntryAt, ◌+◌}
 use Rattle.cord_run.proofs.store.slots.find_slot.Given as goal
 
 -- the entries passed don't have the name: what the rest says of it, all of them say

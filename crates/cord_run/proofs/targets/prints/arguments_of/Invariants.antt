@@ -1,5 +1,4 @@
-use Rattle.std.specs.Prelude.{◌≡◌}
-use Rattle.cord_run.proofs.Common.{map, take, argument_in}
+use Rattle.cord_run.proofs.Common.{map, take, argument_in, ◌≡◌}
 use Rattle.cord_run.proofs.targets.prints.arguments_of.Given as goal
 
 abbrev pub invariant-loop-argument : goal.invariant-loop-argument
