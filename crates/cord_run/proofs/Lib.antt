@@ -22,6 +22,7 @@ pub mod Numbers
 pub mod Extensibles
 pub mod Windows
 pub mod Appends
+pub mod Beside
 pub mod Actions
 pub mod ShortTexts
 pub mod Paths
