@@ -1,5 +1,5 @@
 -- The operations of a script's lines, made line by line, and the lines whose expressions they take.
-use Rattle.std.specs.Prelude.{◌≡◌, ◌+◌, ◌<◌, ◌≤◌, ◌||◌, ◌∷◌, ◌++◌, ◌⊎◌}
+use Rattle.std.specs.Prelude.{◌≡◌, ◌+◌, ◌<◌, ◌≤◌, ◌||◌, ◌∷◌, ◌++◌}
 use Rattle.cord_plan.proofs.Common.{ℕ, Bool, true, false, List, [], map, drop, take, length, get_or, Option, Some, None, inl, inr}
 use Rattle.cord_plan.proofs.Common.{option_map, refl, sym, ap, ◌∙◌, subst, arith, length-append, replicate}
 use Rattle.cord_plan.proofs.Common.{slice_get, or_assoc, or-false, slice_get_read, at_drop_more, at_drop_all}
@@ -218,17 +218,16 @@ module _ (s : List Statement) (later : List ℕ → ℕ → Bool) where
 
     -- it is reported whether it extends the one before it
     pub longer_then : (all : List Bool) → length all ≡ b → AreLonger s later all → AreLonger s later (all ++ next.extends ∷ [])
-    longer_then all size before p h = pick (last_or all next.extends p true h)
-      where
-        pick : (slice_get all p ≡ Some true) ⊎ ((p ≡ length all) × (true ≡ next.extends)) → IsLongerAt s later p
-        pick (inl f) = before p f
-        pick (inr f) = subst (λ (n : ℕ). IsLongerAt s later n) (sym (f.0 ∙ size)) (record {
-          line = l;
-          entry = entry;
-          at = slice_get_read s (length s) b l refl within here;
-          entered = there;
-          longer = is_next.longer so_far.table so_far.has (sym f.1);
-        })
+    longer_then all size before p h = elim (last_or all next.extends p true h) [
+      | inl f ↦ before p f
+      | inr f ↦ subst (λ (n : ℕ). IsLongerAt s later n) (sym (f.0 ∙ size)) (record {
+        line = l;
+        entry = entry;
+        at = slice_get_read s (length s) b l refl within here;
+        entered = there;
+        longer = is_next.longer so_far.table so_far.has (sym f.1);
+      })
+    ]
 
   -- after the last line
   pub all_begun : (b : ℕ) (made : List Operation) (taken : List Bool) → length s ≤ b → length made ≡ length taken → IsBegun b made taken →

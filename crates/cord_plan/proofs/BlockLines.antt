@@ -18,12 +18,11 @@ slice_get_drop (suc k) (x ∷ xs) n = let same : suc (k + n) ≡ suc k + n = ome
 
 to_end_lands : (d : ℕ) (ls : List Shape) → is_block_or_none (slice_get ls (to_end d ls)) ≡ true
 to_end_lands d [] = refl
-to_end_lands d (Straight ∷ rest) = to_end_lands d rest
 to_end_lands d (Loop ∷ rest) = to_end_lands (suc d) rest
 to_end_lands d (Branch ∷ rest) = to_end_lands (suc d) rest
-to_end_lands d (Otherwise ∷ rest) = to_end_lands d rest
 to_end_lands zero (Close ∷ rest) = refl
 to_end_lands (suc d) (Close ∷ rest) = to_end_lands d rest
+to_end_lands d (_ ∷ rest) = to_end_lands d rest
 
 -- at n, or at the place before it
 abbrev pub IsByBlock : List Shape → ℕ → Type 0

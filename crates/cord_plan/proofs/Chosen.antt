@@ -99,16 +99,14 @@ module _ (s : List Statement) (later : List ℕ → ℕ → Bool) where
     -- one choice for each operand
     abbrev pub AreChosen : List (List ℕ) → List Choice → Type 0
     AreChosen [] [] = Unit {0}
-    AreChosen [] (c ∷ cs) = ⊥
-    AreChosen (x ∷ xs) [] = ⊥
     AreChosen (x ∷ xs) (c ∷ cs) = Chosen x c × AreChosen xs cs
+    AreChosen _ _ = ⊥
 
     chosen_then : (xs : List (List ℕ)) (cs : List Choice) (x : List ℕ) (c : Choice) → AreChosen xs cs → Chosen x c →
         AreChosen (xs ++ x ∷ []) (cs ++ c ∷ [])
     chosen_then [] [] x c h k = (k, tt)
-    chosen_then [] (d ∷ cs) x c h k = absurd h
-    chosen_then (y ∷ xs) [] x c h k = absurd h
     chosen_then (y ∷ xs) (d ∷ cs) x c h k = (h.0, chosen_then xs cs x c h.1 k)
+    chosen_then _ _ x c h k = absurd h
 
     is_chosen : (before after : List Expr) (x : List ℕ) (c : Choice) → Stands table b l before after x c → Chosen x c
     is_chosen before after x (named y) h = h
@@ -148,15 +146,12 @@ module _ (s : List Statement) (later : List ℕ → ℕ → Bool) where
     small_then : (done : List Choice) (x : List ℕ) (xs : List (List ℕ)) (c : Choice) →
         Stands table b l (map (λ c. expr_of c) done) (map (λ y. name y) xs) x c → IsSmall done (x ∷ xs) → IsSmall (done ++ c ∷ []) xs
     small_then done x xs (replaced a' r') h small k a r e = ap (λ (o : Option Expr). is_small o) (one_more done (replaced a' r') xs) ∙ h.1
-    small_then done x xs (named y) h small k a r e = pick (last_or done (named y) k (replaced a r) e)
-      where
-        pick : (slice_get done k ≡ Some (replaced a r)) ⊎ ((k ≡ length done) × (replaced a r ≡ named y)) →
-            is_small (standing (done ++ named y ∷ []) xs) ≡ true
-        pick (inl f) =
-            ap (λ (o : Option Expr). is_small o) (one_more done (named y) xs
-            ∙ ap (λ (z : List ℕ). expr_with l (map (λ c. expr_of c) done ++ name z ∷ map (λ y. name y) xs)) h)
-            ∙ small k a r f
-        pick (inr f) = let bad : ⊥ = (let same = f.1 in cc) in absurd bad
+    small_then done x xs (named y) h small k a r e = elim (last_or done (named y) k (replaced a r) e) [
+      | inl f ↦ ap (λ (o : Option Expr). is_small o) (one_more done (named y) xs
+          ∙ ap (λ (z : List ℕ). expr_with l (map (λ c. expr_of c) done ++ name z ∷ map (λ y. name y) xs)) h)
+          ∙ small k a r f
+      | inr f ↦ let bad : ⊥ = (let same = f.1 in cc) in absurd bad
+    ]
 
     pub stay_small : (done : List Choice) (xs : List (List ℕ)) → IsSmall done xs → IsSmall (choices s later table b l done xs) []
     stay_small done [] small = small
@@ -181,11 +176,10 @@ module _ (s : List Statement) (later : List ℕ → ℕ → Bool) where
   module _ (P : ℕ → Option Expr × List Choice → Type 0) (step : (table : ChoiceTable) (b : ℕ) (l : Statement) → slice_get s b ≡ Some l →
       IsPrefix table → EachEntry P table → P b (operands_chosen s later table b l (defining l))) where
     entry_then : (table : ChoiceTable) (en : Option Expr × List Choice) → EachEntry P table → P (length table) en → EachEntry P (table ++ en ∷ [])
-    entry_then table en each one k other e = pick (last_or table en k other e)
-      where
-        pick : (slice_get table k ≡ Some other) ⊎ ((k ≡ length table) × (other ≡ en)) → P k other
-        pick (inl h) = each k other h
-        pick (inr h) = subst (λ (n : ℕ). P n other) (sym h.0) (subst (λ (x : Option Expr × List Choice). P (length table) x) (sym h.1) one)
+    entry_then table en each one k other e = elim (last_or table en k other e) [
+      | inl h ↦ each k other h
+      | inr h ↦ subst (λ (n : ℕ). P n other) (sym h.0) (subst (λ (x : Option Expr × List Choice). P (length table) x) (sym h.1) one)
+    ]
 
     grown_each : (table : ChoiceTable) (rest : List Statement) → ((k : ℕ) → slice_get s (length table + k) ≡ slice_get rest k) →
         grown s later table (length table) rest ≡ exprs s later → EachEntry P table → EachEntry P (exprs s later)

@@ -117,9 +117,8 @@ before_in (f ∷ table) o (suc a) e is = before_in table o a e is
 
 pub last_in : (table : List (Option Expr)) (o : Option Expr) (n : ℕ) → length table ≡ n → expression_in (table ++ o ∷ []) n ≡ o
 last_in [] o zero size = refl
-last_in [] o (suc n) size = let bad : ⊥ = cc in absurd bad
-last_in (f ∷ table) o zero size = let bad : ⊥ = cc in absurd bad
 last_in (f ∷ table) o (suc n) size = last_in table o n (omega (arith, size))
+last_in _ o _ size = let bad : ⊥ = cc in absurd bad
 
 module _ (s : List Statement) where
   -- a line more

@@ -36,16 +36,12 @@ given_joins l v line x es target = record { target = x; is_target = target; join
 
 line_joins : (l : Statement) (es : Exprs) (dead paired : Bool) (x : List ℕ) → assigns l x ≡ true → HasDefining (defining l) →
     Joins l (operation l (cat es) dead paired) es
-line_joins (Cat line target left right) es dead paired x a simple =
-    given_joins (Cat line target left right) (dead || paired) line target es refl
-line_joins (Catn line target many) es dead paired x a simple = given_joins (Catn line target many) (dead || paired) line target es refl
-line_joins (Catc line target operand byte) es dead paired x a simple =
-    given_joins (Catc line target operand byte) (dead || paired) line target es refl
-line_joins (Chars line target byte n) es dead paired x a simple =
-    given_joins (Chars line target byte n) (dead || paired) line target es refl
-line_joins (Nul line target n) es dead paired x a simple = given_joins (Nul line target n) (dead || paired) line target es refl
-line_joins (Substr line target operand start n) es dead paired x a simple =
-    given_joins (Substr line target operand start n) (dead || paired) line target es refl
+line_joins (Cat line target left right) es dead paired x a simple = given_joins _ (dead || paired) line target es refl
+line_joins (Catn line target many) es dead paired x a simple = given_joins _ (dead || paired) line target es refl
+line_joins (Catc line target operand byte) es dead paired x a simple = given_joins _ (dead || paired) line target es refl
+line_joins (Chars line target byte n) es dead paired x a simple = given_joins _ (dead || paired) line target es refl
+line_joins (Nul line target n) es dead paired x a simple = given_joins _ (dead || paired) line target es refl
+line_joins (Substr line target operand start n) es dead paired x a simple = given_joins _ (dead || paired) line target es refl
 line_joins (Put line operand) es dead paired x a simple = let bad : ⊥ = cc in absurd bad
 line_joins l es dead paired x a simple = absurd simple
 
@@ -233,7 +229,6 @@ module _ (s : List Statement) (later : List ℕ → ℕ → Bool) where
     extends_here (Cat line target left right) at entered longer =
         let l = Cat line target left right in
         longer_extends l (made l) at entered (are_made l) (cat_longer b line target left right (made l) longer)
-    extends_here (Catn line target []) at entered longer = let bad : ⊥ = cc in absurd bad
     extends_here (Catn line target (x ∷ xs)) at entered longer =
         let l = Catn line target (x ∷ xs) in
         longer_extends l (made l) at entered (are_made l) (catn_longer b line target (x ∷ xs) x (made l) refl longer)

@@ -10,16 +10,14 @@ use Rattle.cord_plan.proofs.Chosen.{each_entry}
 
 append_flat : (es others : Exprs) → AreMembers es → AreMembers others → AreMembers (append es others)
 append_flat nothing others a b = b
-append_flat (member (name x) es) others a b = append_flat es others a b
-append_flat (member (run c n) es) others a b = append_flat es others a b
 append_flat (member (cat fs) es) others a b = absurd a
 append_flat (member (sub e i n) es) others a b = (a.0, append_flat es others a.1 b)
+append_flat (member _ es) others a b = append_flat es others a b
 
 preceding_flat : (e : Expr) (others : Exprs) → IsFlat e → AreMembers others → AreMembers (preceding e others)
-preceding_flat (name x) others a b = b
-preceding_flat (run c n) others a b = b
 preceding_flat (cat es) others a b = append_flat es others a b
 preceding_flat (sub e i n) others a b = (a, b)
+preceding_flat _ others a b = b
 
 -- each of these expressions is flat
 abbrev Each : List Expr → Type 0
@@ -43,8 +41,6 @@ with_flat (Cat line target left right) es a = members_flat es a
 with_flat (Catn line target many) es a = members_flat es a
 with_flat (Catc line target operand byte) es a = members_flat (es ++ run byte (Numeral (pos 1)) ∷ [])
     (each_then es (run byte (Numeral (pos 1))) a tt)
-with_flat (Chars line target byte n) es a = tt
-with_flat (Nul line target n) es a = tt
 with_flat (Substr line target operand start n) (e ∷ es) a = a.0
 with_flat (Put line operand) (e ∷ es) a = a.0
 with_flat _ es a = tt
@@ -128,10 +124,9 @@ operation_flat l e false paired a = tt
 module _ (later : List ℕ → ℕ → Bool) (table : ChoiceTable) where
   pub operations_flat : (p : ℕ) (s : List Statement) (entries : ChoiceTable) → EachEntry entries → (k : ℕ) (o : Operation) →
       slice_get (operations later table p s entries) k ≡ Some o → IsFlatOperation o
-  operations_flat p [] entries a k o e = let bad : ⊥ = cc in absurd bad
-  operations_flat p (l ∷ rest) [] a k o e = let bad : ⊥ = cc in absurd bad
   operations_flat p (l ∷ rest) (en ∷ entries) a zero o e =
       let same : operation l (or_nothing en.0) (is_dead later p (target_of l)) (is_first p table) ≡ o = cc in
       subst (λ (w : Operation). IsFlatOperation w) same (operation_flat l (or_nothing en.0) (is_dead later p (target_of l))
       (is_first p table) (or_flat en.0 (a 0)))
   operations_flat p (l ∷ rest) (en ∷ entries) a (suc k) o e = operations_flat (p + 1) rest entries (λ m. a (suc m)) k o e
+  operations_flat p _ _ a k o e = let bad : ⊥ = cc in absurd bad

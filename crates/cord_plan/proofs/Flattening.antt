@@ -1,6 +1,6 @@
 -- A `cat` flattened means what the nested one means; expressions in the place of operands mean what the operands do.
 use Rattle.std.specs.Prelude.{◌≡◌, ◌∷◌, ◌++◌}
-use Rattle.cord_plan.proofs.Common.{ℕ, pos, List, [], map, Option, Some, None, Result, Ok, Err, refl, sym, ap, ◌∙◌, append_assoc}
+use Rattle.cord_plan.proofs.Common.{ℕ, pos, List, [], map, Option, Some, Result, Ok, Err, refl, sym, ap, ◌∙◌, append_assoc}
 use Rattle.cord_plan.proofs.Common.{append-nil, Numeral, Statement, Chars, Nul, Cat, Catn, Catc, Substr, Put, FaultKind, State}
 use Rattle.cord_plan.proofs.Common.{number_value, and_then, Expr, name, run, cat, Exprs, nothing, member, append, preceding, members}
 use Rattle.cord_plan.proofs.Common.{read_by, expr_with, defining, within, part_of, text_in, nested, HaveTexts}
@@ -12,9 +12,7 @@ suffix r q = and_then r (λ text. and_then q (λ rest. Ok (text ++ rest)))
 
 after_assoc : (r q p : Result (List ℕ) FaultKind) → suffix r (suffix q p) ≡ suffix (suffix r q) p
 after_assoc (Ok t) (Ok u) (Ok v) = ap (λ (x : List ℕ). Ok x) (sym (append_assoc t u v))
-after_assoc (Ok t) (Ok u) (Err kind) = refl
-after_assoc (Ok t) (Err kind) p = refl
-after_assoc (Err kind) q p = refl
+after_assoc _ _ _ = refl
 
 none_preceding : (r : Result (List ℕ) FaultKind) → r ≡ suffix (Ok []) r
 none_preceding (Ok t) = refl
@@ -54,13 +52,12 @@ module _ (limit : ℕ) (s : State) where
       joined_in limit s (members (es ++ more)) ≡ joined_in limit s (members (fs ++ more))
   same_joined [] [] [] more h k = refl
   same_joined [] (f ∷ fs) [] more h k = absurd k
-  same_joined [] fs (t ∷ ts) more h k = absurd h
-  same_joined (e ∷ es) fs [] more h k = absurd h
   same_joined (e ∷ es) [] (t ∷ ts) more h k = absurd k
   same_joined (e ∷ es) (f ∷ fs) (t ∷ ts) more h k =
       prefix_joined e (members (es ++ more)) t h.0
       ∙ ap (λ (r : Result (List ℕ) FaultKind). suffix (Ok t) r) (same_joined es fs ts more h.1 k.1)
       ∙ sym (prefix_joined f (members (fs ++ more)) t k.0)
+  same_joined _ _ _ more h k = absurd h
 
   names_have : (xs : List (List ℕ)) → HaveTexts limit s (map (λ x. name x) xs) (map s.texts xs)
   names_have [] = tt
@@ -81,9 +78,8 @@ module _ (limit : ℕ) (s : State) where
 
   -- two expressions mean the same, where both are there
   abbrev pub MeanSame : Option Expr → Option Expr → Type 0
-  MeanSame None o = Unit {0}
-  MeanSame (Some e) None = Unit {0}
   MeanSame (Some e) (Some o) = text_in limit s e ≡ text_in limit s o
+  MeanSame _ _ = Unit {0}
 
   pub replaced_means : (l : Statement) (es : List Expr) → HaveTexts limit s es (map s.texts (read_by l)) → MeanSame (expr_with l es)
       (defining l)
@@ -92,9 +88,7 @@ module _ (limit : ℕ) (s : State) where
   replaced_means (Catc line target operand byte) es h = cat_replaced es (operand ∷ []) (run byte (Numeral (pos 1)) ∷ []) h
   replaced_means (Chars line target byte n) es h = refl
   replaced_means (Nul line target n) es h = refl
-  replaced_means (Substr line target operand start n) [] h = tt
   replaced_means (Substr line target operand start n) (e ∷ es) h =
       ap (λ (r : Result (List ℕ) FaultKind). and_then r (λ text. part_of limit text (number_value s start) (number_value s n))) h.0
-  replaced_means (Put line operand) [] h = tt
   replaced_means (Put line operand) (e ∷ es) h = h.0
   replaced_means l es h = tt

@@ -12,19 +12,11 @@ and_true false b e = (refl, e)
 module _ (holds : ℕ → Bool) where
   -- it holds of the one place
   of_one : (q : ℕ) → some_of holds (q ∷ []) ≡ true → holds q ≡ true
-  of_one q e = pick (or_cases (holds q) false e)
-    where
-      pick : (holds q ≡ true) ⊎ (false ≡ true) → holds q ≡ true
-      pick (inl h) = h
-      pick (inr h) = let bad : ⊥ = cc in absurd bad
+  of_one q e = elim (or_cases (holds q) false e) [ inl h ↦ h | inr h ↦ cc ]
 
   -- it holds of one of the two places
   of_two : (q r : ℕ) → some_of holds (q ∷ r ∷ []) ≡ true → (holds q ≡ true) ⊎ (holds r ≡ true)
-  of_two q r e = pick (or_cases (holds q) (some_of holds (r ∷ [])) e)
-    where
-      pick : (holds q ≡ true) ⊎ (some_of holds (r ∷ []) ≡ true) → (holds q ≡ true) ⊎ (holds r ≡ true)
-      pick (inl h) = inl h
-      pick (inr h) = inr (of_one r h)
+  of_two q r e = elim (or_cases (holds q) (some_of holds (r ∷ [])) e) [ inl h ↦ inl h | inr h ↦ inr (of_one r h) ]
 
   to_first : (x q : ℕ) (qs : List ℕ) → q ≡ x → holds q ≡ true → some_of holds (x ∷ qs) ≡ true
   to_first x q qs same h = or_left (holds x) (some_of holds qs) (ap holds (sym same) ∙ h)

@@ -98,9 +98,8 @@ open_below shapes zero = tt
 open_below shapes (suc p) = opened_below p (open_at shapes p) (slice_get shapes p) (open_below shapes p)
 
 first_below : (p r : ℕ) (blocks : List (Option ℕ)) → Below p blocks → Some r ≡ innermost blocks → r < p
-first_below p r [] h e = let bad : ⊥ = cc in absurd bad
-first_below p r (None ∷ blocks) h e = let bad : ⊥ = cc in absurd bad
 first_below p r (Some q ∷ blocks) h e = let same : r ≡ q = cc in let lt : q < p = h.0 in omega arith
+first_below p r _ h e = let bad : ⊥ = cc in absurd bad
 
 -- an open `repeat` stands before the place
 pub block_below : (shapes : List control.Shape) (p r : ℕ) → Some r ≡ innermost (open_at shapes p) → r < p

@@ -20,22 +20,19 @@ suffix p a lt = elim (leb_tells p a) [
   | inr w ↦ ap not w.0
 ]
 
+-- a place that is b, or one before it
+earlier : (v : Bool) (b q : ℕ) (o : Option ℕ) → (if v then Some b else o) ≡ Some q → (o ≡ Some q → q < b) → q < suc b
+earlier true b q o h before = let same : b ≡ q = cc in omega arith
+earlier false b q o h before = let below : q < b = before h in omega arith
+
 module _ (s : List Statement) (x : List ℕ) where
   reader_before : (b q : ℕ) → reader s x b ≡ Some q → q < b
   reader_before zero q e = let bad : ⊥ = cc in absurd bad
-  reader_before (suc b) q e = pick (reads_at (slice_get s b) x) e (λ h. reader_before b q h)
-    where
-      pick : (v : Bool) → (if v then Some b else reader s x b) ≡ Some q → (reader s x b ≡ Some q → q < b) → q < suc b
-      pick true h before = let same : b ≡ q = cc in omega arith
-      pick false h before = let below : q < b = before h in omega arith
+  reader_before (suc b) q e = earlier (reads_at (slice_get s b) x) b q (reader s x b) e (λ h. reader_before b q h)
 
   blocker_before : (b q : ℕ) → blocker s b ≡ Some q → q < b
   blocker_before zero q e = let bad : ⊥ = cc in absurd bad
-  blocker_before (suc b) q e = pick (is_block_at (slice_get s b)) e (λ h. blocker_before b q h)
-    where
-      pick : (v : Bool) → (if v then Some b else blocker s b) ≡ Some q → (blocker s b ≡ Some q → q < b) → q < suc b
-      pick true h before = let same : b ≡ q = cc in omega arith
-      pick false h before = let below : q < b = before h in omega arith
+  blocker_before (suc b) q e = earlier (is_block_at (slice_get s b)) b q (blocker s b) e (λ h. blocker_before b q h)
 
   -- nothing before b stands after it
   none_after : (o : Option ℕ) (b : ℕ) → ((q : ℕ) → o ≡ Some q → q < b) → is_after o b ≡ false
@@ -81,17 +78,11 @@ module _ (s : List Statement) (x : List ℕ) where
 
   -- a name stays where no line assigned it since
   preserves_one : (m : ℕ) → preserves (slice_get s m) (x ∷ []) ≡ not (assigns_at (slice_get s m) x)
-  preserves_one m = pick (assigns_at (slice_get s m) x)
-    where
-      pick : (v : Bool) → (not v && true) ≡ not v
-      pick true = refl
-      pick false = refl
+  preserves_one m = and-true (not (assigns_at (slice_get s m) x))
 
   pub stay_by_last : (a b : ℕ) → stay s a b (x ∷ []) ≡ is_before (setter s x b) a
-  stay_by_last a zero = none
-    where
-      none : stay s a zero (x ∷ []) ≡ true
-      none = let zero_left : zero - a ≡ 0 = omega arith in ap (λ (n : ℕ). each_from (λ m. preserves (slice_get s m) (x ∷ [])) n a) zero_left
+  stay_by_last a zero =
+      let zero_left : zero - a ≡ 0 = omega arith in ap (λ (n : ℕ). each_from (λ m. preserves (slice_get s m) (x ∷ [])) n a) zero_left
   stay_by_last a (suc b) = elim (leb_tells a b) [
     | inl w ↦ within w.1 (stay_by_last a b)
     | inr w ↦ past w.1

@@ -87,8 +87,6 @@ all_measured : (later : List ℕ → ℕ → Bool) (T : ChoiceTable) (p : ℕ) (
     length vs ≡ length ls → ((k : ℕ) → k < length ls → get_or vs k false ≡ is_first (p + k) T) →
     measured_by vs (operations later [] p ls es) ≡ operations later T p ls es
 all_measured later T p [] [] es size is = refl
-all_measured later T p [] (l ∷ ls) es size is = absurd (omega (arith, size))
-all_measured later T p (v ∷ vs) [] es size is = absurd (omega (arith, size))
 all_measured later T p (v ∷ vs) (l ∷ ls) [] size is = refl
 all_measured later T p (v ∷ vs) (l ∷ ls) (e ∷ es) size is =
     let here : p + 0 ≡ p = omega arith in
@@ -97,6 +95,7 @@ all_measured later T p (v ∷ vs) (l ∷ ls) (e ∷ es) size is =
     ∙ ap (operation l (or_nothing e.0) (is_dead later p (target_of l))) first) i
     ∷ all_measured later T (p + 1) vs ls es (omega (arith, size)) (λ k lt. (let next : p + suc k ≡ p + 1 + k = omega arith in
     is (suc k) (omega (arith, lt)) ∙ ap (λ (n : ℕ). is_first n T) next)) i
+all_measured later T p _ _ es size is = absurd (omega (arith, size))
 
 pub all_planned : (s : List Statement) (later : List ℕ → ℕ → Bool) (made : List Operation) (taken : List Bool) →
     AreUnpaired s later made taken → measured_by taken made ≡ planned s later

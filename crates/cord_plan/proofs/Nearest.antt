@@ -1,7 +1,7 @@
 -- The nearest line that assigns an operand, and what stands for the operand then.
 use Rattle.std.specs.Prelude.{◌≡◌, ◌+◌, ◌-◌, ◌<◌, ◌&&◌, ◌||◌, ◌==◌, ◌∷◌, ◌++◌, if◌then◌else◌}
 use Rattle.cord_plan.proofs.Common.{ℕ, zero, suc, Bool, true, false, List, drop, length, get_or, map, Option, Some, None, refl, sym, ap}
-use Rattle.cord_plan.proofs.Common.{◌∙◌, arith, slice_get, not, option_map, and-false, slice_get-map, at_drop_more, bytes_eq, Statement}
+use Rattle.cord_plan.proofs.Common.{◌∙◌, arith, slice_get, not, option_map, and-false, and-true, slice_get-map, at_drop_more, bytes_eq, Statement}
 use Rattle.cord_plan.proofs.Common.{Expr, name, names, assigns, assigns_at, count, reads_at, read_by, Choice, named, replaced, ChoiceTable}
 use Rattle.cord_plan.proofs.Common.{first_of, is_block_at, preserves, each_from, setter, is_small, expr_of, expr_with, chosen_from}
 use Rattle.cord_plan.proofs.Common.{chosen_of, nearest, is_spare, expression_of, expression_in, simple_operands, Has, IsChoice}
@@ -11,11 +11,7 @@ use Rattle.cord_plan.proofs.Chosen.{setter_is}
 
 -- one place more at the end
 pub each_more : (holds : ℕ → Bool) (n a : ℕ) → each_from holds (suc n) a ≡ each_from holds n a && holds (a + n)
-each_more holds zero a = pick (holds a) (holds (a + 0)) (ap holds (let same : a ≡ a + 0 = omega arith in same))
-  where
-    pick : (v w : Bool) → v ≡ w → (v && true) ≡ (true && w)
-    pick true w e = e
-    pick false w e = e
+each_more holds zero a = and-true (holds a) ∙ ap holds (let same : a ≡ a + 0 = omega arith in same)
 each_more holds (suc n) a = first (holds a) (each_more holds n (a + 1))
   where
     there : holds (a + 1 + n) ≡ holds (a + suc n)
@@ -132,28 +128,22 @@ module _ (s : List Statement) (later : List ℕ → ℕ → Bool) (t : ChoiceTab
 pub spare_stands : (s : List Statement) (later : List ℕ → ℕ → Bool) (e : Expr) (a b : ℕ) (l : Statement) (xs : List (List ℕ))
     (x : List ℕ) → is_spare s later b l xs x ≡ true → stands s later e a b l xs x ≡ each_from (λ m. preserves (slice_get s m) (names e))
     (b - a) a
-spare_stands s later e a b l xs x spare = pick (count x xs == 1) (assigns l x || not (later x b)) spare
+spare_stands s later e a b l xs x spare =
+    pick (count x xs == 1) (assigns l x || not (later x b)) (each_from (λ m. preserves (slice_get s m) (names e)) (b - a) a) spare
   where
-    stay : Bool
-    stay = each_from (λ m. preserves (slice_get s m) (names e)) (b - a) a
-
-    pick : (c f : Bool) → (c && f) ≡ true → (c && (f && stay)) ≡ stay
-    pick true true h = refl
-    pick true false h = let bad : ⊥ = cc in absurd bad
-    pick false f h = let bad : ⊥ = cc in absurd bad
+    pick : (c f stay : Bool) → (c && f) ≡ true → (c && (f && stay)) ≡ stay
+    pick true true stay h = refl
+    pick _ _ stay h = cc
 
 -- for any other operand none stands
 pub needed_stands : (s : List Statement) (later : List ℕ → ℕ → Bool) (e : Expr) (a b : ℕ) (l : Statement) (xs : List (List ℕ))
     (x : List ℕ) → is_spare s later b l xs x ≡ false → stands s later e a b l xs x ≡ false
-needed_stands s later e a b l xs x needed = pick (count x xs == 1) (assigns l x || not (later x b)) needed
+needed_stands s later e a b l xs x needed =
+    pick (count x xs == 1) (assigns l x || not (later x b)) (each_from (λ m. preserves (slice_get s m) (names e)) (b - a) a) needed
   where
-    stay : Bool
-    stay = each_from (λ m. preserves (slice_get s m) (names e)) (b - a) a
-
-    pick : (c f : Bool) → (c && f) ≡ false → (c && (f && stay)) ≡ false
-    pick true true h = let bad : ⊥ = cc in absurd bad
-    pick true false h = refl
-    pick false f h = refl
+    pick : (c f stay : Bool) → (c && f) ≡ false → (c && (f && stay)) ≡ false
+    pick true f stay h = ap (λ (v : Bool). v && stay) h
+    pick false f stay h = refl
 
 -- what each line preserves, by the first
 pub keep_here : (s : List Statement) (xs : List (List ℕ)) (p end : ℕ) (l : Statement) → p < end → slice_get s p ≡ Some l →

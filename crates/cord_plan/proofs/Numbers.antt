@@ -138,20 +138,18 @@ name_known y names n there = record { grows = same_names names; is = there }
 module _ (old new : List (List ℕ)) (grows : GainsNames old new) where
   numbers_stay : (xs : List (List ℕ)) (ns : List ℕ) → AreNumbers old xs ns → AreNumbers new xs ns
   numbers_stay [] [] e = refl
-  numbers_stay [] (n ∷ ns) e = let bad : ⊥ = cc in absurd bad
-  numbers_stay (x ∷ xs) [] e = let bad : ⊥ = cc in absurd bad
   numbers_stay (x ∷ xs) (n ∷ ns) e =
       let here : slice_get old n ≡ Some x = cc in
       let rest : AreNumbers old xs ns = cc in
       λ i. grows.remains n x here i ∷ numbers_stay xs ns rest i
+  numbers_stay _ _ e = let bad : ⊥ = cc in absurd bad
 
   number_stays : (o : Option (List ℕ)) (n : Option ℕ) → IsNumber old o n → IsNumber new o n
   number_stays None None e = refl
-  number_stays None (Some n) e = let bad : ⊥ = cc in absurd bad
-  number_stays (Some x) None e = let bad : ⊥ = cc in absurd bad
   number_stays (Some x) (Some n) e =
       let there : slice_get old n ≡ Some x = cc in
       ap Some (grows.remains n x there)
+  number_stays _ _ e = let bad : ⊥ = cc in absurd bad
 
   line_stays : (read more : List ℕ) (l : Statement) (line : NumberedLine) → IsNumberedLine old read l line → IsNumberedLine new (read ++ more) l line
   line_stays read more l line is =
@@ -261,11 +259,10 @@ module _ (t : Numbering) where
   -- the number of a name, where there is one
   pub number_reported : (o : Option (List ℕ)) (n : Option ℕ) → IsNumber (names_of t) o n → n ≡ number_in t o
   number_reported None None e = refl
-  number_reported None (Some n) e = let bad : ⊥ = cc in absurd bad
-  number_reported (Some x) None e = let bad : ⊥ = cc in absurd bad
   number_reported (Some x) (Some n) e =
       let there : slice_get (names_of t) n ≡ Some x = cc in
       sym (place_at (names_of t) t.distinct x n there)
+  number_reported _ _ e = let bad : ⊥ = cc in absurd bad
 
   pub unnamed : (o : Option (List ℕ)) → IsNumber (names_of t) o None → o ≡ None
   unnamed None e = refl

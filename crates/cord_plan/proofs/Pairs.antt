@@ -5,7 +5,7 @@ use Rattle.cord_plan.proofs.Common.{⊎_elim, arith, append-nil, slice_get, not,
 use Rattle.cord_plan.proofs.Common.{ReadsBy, Statement, Expr, parts, names, count, has, read_by, reads_at, assigns, assigns_at, ChoiceTable}
 use Rattle.cord_plan.proofs.Common.{Choice, named, replaced, expr_of, expr_with, is_small, is_block_at, each_from, preserves, first_of}
 use Rattle.cord_plan.proofs.Common.{defining, choices, operands_chosen, IsPair, numbers_named, numbers_named_at, IsNoNumber, or_cases}
-use Rattle.cord_plan.proofs.Common.{not-true, false_from_ne_true, and_parts}
+use Rattle.cord_plan.proofs.Common.{not-true, false_from_ne_true, and_parts, or-false}
 use Rattle.cord_plan.specs.declared.TheConstants.{MAX_EXPR_PARTS}
 use Rattle.cord_plan.proofs.Chosen.{Taken, Chosen, AreChosen, are_chosen, stay_small, EachEntry, IsPrefix, each_entry}
 use Rattle.cord_plan.proofs.Named.{same_bytes, has_at, one_place, each_at, preserves_at, SomeNames, Names, with_names}
@@ -67,13 +67,12 @@ module _ (s : List Statement) (later : List ℕ → ℕ → Bool) where
   chosen_at : (table : ChoiceTable) (b : ℕ) (l : Statement) (xs : List (List ℕ)) (cs : List Choice) (k : ℕ) (f : Expr) →
       AreChosen s later table b l xs cs → slice_get (map (λ c. expr_of c) cs) k ≡ Some f → ChosenAt table b l xs cs k f
   chosen_at table b l [] [] k f h e = let bad : ⊥ = cc in absurd bad
-  chosen_at table b l [] (c ∷ cs) k f h e = absurd h
-  chosen_at table b l (x ∷ xs) [] k f h e = absurd h
   chosen_at table b l (x ∷ xs) (c ∷ cs) zero f h e =
       record { operand = x; choice = c; is_operand = refl; is_choice = refl; is = (let same : expr_of c ≡ f = cc in same); chosen = h.0 }
   chosen_at table b l (x ∷ xs) (c ∷ cs) (suc k) f h e =
       let r : ChosenAt table b l xs cs k f = chosen_at table b l xs cs k f h.1 e in
       record { operand = r.operand; choice = r.choice; is_operand = r.is_operand; is_choice = r.is_choice; is = r.is; chosen = r.chosen }
+  chosen_at table b l _ _ k f h e = absurd h
 
   -- the replacement at an operand's place
   pub taken_at : (table : ChoiceTable) (b : ℕ) (l : Statement) (xs : List (List ℕ)) (cs : List Choice) (i : ℕ) (t : List ℕ) (a : ℕ) (r : Expr) →
@@ -137,13 +136,10 @@ module _ (s : List Statement) (later : List ℕ → ℕ → Bool) where
     chosen_named k f y c is_named = pick c.choice c.is c.chosen
       where
         pick : (d : Choice) → expr_of d ≡ f → Chosen s later table b l c.operand d → NamedBy b y
-        pick (named z) same is = one (or_cases (bytes_eq y z) false (subst (λ (g : Expr). has (names g) y ≡ true) (sym same) is_named))
-          where
-            one : (bytes_eq y z ≡ true) ⊎ (false ≡ true) → NamedBy b y
-            one (inr bad) = let no_one : ⊥ = cc in absurd no_one
-            one (inl e) = named_here y
-                (inl (subst (λ (w : List ℕ). has (read_by l) w ≡ true) (sym (same_bytes y z e ∙ is))
-                (has_at (read_by l) k c.operand c.is_operand)))
+        pick (named z) same is =
+            let e : bytes_eq y z ≡ true = sym (or-false (bytes_eq y z)) ∙ subst (λ (g : Expr). has (names g) y ≡ true) (sym same) is_named in
+            named_here y (inl (subst (λ (w : List ℕ). has (read_by l) w ≡ true) (sym (same_bytes y z e ∙ is))
+            (has_at (read_by l) k c.operand c.is_operand)))
         pick (replaced a r) same taken =
             (named_there c.operand a r y taken (subst (λ (g : Expr). has (names g) y ≡ true) (sym same) is_named)).0
 
@@ -195,16 +191,12 @@ module _ (s : List Statement) (later : List ℕ → ℕ → Bool) where
         where
           pick : (d : Choice) → expr_of d ≡ f → slice_get made k ≡ Some d → Chosen s later table b l c.operand d → ⊥
           pick (named z) same there is =
-              one (or_cases (bytes_eq t z) false (subst (λ (g : Expr). has (names g) t ≡ true) (sym same) is_named))
-            where
-              one : (bytes_eq t z ≡ true) ⊎ (false ≡ true) → ⊥
-              one (inr bad) = let no_one : ⊥ = cc in no_one
-              one (inl e) =
-                  let name_is : c.operand ≡ t = sym (same_bytes t z e ∙ is) in
-                  let here : slice_get (read_by l) k ≡ Some t = c.is_operand ∙ ap (λ (w : List ℕ). Some w) name_is in
-                  let place : i ≡ k = one_place t (read_by l) i k known.once operand here in
-                  let bad : Some (replaced a r) ≡ Some (named z) = sym is_replaced ∙ ap (λ (n : ℕ). slice_get made n) place ∙ there in
-                  cc
+              let e : bytes_eq t z ≡ true = sym (or-false (bytes_eq t z)) ∙ subst (λ (g : Expr). has (names g) t ≡ true) (sym same) is_named in
+              let name_is : c.operand ≡ t = sym (same_bytes t z e ∙ is) in
+              let here : slice_get (read_by l) k ≡ Some t = c.is_operand ∙ ap (λ (w : List ℕ). Some w) name_is in
+              let place : i ≡ k = one_place t (read_by l) i k known.once operand here in
+              let bad : Some (replaced a r) ≡ Some (named z) = sym is_replaced ∙ ap (λ (n : ℕ). slice_get made n) place ∙ there in
+              cc
           pick (replaced k q) same there h = not_there c.operand k q h (subst (λ (g : Expr). has (names g) t ≡ true) (sym same) is_named)
 
       left_out : (e : Expr) → expr_with l (map (λ c. expr_of c) made) ≡ Some e → has (names e) t ≡ false

@@ -17,8 +17,6 @@ pub operation_at : (later : List ℕ → ℕ → Bool) (table : ChoiceTable) (p 
     (en : Option Expr × List Choice) → slice_get s k ≡ Some l → slice_get entries k ≡ Some en →
     slice_get (operations later table p s entries) k ≡ Some (operation l (or_nothing en.0) (is_dead later (p + k) (target_of l))
     (is_first (p + k) table))
-operation_at later table p [] entries k l en e f = let bad : ⊥ = cc in absurd bad
-operation_at later table p (m ∷ rest) [] k l en e f = let bad : ⊥ = cc in absurd bad
 operation_at later table p (m ∷ rest) (first ∷ entries) zero l en e f =
     let line : m ≡ l = cc in
     let same : first ≡ en = cc in
@@ -30,6 +28,7 @@ operation_at later table p (m ∷ rest) (first ∷ entries) (suc k) l en e f =
     let place : p + 1 + k ≡ p + suc k = omega arith in
     operation_at later table (p + 1) rest entries k l en e f
     ∙ ap (λ (n : ℕ). Some (operation l (or_nothing en.0) (is_dead later n (target_of l)) (is_first n table))) place
+operation_at later table p _ _ k l en e f = let bad : ⊥ = cc in absurd bad
 
 -- a line whose expression was taken is the first of a pair
 some_found : (a i : ℕ) (r : Expr) (cs : List Choice) → slice_get cs i ≡ Some (replaced a r) → some_from a cs ≡ true

@@ -65,8 +65,6 @@ further : (y : List ℕ) (c : Choice) (xs : List (List ℕ)) (cs : List Choice) 
 further y c xs cs x a f = record { place = suc f.place; expression = f.expression; operand = f.operand; choice = f.choice }
 
 found : (xs : List (List ℕ)) (cs : List Choice) (x : List ℕ) (a : ℕ) → source_in xs cs x ≡ Some a → Found xs cs x a
-found [] cs x a e = let bad : ⊥ = cc in absurd bad
-found (y ∷ xs) [] x a e = let bad : ⊥ = cc in absurd bad
 found (y ∷ xs) (named z ∷ cs) x a e = further y (named z) xs cs x a (found xs cs x a e)
 found (y ∷ xs) (replaced b r ∷ cs) x a e = pick (λ h. found xs cs x a h) (bytes_eq x y) refl e
   where
@@ -81,57 +79,47 @@ found (y ∷ xs) (replaced b r ∷ cs) x a e = pick (λ h. found xs cs x a h) (b
           choice = ap (λ (n : ℕ). Some (replaced n r)) same;
         }
     pick rest false f h = further y (replaced b r) xs cs x a (rest h)
+found _ _ x a e = let bad : ⊥ = cc in absurd bad
 
 -- where a choice takes an expression for x, x has a source
 has_source : (xs : List (List ℕ)) (cs : List Choice) (x : List ℕ) (i a : ℕ) (r : Expr) → slice_get xs i ≡ Some x →
     slice_get cs i ≡ Some (replaced a r) → source_in xs cs x ≡ None → ⊥
-has_source [] cs x i a r e f none = let bad : ⊥ = cc in bad
-has_source (y ∷ xs) [] x i a r e f none = let bad : ⊥ = cc in bad
-has_source (y ∷ xs) (named z ∷ cs) x zero a r e f none = let bad : ⊥ = cc in bad
 has_source (y ∷ xs) (named z ∷ cs) x (suc i) a r e f none = has_source xs cs x i a r e f none
 has_source (y ∷ xs) (replaced b q ∷ cs) x zero a r e f none =
     let same : y ≡ x = cc in
-    pick (bytes_eq x y) ((bytes_eq-Decides x y).1 (sym same)) none
-  where
-    pick : (v : Bool) → v ≡ true → (if v then Some b else source_in xs cs x) ≡ None → ⊥
-    pick true h n = let bad : ⊥ = cc in bad
-    pick false h n = let bad : ⊥ = cc in bad
+    let gone : Some b ≡ None = sym (ap (λ (v : Bool). if v then Some b else source_in xs cs x) ((bytes_eq-Decides x y).1 (sym same))) ∙ none in
+    cc
 has_source (y ∷ xs) (replaced b q ∷ cs) x (suc i) a r e f none = pick (λ n. has_source xs cs x i a r e f n) (bytes_eq x y) none
   where
     pick : (source_in xs cs x ≡ None → ⊥) → (v : Bool) → (if v then Some b else source_in xs cs x) ≡ None → ⊥
     pick rest true n = let bad : ⊥ = cc in bad
     pick rest false n = rest n
+has_source _ _ x i a r e f none = let bad : ⊥ = cc in bad
 
 some_reported : (p : ℕ) (cs : List Choice) → some_from p cs ≡ true → (i : ℕ) × (r : Expr) × (slice_get cs i ≡ Some (replaced p r))
 some_reported p [] e = let bad : ⊥ = cc in absurd bad
 some_reported p (named x ∷ cs) e = let w = some_reported p cs e in (suc w.0, w.1, w.2)
-some_reported p (replaced a r ∷ cs) e = pick (λ h. some_reported p cs h) (or_cases (a == p) (some_from p cs) e)
-  where
-    pick : (some_from p cs ≡ true → (i : ℕ) × (r : Expr) × (slice_get cs i ≡ Some (replaced p r))) → ((a == p) ≡ true) ⊎
-        (some_from p cs ≡ true) → (i : ℕ) × (q : Expr) × (slice_get (replaced a r ∷ cs) i ≡ Some (replaced p q))
-    pick rest (inl h) = (0, r, ap (λ (n : ℕ). Some (replaced n r)) (eqb-true a p h))
-    pick rest (inr h) = let w = rest h in (suc w.0, w.1, w.2)
+some_reported p (replaced a r ∷ cs) e = elim (or_cases (a == p) (some_from p cs) e) [
+  | inl h ↦ (0, r, ap (λ (n : ℕ). Some (replaced n r)) (eqb-true a p h))
+  | inr h ↦ let w = some_reported p cs h in (suc w.0, w.1, w.2)
+]
 
 first_reported : (p : ℕ) (table : ChoiceTable) → is_first p table ≡ true → (b : ℕ) × (en : Option Expr × List Choice) ×
     (slice_get table b ≡ Some en) × (some_from p en.1 ≡ true)
 first_reported p [] e = let bad : ⊥ = cc in absurd bad
-first_reported p (en ∷ table) e = pick (λ h. first_reported p table h) (or_cases (some_from p en.1) (is_first p table) e)
-  where
-    pick : (is_first p table ≡ true → (b : ℕ) × (en : Option Expr × List Choice) × (slice_get table b ≡ Some en) ×
-        (some_from p en.1 ≡ true)) → (some_from p en.1 ≡ true) ⊎ (is_first p table ≡ true) → (b : ℕ) ×
-        (other : Option Expr × List Choice) × (slice_get (en ∷ table) b ≡ Some other) × (some_from p other.1 ≡ true)
-    pick rest (inl h) = (0, en, refl, h)
-    pick rest (inr h) = let w = rest h in (suc w.0, w.1, w.2, w.3)
+first_reported p (en ∷ table) e = elim (or_cases (some_from p en.1) (is_first p table) e) [
+  | inl h ↦ (0, en, refl, h)
+  | inr h ↦ let w = first_reported p table h in (suc w.0, w.1, w.2, w.3)
+]
 
 module _ (s : List Statement) (later : List ℕ → ℕ → Bool) where
   -- each choice has its operand
   operand_of : (table : ChoiceTable) (b : ℕ) (l : Statement) (xs : List (List ℕ)) (cs : List Choice) (i : ℕ) (c : Choice) → AreChosen s later table b l xs cs → slice_get cs i ≡ Some c → (x : List ℕ) ×
       (slice_get xs i ≡ Some x)
   operand_of table b l [] [] i c h e = let bad : ⊥ = cc in absurd bad
-  operand_of table b l [] (d ∷ cs) i c h e = absurd h
-  operand_of table b l (y ∷ xs) [] i c h e = absurd h
   operand_of table b l (y ∷ xs) (d ∷ cs) zero c h e = (y, refl)
   operand_of table b l (y ∷ xs) (d ∷ cs) (suc i) c h e = operand_of table b l xs cs i c h.1 e
+  operand_of table b l _ _ i c h e = absurd h
 
   -- ---- the table of a script
   abbrev whole_table : ChoiceTable
@@ -263,9 +251,8 @@ module _ (s : List Statement) (later : List ℕ → ℕ → Bool) where
           ((i : ℕ) (x : List ℕ) (c : Choice) → slice_get xs i ≡ Some x → slice_get cs i ≡ Some c → Chosen s later at.prefix b l x c →
           stands decisions b x ≡ expr_of c) → map (λ x. stands decisions b x) xs ≡ map (λ c. expr_of c) cs
       all_stand [] [] h each = refl
-      all_stand [] (c ∷ cs) h each = absurd h
-      all_stand (x ∷ xs) [] h each = absurd h
       all_stand (x ∷ xs) (c ∷ cs) h each = λ i. each 0 x c refl refl h.0 i ∷ all_stand xs cs h.1 (λ k y d e f g. each (suc k) y d e f g) i
+      all_stand _ _ h each = absurd h
 
       defining_stands : expr_with l (map (λ x. stands decisions b x) (read_by l)) ≡ expr_with l (map (λ c. expr_of c) chosen_here)
       defining_stands = ap (λ (es : List Expr). expr_with l es) (all_stand (read_by l) chosen_here picked_here

@@ -66,21 +66,18 @@ module _ (scope : Scope) (x : List ℕ) where
 
   cord_known : (xs : List (List ℕ)) → AreAllowed scope (map (Operand kinds.Cord) xs) → has xs x ≡ true → IsCord
   cord_known [] h e = let bad : ⊥ = cc in absurd bad
-  cord_known (y ∷ xs) h e = pick (λ r. cord_known xs h.1 r) (or_cases (bytes_eq x y) (has xs x) e)
-    where
-      pick : (has xs x ≡ true → IsCord) → (bytes_eq x y ≡ true) ⊎ (has xs x ≡ true) → IsCord
-      pick rest (inl r) = ap (λ (z : List ℕ). kind_of scope.names z) ((bytes_eq-Decides x y).0 r) ∙ h.0
-      pick rest (inr r) = rest r
+  cord_known (y ∷ xs) h e = elim (or_cases (bytes_eq x y) (has xs x) e) [
+    | inl r ↦ ap (λ (z : List ℕ). kind_of scope.names z) ((bytes_eq-Decides x y).0 r) ∙ h.0
+    | inr r ↦ cord_known xs h.1 r
+  ]
 
   argument_known : (args : List Argument) → AreAllowed scope (map argument_term args) → has (cord_arguments args) x ≡ true → IsCord
   argument_known [] h e = let bad : ⊥ = cc in absurd bad
   argument_known (arguments.Number n ∷ args) h e = argument_known args h.1 e
-  argument_known (arguments.Cord y ∷ args) h e = pick (λ r. argument_known args h.1 r)
-      (or_cases (bytes_eq x y) (has (cord_arguments args) x) e)
-    where
-      pick : (has (cord_arguments args) x ≡ true → IsCord) → (bytes_eq x y ≡ true) ⊎ (has (cord_arguments args) x ≡ true) → IsCord
-      pick rest (inl r) = ap (λ (z : List ℕ). kind_of scope.names z) ((bytes_eq-Decides x y).0 r) ∙ h.0
-      pick rest (inr r) = rest r
+  argument_known (arguments.Cord y ∷ args) h e = elim (or_cases (bytes_eq x y) (has (cord_arguments args) x) e) [
+    | inl r ↦ ap (λ (z : List ℕ). kind_of scope.names z) ((bytes_eq-Decides x y).0 r) ∙ h.0
+    | inr r ↦ argument_known args h.1 r
+  ]
 
   -- what a line reads is a cord
   read_known : (l : Statement) → AreAllowed scope (terms_of l) → has (read_by l) x ≡ true → IsCord

@@ -14,11 +14,9 @@ set_there (x ∷ xs) zero v lt = refl
 set_there (x ∷ xs) (suc n) v lt = set_there xs n v (omega (arith, lt))
 
 pub set_apart : {A : Type 0} (xs : List A) (n m : ℕ) (v : A) → (m ≡ n → ⊥) → slice_get (set xs n v) m ≡ slice_get xs m
-set_apart [] n m v differ = refl
 set_apart (x ∷ xs) zero zero v differ = absurd (differ refl)
-set_apart (x ∷ xs) zero (suc m) v differ = refl
-set_apart (x ∷ xs) (suc n) zero v differ = refl
 set_apart (x ∷ xs) (suc n) (suc m) v differ = set_apart xs n m v (λ e. differ (ap suc e))
+set_apart _ _ _ v differ = refl
 
 module _ (t : Numbering) (w : Option ℕ) (places : List (Option ℕ)) where
   pub puts_nothing : PutsPlaces t (λ x. false) w places places
@@ -85,9 +83,8 @@ pub none_noted : (t : Numbering) (n : ℕ) (x : List ℕ) → entry_of t (replic
 none_noted t n x = by_number (number_of t x)
   where
     at_place : (k m : ℕ) → entry_at (replicate k None) (Some m) ≡ None
-    at_place zero m = refl
-    at_place (suc k) zero = refl
     at_place (suc k) (suc m) = at_place k m
+    at_place _ _ = refl
 
     by_number : (number : Option ℕ) → entry_at (replicate n None) number ≡ None
     by_number None = refl

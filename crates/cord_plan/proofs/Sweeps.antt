@@ -1,6 +1,6 @@
 -- Tables of places from which a name is read, as the backwards flow fills them.
 use Rattle.std.specs.Prelude.{◌≡◌, ◌⊎◌, ◌-◌, ◌<◌, ◌≤◌, ◌&&◌, ◌∷◌}
-use Rattle.cord_plan.proofs.Common.{ℕ, zero, suc, Bool, true, false, List, [], map, length, set, None, refl, sym, ap, ◌∙◌, subst, inl, inr}
+use Rattle.cord_plan.proofs.Common.{ℕ, zero, suc, Bool, true, false, List, [], map, length, set, Option, Some, None, refl, sym, ap, ◌∙◌, subst, inl, inr}
 use Rattle.cord_plan.proofs.Common.{⊎_elim, arith, length-set, and-false, eq-or-lt_of_le, length-map, set-get_or, slice_get, not}
 use Rattle.cord_plan.proofs.Common.{slice_get_past, Statement, Next, shape_of, reads, reads_at, assigns, assigns_at, ReadBy, successors}
 use Rattle.cord_plan.proofs.Common.{some_of, at, finds, IsPartly, IsLive, flow}
@@ -9,23 +9,18 @@ use Rattle.cord_plan.proofs.Flows.{Found, shape_found, shape_held}
 -- the parts of a find
 found_parts : (a b c : Bool) → (not a && (b && not c)) ≡ true → (a ≡ false) × (b ≡ true) × (c ≡ false)
 found_parts false true false e = (refl, refl, refl)
-found_parts false true true e = let bad : ⊥ = cc in absurd bad
-found_parts false false c e = let bad : ⊥ = cc in absurd bad
-found_parts true b c e = let bad : ⊥ = cc in absurd bad
+found_parts _ _ _ e = let bad : ⊥ = cc in absurd bad
 
 -- what there is to find was found
 none_found : (a b c : Bool) → (not a && (b && not c)) ≡ false → b ≡ true → c ≡ false → a ≡ true
 none_found true b c e f g = refl
 none_found false true false e f g = cc
-none_found false true true e f g = cc
-none_found false false c e f g = cc
+none_found _ _ _ e f g = cc
 
 -- what the flow makes of a bit, by whether it finds the place
 flow_found : (a b c : Bool) → (not a && (b && not c)) ≡ true → flow a b c ≡ true
 flow_found false true false e = refl
-flow_found false true true e = let bad : ⊥ = cc in absurd bad
-flow_found false false c e = let bad : ⊥ = cc in absurd bad
-flow_found true b c e = let bad : ⊥ = cc in absurd bad
+flow_found _ _ _ e = let bad : ⊥ = cc in absurd bad
 
 flow_none : (a b c : Bool) → (not a && (b && not c)) ≡ false → flow a b c ≡ a
 flow_none true b c e = refl
@@ -36,36 +31,29 @@ flow_rests true b c e = refl
 flow_rests false b c e = e
 
 at_set : (table : List Bool) (p k : ℕ) → at table k ≡ true → at (set table p true) k ≡ true
-at_set [] p k h = h
 at_set (b ∷ table) zero zero h = refl
-at_set (b ∷ table) zero (suc k) h = h
-at_set (b ∷ table) (suc p) zero h = h
 at_set (b ∷ table) (suc p) (suc k) h = at_set table p k h
+at_set _ _ _ h = h
 
 -- where the table with one more place has one, it had it, or it is the new one
 set_at : (table : List Bool) (p k : ℕ) → at (set table p true) k ≡ true → (k ≡ p) ⊎ (at table k ≡ true)
-set_at [] p k h = inr h
 set_at (b ∷ table) zero zero h = inl refl
-set_at (b ∷ table) zero (suc k) h = inr h
-set_at (b ∷ table) (suc p) zero h = inr h
 set_at (b ∷ table) (suc p) (suc k) h = ⊎_elim (λ same. inl (ap suc same)) (λ was. inr was) (set_at table p k h)
+set_at _ _ _ h = inr h
+
+-- what holds of each line, by places
+at_map : (f : Statement → Bool) (on : Option Statement → Bool) → on None ≡ false → ((l : Statement) → on (Some l) ≡ f l) →
+    (ls : List Statement) (k : ℕ) → at (map f ls) k ≡ on (slice_get ls k)
+at_map f on none some [] k = sym none
+at_map f on none some (l ∷ ls) zero = sym (some l)
+at_map f on none some (l ∷ ls) (suc k) = at_map f on none some ls k
 
 module _ (s : List Statement) (x : List ℕ) where
   read_at : (p : ℕ) → at (map (λ l. reads l x) s) p ≡ reads_at (slice_get s p) x
-  read_at p = read_in s p
-    where
-      read_in : (ls : List Statement) (k : ℕ) → at (map (λ l. reads l x) ls) k ≡ reads_at (slice_get ls k) x
-      read_in [] k = refl
-      read_in (l ∷ ls) zero = refl
-      read_in (l ∷ ls) (suc k) = read_in ls k
+  read_at p = at_map (λ l. reads l x) (λ o. reads_at o x) refl (λ l. refl) s p
 
   pub assigned_at : (p : ℕ) → at (map (λ l. assigns l x) s) p ≡ assigns_at (slice_get s p) x
-  assigned_at p = assigned_in s p
-    where
-      assigned_in : (ls : List Statement) (k : ℕ) → at (map (λ l. assigns l x) ls) k ≡ assigns_at (slice_get ls k) x
-      assigned_in [] k = refl
-      assigned_in (l ∷ ls) zero = refl
-      assigned_in (l ∷ ls) (suc k) = assigned_in ls k
+  assigned_at p = at_map (λ l. assigns l x) (λ o. assigns_at o x) refl (λ l. refl) s p
 
   -- the table of the lines that read
   pub readers_partly : (table : List Bool) → table ≡ map (λ l. reads l x) s → IsPartly s x table

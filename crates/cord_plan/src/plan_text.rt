@@ -106,9 +106,7 @@ fn put_made<W: Sink>(made: &Made, sink: &mut W) -> Result<(), WriteFault>
 {
     match made {
         Made::Joined(expression) => put_expression(expression, sink),
-        Made::Literal(text) => {
-            put_called(b"literal(", Count(text.as_slice().len() as u64), sink)
-        }
+        Made::Literal(text) => put_called(b"literal(", Count(text.as_slice().len() as u64), sink),
         Made::OfFile(path) => put_called(b"file(", Path(path), sink),
         Made::OfEager(path) => put_called(b"eager(", Path(path), sink),
         Made::OfLazy(path) => put_called(b"lazy(", Path(path), sink),

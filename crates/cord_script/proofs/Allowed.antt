@@ -111,6 +111,5 @@ block_right Stays blocks h = tt
 block_right OpensRepeat blocks h = ltb-true (length blocks) MAX_BLOCKS (holds (nat_lt (length blocks) MAX_BLOCKS) TooDeep h)
 block_right OpensIf blocks h = ltb-true (length blocks) MAX_BLOCKS (holds (nat_lt (length blocks) MAX_BLOCKS) TooDeep h)
 block_right Turns (InIf line ∷ blocks) h = (line, blocks, refl)
-block_right Turns _ h = cc
-block_right Closes [] h = cc
 block_right Closes (block ∷ blocks) h = λ e. cc
+block_right _ _ h = cc

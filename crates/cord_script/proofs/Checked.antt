@@ -22,11 +22,10 @@ holds false k h = cc
 
 -- a name of this kind
 pub kind_right : (o : Option Kind) (kind : Kind) → kind_error o kind ≡ None → o ≡ Some kind
-kind_right None kind h = cc
 kind_right (Some kinds.Cord) kinds.Cord h = refl
 kind_right (Some kinds.Number) kinds.Number h = refl
 kind_right (Some kinds.Extensible) kinds.Extensible h = refl
-kind_right (Some _) _ h = cc
+kind_right _ _ h = cc
 
 -- a target of this kind
 pub target_right : (o : Option Kind) (kind : Kind) (n : ℕ) → assigned_error o kind n ≡ None → (o ≡ Some kind) ⊎

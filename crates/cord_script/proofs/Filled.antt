@@ -34,14 +34,10 @@ use Rattle.cord_script.proofs.OneStatement.{fixed_made}
 
 -- what a word says where this is wanted
 abbrev OperandOf : Want → Type 0
-OperandOf (wants.Target kind) = List ℕ
-OperandOf (wants.Operand kind) = List ℕ
 OperandOf wants.Number = Number
-OperandOf wants.Text = List ℕ
-OperandOf wants.Path = List ℕ
 OperandOf wants.Function = Function
 OperandOf wants.Relation = Relation
-OperandOf wants.Format = List ℕ
+OperandOf _ = List ℕ
 
 abbrev term : (x : Want) → OperandOf x → Term
 term (wants.Target kind) name = Target kind name
@@ -117,13 +113,12 @@ word_says _ _ h = cc
 abbrev words_say : (xs : List Want) (ws : List Word) → length ws ≡ length xs → first_misfit xs ws ≡ None → (h : OperandsOf xs) ×
     AreTerms ws (terms xs h)
 words_say [] [] e h = (tt, tt)
-words_say [] (w ∷ ws) e h = absurd (omega (arith, e))
-words_say (x ∷ xs) [] e h = absurd (omega (arith, e))
 words_say (x ∷ xs) (w ∷ ws) e h =
     let r = neither (misfit x w) (first_pair misfit xs ws) h in
     let first = word_says x w r.0 in
     let others = words_say xs ws (omega (arith, e)) r.1 in
     ((first.0, others.0), (first.1, others.1))
+words_say _ _ e h = absurd (omega (arith, e))
 
 -- a statement with this word that the words after it say
 pub record IsFilled (word : List ℕ) (form : Form) (n : ℕ) (ws : List Word) (formats : Option (List Want)) : Type 0 where

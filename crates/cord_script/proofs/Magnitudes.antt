@@ -9,10 +9,8 @@ no_smaller n [] = omega arith
 no_smaller n (d ∷ ds) = let r = no_smaller (10 * n + (d - 48)) ds in omega arith
 
 neither_taken : (x y z : Bool) (n : ℕ) → z ≡ false → None ≡ (if (x && y) && z then Some n else None)
-neither_taken true true false n h = refl
-neither_taken true false z n h = refl
-neither_taken false y z n h = refl
 neither_taken true true true n h = cc
+neither_taken _ _ _ n h = refl
 
 -- one digit more than fits
 pub one_too_many : (n d : ℕ) (ds : List ℕ) → 922337203685477580 < n → magnitude_from n (d ∷ ds) ≡ None

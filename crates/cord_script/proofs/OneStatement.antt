@@ -49,12 +49,10 @@ right_words others s is h =
 cords_are : (ws : List Word) (parts : List (List ℕ)) → AreTerms ws (map (Operand kinds.Cord) parts) →
     (cords ws ≡ map want_of (map (Operand kinds.Cord) parts)) × (length ws ≡ length parts)
 cords_are [] [] h = (refl, refl)
-cords_are [] (p ∷ ps) h = absurd h
-cords_are (w ∷ ws) [] h = absurd h
 cords_are (w ∷ ws) (p ∷ ps) h =
     let r = cords_are ws ps h.1 in
-    let lengths = r.1 in
-    (ap (λ k. wants.Operand kinds.Cord ∷ k) r.0, omega arith)
+    (ap (λ k. wants.Operand kinds.Cord ∷ k) r.0, omega (arith, r.1))
+cords_are _ _ h = absurd h
 
 right_catn : (others : List Word) (n : ℕ) (target : List ℕ) (parts : List (List ℕ)) →
     form_of (codes "catn") ≡ Some (record { shape = Joined; effect = Stays }) →
@@ -65,9 +63,8 @@ right_catn (w ∷ ws) n target parts is h suits =
     let r = cords_are ws parts h.1 in
     let same : wants.Target kinds.Cord ∷ cords ws ≡ wants.Target kinds.Cord ∷ map want_of (map (Operand kinds.Cord) parts) =
     ap (λ k. wants.Target kinds.Cord ∷ k) r.0 in
-    let lengths = r.1 in
-    let low : 1 + MIN_PARTS ≤ length (w ∷ ws) = omega (arith, suits.0) in
-    let high : length (w ∷ ws) ≤ 1 + MAX_PARTS = omega (arith, suits.1) in
+    let low : 1 + MIN_PARTS ≤ length (w ∷ ws) = omega (arith, r.1, suits.0) in
+    let high : length (w ∷ ws) ≤ 1 + MAX_PARTS = omega (arith, r.1, suits.1) in
     record {
       form = record { shape = Joined; effect = Stays };
       is = is;
@@ -82,16 +79,13 @@ right_catn (w ∷ ws) n target parts is h suits =
 arguments_are : (ws : List Word) (args : List Argument) → AreTerms ws (map argument_term args) →
     (map want_of (map argument_term args) ≡ map argument_want args) × (length ws ≡ length (map argument_want args))
 arguments_are [] [] h = (refl, refl)
-arguments_are [] (a ∷ more) h = absurd h
-arguments_are (w ∷ ws) [] h = absurd h
 arguments_are (w ∷ ws) (arguments.Number n ∷ more) h =
     let r = arguments_are ws more h.1 in
-    let lengths = r.1 in
-    (ap (λ k. wants.Number ∷ k) r.0, omega arith)
+    (ap (λ k. wants.Number ∷ k) r.0, omega (arith, r.1))
 arguments_are (w ∷ ws) (arguments.Cord name ∷ more) h =
     let r = arguments_are ws more h.1 in
-    let lengths = r.1 in
-    (ap (λ k. wants.Operand kinds.Cord ∷ k) r.0, omega arith)
+    (ap (λ k. wants.Operand kinds.Cord ∷ k) r.0, omega (arith, r.1))
+arguments_are _ _ h = absurd h
 
 print_none : (a b c d : Option RefusalKind) (x : Bool) → a ≡ None → b ≡ None → x ≡ true → c ≡ None →
     first_of (first_of a (first_of b None)) (first_of (unless x WrongCount) c) ≡ None
@@ -173,18 +167,13 @@ one_format one bad _ _ f f' h h' = h ∙ sym h'
 in_grammar : (g : Grammar) (w : List ℕ) → g.has w ≡ true → form_in g w ≡ form_of w
 in_grammar g w h = ap (λ b. if b then form_of w else None) h
 
-error_at : (scope : Scope) (f : Option Form) (form : Form) (ws : List Word) (kind : RefusalKind) → f ≡ Some form →
-    HasFormError scope f ws kind → (formats : Option (List Want)) × HasFormat form.shape ws formats ×
-    (form_error form scope formats ws ≡ Some kind)
-error_at scope f form ws kind e h = subst (λ k. HasFormError scope k ws kind) e h
-
 -- words that say a statement have no error
 pub good_words : OneFormat → BadIsNoFormat → (g : Grammar) (n : ℕ) (scope : Scope) (words : List Word) (s : Statement)
     (kind : RefusalKind) → Says g n scope words s → HasBadWords g scope words kind → ⊥
 good_words one bad g n scope words s kind says h =
     let r = right_form says.others s says.terms says.suits in
     let at = subst (λ ws. HasBadWords g scope ws kind) says.word h in
-    let f = error_at scope (form_in g (word_of s)) r.form says.others kind (in_grammar g (word_of s) says.has ∙ r.is) at in
+    let f = subst (λ k. HasFormError scope k says.others kind) (in_grammar g (word_of s) says.has ∙ r.is) at in
     let formats = one_format one bad r.form.shape says.others f.0 r.formats f.1 r.has in
     let clash : None ≡ Some kind =
     sym (fine_form g n scope words s says r) ∙ ap (λ k. form_error r.form scope k says.others) (sym formats) ∙ f.2 in

@@ -3,7 +3,7 @@ use Rattle.std.specs.Prelude.{◌≡◌, ◌≢◌, ◌≤◌, ◌+◌, ◌∷�
 use Rattle.cord_script.proofs.Common.{inl, inr, Some, None, ℕ, zero, suc, List, [], refl, sym, ◌∙◌, ap, subst, append_assoc, append-nil}
 use Rattle.cord_script.proofs.Common.{length, length-append, arith, Bool, true, false, eqb-true, All, All-cons, eqb-false, MAX_SCRIPT}
 use Rattle.cord_script.proofs.Common.{MAX_LINES, Word, Statement, RefusalKind, NoMemory, IsSplit, IsIdle, HasWords, line_of, Grammar, Scope}
-use Rattle.cord_script.proofs.Common.{Block, ReadsBy, ReadsUpTo, Says, LinesSay, whole, start, after, after_all, InRepeat, InIf, InElse}
+use Rattle.cord_script.proofs.Common.{Block, ReadsBy, ReadsUpTo, Says, LinesSay, whole, start, after, after_all, InRepeat}
 use Rattle.cord_script.proofs.Common.{FirstErrorBy, HasBadLine, IsInnermostOpen, TakesLine, HasWrong}
 
 -- a byte in front of lines
@@ -121,8 +121,7 @@ reached b rest suffix line n scope ss small few r first =
 pub left_found : (blocks : List Block) (n : ℕ) (kind : RefusalKind) → IsInnermostOpen blocks n kind → kind ≢ NoMemory
 left_found [] n kind h = absurd h
 left_found (InRepeat line ∷ blocks) n kind h = λ e. cc
-left_found (InIf line ∷ blocks) n kind h = λ e. cc
-left_found (InElse line ∷ blocks) n kind h = λ e. cc
+left_found (_ ∷ blocks) n kind h = λ e. cc
 
 -- the first line that is wrong
 pub stops : (b rest suffix line : List ℕ) (n : ℕ) (scope : Scope) (ss : List Statement) (kind : RefusalKind) → length b ≤ MAX_SCRIPT →

@@ -2,7 +2,7 @@
 use Rattle.std.specs.Prelude.{◌≡◌, ◌≤◌, ◌+◌, ◌∷◌, ◌⊎◌, ◌++◌}
 use Rattle.cord_script.proofs.Common.{inl, inr, ℕ, List, [], refl, sym, ◌∙◌, ap, subst, length, length-append, arith, OneFormat}
 use Rattle.cord_script.proofs.Common.{BadIsNoFormat, MAX_LINES, Statement, RefusalKind, IsSplit, Grammar, Scope, Block}
-use Rattle.cord_script.proofs.Common.{Says, LinesSay, ReadsBy, start, after, after_all, whole, without_branches, InRepeat, InIf, InElse}
+use Rattle.cord_script.proofs.Common.{Says, LinesSay, ReadsBy, start, after, after_all, whole, without_branches, InRepeat}
 use Rattle.cord_script.proofs.Common.{HasBadWords, HasBadLine, IsFirstWrongAt, IsLeftOpen, FirstErrorBy}
 use Rattle.cord_script.proofs.Unique.{one_words, good_bytes, one_bad_bytes, one_split}
 use Rattle.cord_script.proofs.OneStatement.{good_words, one_bad_words, one_statement}
@@ -150,8 +150,7 @@ one_stop one bad g b m n kind other h k = elim (parted h.prefix k.prefix h.line 
 one_left : (block : Block) (m n : ℕ) (kind other : RefusalKind) → IsLeftOpen block m kind → IsLeftOpen block n other →
     (m ≡ n) × (kind ≡ other)
 one_left (InRepeat line) m n kind other h k = (h.0 ∙ sym k.0, h.1 ∙ sym k.1)
-one_left (InIf line) m n kind other h k = (h.0 ∙ sym k.0, h.1 ∙ sym k.1)
-one_left (InElse line) m n kind other h k = (h.0 ∙ sym k.0, h.1 ∙ sym k.1)
+one_left _ m n kind other h k = (h.0 ∙ sym k.0, h.1 ∙ sym k.1)
 
 -- bytes have one first error
 pub one_error : OneFormat → BadIsNoFormat → (g : Grammar) (b : List ℕ) (m n : ℕ) (kind other : RefusalKind) → FirstErrorBy g b m kind →

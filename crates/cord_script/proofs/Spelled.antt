@@ -31,32 +31,27 @@ same_pair p q h =
     let e = same_Some p q h in
     (ap (λ r. r.0) e, ap (λ r. r.1) e)
 
+-- a byte of a range has its value
+in_range : (low high k c v : ℕ) → k ≤ low → (nat_le low c && nat_le c high) ≡ true → Some (c - k) ≡ Some v →
+    (low ≤ c) × (c ≤ high) × (c ≡ k + v)
+in_range low high k c v within t e =
+    let p = and_parts (nat_le low c) (nat_le c high) t in
+    let l = leb-true low c p.0 in
+    let same = same_Some (c - k) v e in
+    (l, leb-true c high p.1, omega arith)
+
 -- a digit has its value
 pub digit_stands : (c v : ℕ) → digit_of c ≡ Some v → HexDigit c v
-digit_stands c v h = elim (chosen (nat_le 48 c && nat_le c 57) (Some (c - 48))
-    (if nat_le 97 c && nat_le c 102 then Some (c - 87) else (if nat_le 65 c && nat_le c 70 then Some (c - 55) else None)) (Some v) h) [
-      | inl x ↦ let t = and_parts (nat_le 48 c) (nat_le c 57) x.0 in
-          let low = leb-true 48 c t.0 in
-          let high = leb-true c 57 t.1 in
-          let same = same_Some (c - 48) v x.1 in
-          inl (low, high, omega arith)
-      | inr x ↦ elim (chosen (nat_le 97 c && nat_le c 102) (Some (c - 87)) (if nat_le 65 c && nat_le c 70 then Some (c - 55) else None)
-          (Some v) x.1) [
-            | inl y ↦ let t = and_parts (nat_le 97 c) (nat_le c 102) y.0 in
-                let low = leb-true 97 c t.0 in
-                let high = leb-true c 102 t.1 in
-                let same = same_Some (c - 87) v y.1 in
-                inr (inl (low, high, omega arith))
-            | inr y ↦ elim (chosen (nat_le 65 c && nat_le c 70) (Some (c - 55)) None (Some v) y.1) [
-              | inl z ↦ let t = and_parts (nat_le 65 c) (nat_le c 70) z.0 in
-                  let low = leb-true 65 c t.0 in
-                  let high = leb-true c 70 t.1 in
-                  let same = same_Some (c - 55) v z.1 in
-                  inr (inr (low, high, omega arith))
-              | inr z ↦ absurd (let e = z.1 in cc)
-            ]
-          ]
+digit_stands c v h = elim (chosen (nat_le 48 c && nat_le c 57) (Some (c - 48)) _ (Some v) h) [
+  | inl x ↦ inl (in_range 48 57 48 c v (omega arith) x.0 x.1)
+  | inr x ↦ elim (chosen (nat_le 97 c && nat_le c 102) (Some (c - 87)) _ (Some v) x.1) [
+    | inl y ↦ inr (inl (in_range 97 102 87 c v (omega arith) y.0 y.1))
+    | inr y ↦ elim (chosen (nat_le 65 c && nat_le c 70) (Some (c - 55)) None (Some v) y.1) [
+      | inl z ↦ inr (inr (in_range 65 70 55 c v (omega arith) z.0 z.1))
+      | inr z ↦ absurd (let e = z.1 in cc)
     ]
+  ]
+]
 
 byte_stands : (high low : Option ℕ) (h l : ℕ) (rest v : List ℕ) (b : ℕ) → digit_of h ≡ high → digit_of l ≡ low →
     byte_of high low rest ≡ Some (b, v) → (x y : ℕ) × (rest ≡ v) × HexDigit h x × HexDigit l y × (b ≡ 16 * x + y)

@@ -47,9 +47,6 @@ name_begins (c ∷ cs) h =
     let other : c ≢ 45 = omega arith in
     or_from (is_digit c) (c == 45) (above 48 57 c l) (ne_eqb c 45 other)
 
-digits_begin : (c : ℕ) (cs : List ℕ) → are_digits (c ∷ cs) ≡ true → is_digit c ≡ true
-digits_begin c cs h = (and_parts (is_digit c) (each is_digit cs) h).0
-
 -- a numeral begins as one
 pub numeral_begins : (p : List ℕ) (v : ℤ) → numeral_of p ≡ Some v → begins_numeral p ≡ true
 numeral_begins [] v h = cc
@@ -57,7 +54,7 @@ numeral_begins (c ∷ cs) v h = elim (chosen (c == 45) _ _ (Some v) h) [
   | inl x ↦ or_right (is_digit c) (c == 45) x.0
   | inr x ↦ elim (chosen (are_digits (c ∷ cs) && nat_lt (number_after 0 (c ∷ cs)) (2 ^ 63)) (Some (pos (number_after 0 (c ∷ cs)))) None
       (Some v) x.1) [
-        | inl y ↦ or_left (is_digit c) (c == 45) (digits_begin c cs (and_parts (are_digits (c ∷ cs)) _ y.0).0)
+        | inl y ↦ or_left (is_digit c) (c == 45) (and_parts (is_digit c) _ (and_parts (are_digits (c ∷ cs)) _ y.0).0).0
         | inr y ↦ absurd (let e = y.1 in cc)
       ]
 ]
@@ -104,22 +101,19 @@ numeral_known names p v h = ap (λ b. if b then None else kind_error (kind_of na
 -- words that say terms are no misfits
 pub words_fit : (ws : List Word) (ts : List Term) → AreTerms ws ts → first_misfit (map want_of ts) ws ≡ None
 words_fit [] [] h = refl
-words_fit [] (t ∷ ts) h = absurd h
-words_fit (w ∷ ws) [] h = absurd h
 words_fit (w ∷ ws) (t ∷ ts) h = ap (λ k. first_of k (first_misfit (map want_of ts) ws)) (term_right w t h.0) ∙ words_fit ws ts h.1
+words_fit _ _ h = absurd h
 
 -- as many words as terms
 pub terms_count : (ws : List Word) (ts : List Term) → AreTerms ws ts → length ws ≡ length ts
 terms_count [] [] h = refl
-terms_count [] (t ∷ ts) h = absurd h
-terms_count (w ∷ ws) [] h = absurd h
 terms_count (w ∷ ws) (t ∷ ts) h = let r = terms_count ws ts h.1 in omega arith
+terms_count _ _ h = absurd h
 
 one_function : (f g : Function) → function_word f ≡ function_word g → f ≡ g
 one_function Digits Digits h = refl
 one_function Bytes Bytes h = refl
-one_function Digits Bytes h = cc
-one_function Bytes Digits h = cc
+one_function _ _ h = cc
 
 one_relation : (r s : Relation) → relation_word r ≡ relation_word s → r ≡ s
 one_relation Less Less h = refl
@@ -134,56 +128,37 @@ one_relation Greater Equal h = absurd (let clash : 103 ≡ 101 = ap head_or h in
 
 numeral_or_name : (p name : List ℕ) (v : ℤ) → p ≡ name → numeral_of p ≡ Some v → is_name name ≡ true → ⊥
 numeral_or_name p name v e h n =
-    let x = numeral_begins p v h in
-    let y = name_begins name n in
-    let z = ap begins_numeral e in
-    let clash : true ≡ false = sym x ∙ z ∙ y in cc
+    let clash : true ≡ false = sym (numeral_begins p v h) ∙ ap begins_numeral e ∙ name_begins name n in cc
 
 one_number : (w : Word) (a b : Number) → IsTerm w (Value a) → IsTerm w (Value b) → a ≡ b
 one_number w (Numeral v) (Numeral u) h k =
     let same : h.0 ≡ k.0 = let e = sym h.1 ∙ k.1 in cc in
     let values : Some v ≡ Some u = sym h.2 ∙ ap numeral_of same ∙ k.2 in
-    let value : v ≡ u = cc in
-    ap Numeral value
+    cc
 one_number w (Numeral v) (Named name) h k = absurd (numeral_or_name h.0 name v (let e = sym h.1 ∙ k.0 in cc) h.2 k.1)
 one_number w (Named name) (Numeral v) h k = absurd (numeral_or_name k.0 name v (let e = sym k.1 ∙ h.0 in cc) k.2 h.1)
-one_number w (Named a) (Named b) h k = let same : a ≡ b = let e = sym h.0 ∙ k.0 in cc in ap Named same
-
-same_target : (w : Word) (k l : Kind) (a b : List ℕ) → IsTerm w (Target k a) → IsTerm w (Target l b) → wants.Target k ≡ wants.Target l →
-    Target k a ≡ Target l b
-same_target w k l a b h g e =
-    let names : a ≡ b = let q = sym h.0 ∙ g.0 in cc in
-    let kind : k ≡ l = cc in
-    ap (λ x. Target x a) kind ∙ ap (Target l) names
-
-same_operand : (w : Word) (k l : Kind) (a b : List ℕ) → IsTerm w (Operand k a) → IsTerm w (Operand l b) →
-    wants.Operand k ≡ wants.Operand l → Operand k a ≡ Operand l b
-same_operand w k l a b h g e =
-    let names : a ≡ b = let q = sym h.0 ∙ g.0 in cc in
-    let kind : k ≡ l = cc in
-    ap (λ x. Operand x a) kind ∙ ap (Operand l) names
+one_number w (Named a) (Named b) h k = let e = sym h.0 ∙ k.0 in cc
 
 -- a word says one term of a want
 one_term : (w : Word) (t u : Term) → IsTerm w t → IsTerm w u → want_of t ≡ want_of u → t ≡ u
-one_term w (Target k a) (Target l b) h g e = same_target w k l a b h g e
-one_term w (Operand k a) (Operand l b) h g e = same_operand w k l a b h g e
+one_term w (Target k a) (Target l b) h g e = let q = sym h.0 ∙ g.0 in cc
+one_term w (Operand k a) (Operand l b) h g e = let q = sym h.0 ∙ g.0 in cc
 one_term w (Value a) (Value b) h g e = ap Value (one_number w a b h g)
-one_term w (Literal a) (Literal b) h g e = let same : a ≡ b = let q = sym h ∙ g in cc in ap Literal same
-one_term w (FilePath a) (FilePath b) h g e = let same : a ≡ b = let q = sym h.0 ∙ g.0 in cc in ap FilePath same
+one_term w (Literal a) (Literal b) h g e = let q = sym h ∙ g in cc
+one_term w (FilePath a) (FilePath b) h g e = let q = sym h.0 ∙ g.0 in cc
 one_term w (Applies a) (Applies b) h g e = ap Applies (one_function a b (let q = sym h ∙ g in cc))
 one_term w (Compares a) (Compares b) h g e = ap Compares (one_relation a b (let q = sym h ∙ g in cc))
-one_term w (Formats a) (Formats b) h g e = let same : a ≡ b = let q = sym h ∙ g in cc in ap Formats same
+one_term w (Formats a) (Formats b) h g e = let q = sym h ∙ g in cc
 one_term w _ _ h g e = cc
 
 -- words say one list of terms of these wants
 pub one_list : (ws : List Word) (ts us : List Term) → AreTerms ws ts → AreTerms ws us → map want_of ts ≡ map want_of us → ts ≡ us
 one_list [] [] [] h g e = refl
 one_list [] (t ∷ ts) us h g e = absurd h
-one_list [] [] (u ∷ us) h g e = absurd g
 one_list (w ∷ ws) [] us h g e = absurd h
-one_list (w ∷ ws) (t ∷ ts) [] h g e = absurd g
 one_list (w ∷ ws) (t ∷ ts) (u ∷ us) h g e =
     let first : want_of t ≡ want_of u = cc in
     let others : map want_of ts ≡ map want_of us = cc in
     let r = one_list ws ts us h.1 g.1 others in
     ap (λ k. k ∷ ts) (one_term w t u h.0 g.0 first) ∙ ap (λ k. u ∷ k) r
+one_list _ _ _ h g e = absurd g

@@ -3,7 +3,7 @@ use Rattle.std.specs.Prelude.{◌≡◌, ◌≢◌, ◌≤◌, ◌<◌, ◌+◌,
 use Rattle.cord_script.proofs.Common.{inl, inr, Some, None, ℕ, List, [], Bool, true, false, refl, sym, ◌∙◌, ap, subst, append_assoc, length}
 use Rattle.cord_script.proofs.Common.{arith, Option, All, All-head, All-tail, nat_le, leb-true, le-leb, ne_eqb, MAX_TEXT, RefusalKind, Word, Plain, Quoted}
 use Rattle.cord_script.proofs.Common.{IsSplit, IsBlank, IsPlainByte, EndsPlain, Stands, SpellsText, HexDigit, HasWord, HasWords, StartsWith}
-use Rattle.cord_script.proofs.Common.{IsBadEnd, IsBadText, BeginsBadText, HasBadBytes, digit_of, byte_of, escape_of, unit_of}
+use Rattle.cord_script.proofs.Common.{IsBadText, BeginsBadText, HasBadBytes, digit_of, byte_of, escape_of, unit_of}
 use Rattle.cord_script.proofs.Common.{and_from, and_parts, cond-false, cond-true, false_from_ne_true}
 use Rattle.cord_script.proofs.Lines.{split_nil, not_all_blank, one_prefix}
 use Rattle.cord_script.proofs.Spelled.{same_pair, unit_stands}
@@ -13,14 +13,12 @@ within low high c l h = and_from (nat_le low c) (nat_le c high) (le-leb low c l)
 
 pub above : (low high c : ℕ) → high < c → (nat_le low c && nat_le c high) ≡ false
 above low high c h = false_from_ne_true (nat_le low c && nat_le c high) (λ t.
-    let p = and_parts (nat_le low c) (nat_le c high) t in
-    let q = leb-true c high p.1 in
+    let q = leb-true c high (and_parts (nat_le low c) (nat_le c high) t).1 in
     omega arith)
 
 pub below : (low high c : ℕ) → c < low → (nat_le low c && nat_le c high) ≡ false
 below low high c h = false_from_ne_true (nat_le low c && nat_le c high) (λ t.
-    let p = and_parts (nat_le low c) (nat_le c high) t in
-    let q = leb-true low c p.0 in
+    let q = leb-true low c (and_parts (nat_le low c) (nat_le c high) t).0 in
     omega arith)
 
 -- the value of a digit is computed
@@ -44,8 +42,7 @@ digit_read c v (inr (inr h)) =
 self_by : (b : ℕ) (v : List ℕ) (x y : Bool) → x ≡ false → y ≡ false → (if x then escape_of v else (if y then None else Some (b, v)))
     ≡ Some (b, v)
 self_by b v false false p q = refl
-self_by b v false true p q = cc
-self_by b v true y p q = cc
+self_by b v _ _ p q = cc
 
 byte_read : (high low : Option ℕ) (x y : ℕ) (v : List ℕ) → high ≡ Some x → low ≡ Some y → byte_of high low v ≡ Some (16 * x + y, v)
 byte_read high low x y v p q = ap (λ k. byte_of k low v) p ∙ ap (λ k. byte_of (Some x) k v) q
@@ -124,29 +121,19 @@ abbrev pub head_or : List ℕ → ℕ
 head_or [] = 0
 head_or (c ∷ cs) = c
 
-no_quote_after : (r rest suffix : List ℕ) → 34 ∷ r ≡ rest → rest ≡ 92 ∷ suffix → ⊥
-no_quote_after r rest suffix e h =
-    absurd (let clash : 34 ≡ 92 = ap head_or (e ∙ h) in omega (arith, clash))
-
-quote_stuck : (r : List ℕ) → unit_of (34 ∷ r) ≡ None
-quote_stuck r = refl
-
-closed_by : (inner w r t w' rest t' : List ℕ) (kind : RefusalKind) → inner ≡ w ++ 34 ∷ r → SpellsText w t → length t ≤ MAX_TEXT →
-    inner ≡ w' ++ rest → SpellsText w' t' → IsBadEnd t' rest kind → ⊥
-closed_by inner w r t w' rest t' kind e s few e' s' (inl h) =
-    let q = one_text w w' (34 ∷ r) rest t t' s s' (sym e ∙ e') (quote_stuck r) (stuck rest h.2) in
-    no_quote_after r rest h.1.0 q.1 h.1.1
-closed_by inner w r t w' rest t' kind e s few e' s' (inr (inl h)) = not_long inner w' w rest (34 ∷ r) t' t e' s' h.1 h.2 e s few
-    (quote_stuck r)
-closed_by inner w r t w' rest t' kind e s few e' s' (inr (inr h)) =
-    let q = one_text w w' (34 ∷ r) rest t t' s s' (sym e ∙ e') (quote_stuck r) (ap unit_of h.1) in
-    let same : 34 ∷ r ≡ [] = q.1 ∙ h.1 in
-    cc
-
 -- a closed text has no error
 closed_good : (inner w r t : List ℕ) (kind : RefusalKind) → inner ≡ w ++ 34 ∷ r → SpellsText w t → length t ≤ MAX_TEXT → IsBadText inner kind →
     ⊥
-closed_good inner w r t kind e s few h = closed_by inner w r t h.0 h.1 h.2 kind e s few h.3 h.4 h.6
+closed_good inner w r t kind e s few (w', rest, t', e', s', few', inl h) =
+    let q = one_text w w' (34 ∷ r) rest t t' s s' (sym e ∙ e') refl (stuck rest h.2) in
+    let clash : 34 ≡ 92 = ap head_or (q.1 ∙ h.1.1) in
+    omega (arith, clash)
+closed_good inner w r t kind e s few (w', rest, t', e', s', few', inr (inl h)) =
+    not_long inner w' w rest (34 ∷ r) t' t e' s' h.1 h.2 e s few refl
+closed_good inner w r t kind e s few (w', rest, t', e', s', few', inr (inr h)) =
+    let q = one_text w w' (34 ∷ r) rest t t' s s' (sym e ∙ e') refl (ap unit_of h.1) in
+    let same : 34 ∷ r ≡ [] = q.1 ∙ h.1 in
+    cc
 
 -- a text has one error
 pub one_bad_text : (inner : List ℕ) (kind kind' : RefusalKind) → IsBadText inner kind → IsBadText inner kind' → kind ≡ kind'

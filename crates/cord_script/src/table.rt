@@ -1,9 +1,8 @@
 // The names that the lines before assign.
-ghost use Rattle.std.specs.Prelude.{◌≡◌, ◌≢◌, ◌<◌, [], ◌∷◌, ◌++◌, true, Some, None, length, IfOk, IfSome};
+ghost use Rattle.std.specs.Prelude.{◌≡◌, ◌<◌, [], ◌∷◌, ◌++◌, true, Some, None, length, IfOk, IfSome};
 ghost use Rattle.std.specs.Prelude.{MatchOption, OnOk};
 ghost use Rattle.cord_script.specs.Tests.{is_name};
 ghost use Rattle.cord_script.specs.Script.{kind_of, with_name};
-ghost use Rattle.cord_script.specs.FirstErrors.{unless};
 ghost use Rattle.cord_operands.specs.Keys.{key_of};
 
 use crate::kinds::Kind;

@@ -1,6 +1,6 @@
 // Which names are read later than which lines.
 ghost use Rattle.std.specs.Prelude.{◌≡◌, ◌<◌, ◌≤◌, ◌/◌, ◌^◌, ℕ, List, true, false, Some, length, map, get_or};
-ghost use Rattle.std.specs.Prelude.{◌+◌, drop, slice_get, IfOk};
+ghost use Rattle.std.specs.Prelude.{◌+◌, slice_get, IfOk};
 ghost use Rattle.cord_meaning.specs.Statements.{shape_of};
 ghost use Rattle.cord_syntax.specs.declared.statements.Statement.{Statement};
 ghost use Rattle.cord_plan.specs.Operands.{assigns_at, target_of};
@@ -284,9 +284,7 @@ impl<'a> Later<'a> {
     {
         match &self.found {
             Found::ByLines(lines) => line_at(lines, place).target,
-            Found::ByGroups(successors, groups) => {
-                is_live_after(successors, groups, number, place)
-            }
+            Found::ByGroups(successors, groups) => is_live_after(successors, groups, number, place),
         }
     }
 
@@ -306,9 +304,7 @@ impl<'a> Later<'a> {
         match &self.found {
             Found::ByLines(lines) if index < OPERANDS => has_operand(line_at(lines, place), index),
             Found::ByLines(_) => is_read_in(&self.statements[place + 1..], operand),
-            Found::ByGroups(successors, groups) => {
-                is_live_after(successors, groups, number, place)
-            }
+            Found::ByGroups(successors, groups) => is_live_after(successors, groups, number, place),
         }
     }
 }

@@ -5,7 +5,8 @@ ghost use Rattle.cord_plan.specs.Operands.{cord_arguments, reads, assigns};
 ghost use Rattle.cord_plan.specs.inner.Liveness.{simple_operands};
 
 use cord_script::{Argument, Name, Statement};
-use cord_syntax::{Family, Operands, Reading};
+use cord_syntax::Operands::{self, Listed, Nothing, One, Two};
+use cord_syntax::{Family, Reading};
 
 /// The cord operands of a line for which an expression stands; of other lines there are none.
 #[inline(always)]
@@ -14,7 +15,7 @@ pub(crate) fn operands_of(statement: &Statement) -> Option<Operands<'_>>
 {
     match statement.family() {
         Family::Composition(composition) => Some(composition.operands()),
-        Family::Put { operand } => Some(Operands::One(operand)),
+        Family::Put { operand } => Some(One(operand)),
         Family::Origin(_)
         | Family::Derivation(_)
         | Family::Computation(_)
@@ -46,16 +47,12 @@ pub(crate) fn first_read(reading: Reading<'_>) -> Option<(&Name, Reading<'_>)>
         read_names reading.entry ≡ r.0.now ∷ read_names r.1) }
 {
     match reading {
-        Reading::Operands(Operands::Nothing) => None,
-        Reading::Operands(Operands::One(name)) => {
-            Some((name, Reading::Operands(Operands::Nothing)))
-        }
-        Reading::Operands(Operands::Two(left, right)) => {
-            Some((left, Reading::Operands(Operands::One(right))))
-        }
-        Reading::Operands(Operands::Listed(names)) => match names {
+        Reading::Operands(Nothing) => None,
+        Reading::Operands(One(name)) => Some((name, Reading::Operands(Nothing))),
+        Reading::Operands(Two(left, right)) => Some((left, Reading::Operands(One(right)))),
+        Reading::Operands(Listed(names)) => match names {
             [] => None,
-            [first, rest @ ..] => Some((first, Reading::Operands(Operands::Listed(rest)))),
+            [first, rest @ ..] => Some((first, Reading::Operands(Listed(rest)))),
         },
         Reading::Printed(arguments) => {
             let (name, rest) = first_cord(arguments)?;

@@ -6,8 +6,7 @@ ghost use Rattle.cord_meaning.specs.Paths.{opened, open_at};
 ghost use Rattle.cord_meaning.specs.Statements.{shape_of};
 ghost use Rattle.cord_plan.specs.Inlined.{is_block};
 ghost use Rattle.cord_plan.specs.Liveness.{successors};
-ghost use Rattle.cord_plan.specs.inner.Liveness.{shape_view, turn_of, innermost, places};
-ghost use Rattle.cord_plan.specs.inner.Liveness.{ArePaths, NoBlocks};
+ghost use Rattle.cord_plan.specs.inner.Liveness.{shape_view, turn_of, innermost, places, ArePaths, NoBlocks};
 
 use cord_script::Statement;
 use cord_syntax::{Control, Family};

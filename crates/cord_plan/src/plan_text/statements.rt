@@ -37,12 +37,12 @@ fn put_look<W: Sink>(look: Look, sink: &mut W) -> Result<(), WriteFault>
             target,
             operand,
             index,
-        } => put_counted(target, b"fetch", &[Name(operand), Number(index)], sink),
+        } => put_given(target, b"fetch", &[Name(operand), Number(index)], sink),
         Look::Cmp {
             target,
             left,
             right,
-        } => put_counted(target, b"cmp", &[Name(left), Name(right)], sink),
+        } => put_given(target, b"cmp", &[Name(left), Name(right)], sink),
         Look::Ncmp {
             target,
             left,
@@ -58,7 +58,7 @@ fn put_look<W: Sink>(look: Look, sink: &mut W) -> Result<(), WriteFault>
                 Number(right_start.as_ref()),
                 Number(count.as_ref()),
             ];
-            put_counted(target, b"ncmp", &operands, sink)
+            put_given(target, b"ncmp", &operands, sink)
         }
     }
 }
@@ -74,7 +74,7 @@ fn put_search<W: Sink>(sought: Search, sink: &mut W) -> Result<(), WriteFault>
             operand,
             start,
             pattern,
-        } => put_counted(
+        } => put_given(
             target,
             b"str",
             &[Name(operand), Number(start), Name(pattern)],
@@ -85,7 +85,7 @@ fn put_search<W: Sink>(sought: Search, sink: &mut W) -> Result<(), WriteFault>
             operand,
             start,
             byte,
-        } => put_counted(
+        } => put_given(
             target,
             b"chr",
             &[Name(operand), Number(start), Number(byte)],
@@ -96,7 +96,7 @@ fn put_search<W: Sink>(sought: Search, sink: &mut W) -> Result<(), WriteFault>
             operand,
             start,
             byte,
-        } => put_counted(
+        } => put_given(
             target,
             b"rchr",
             &[Name(operand), Number(start), Number(byte)],
@@ -111,23 +111,18 @@ fn put_computation<W: Sink>(computation: Computation, sink: &mut W) -> Result<()
         sink.old sink.new result }
 {
     match computation {
-        Computation::Len { target, operand } => put_counted(target, b"len", &[Name(operand)], sink),
-        Computation::Assign { target, value } => put_counted(
-            target,
-            b"set",
-            &[Number(value)],
-            sink,
-        ),
+        Computation::Len { target, operand } => put_given(target, b"len", &[Name(operand)], sink),
+        Computation::Assign { target, value } => put_given(target, b"set", &[Number(value)], sink),
         Computation::Add {
             target,
             left,
             right,
-        } => put_counted(target, b"add", &[Number(left), Number(right)], sink),
+        } => put_given(target, b"add", &[Number(left), Number(right)], sink),
         Computation::Sub {
             target,
             left,
             right,
-        } => put_counted(target, b"sub", &[Number(left), Number(right)], sink),
+        } => put_given(target, b"sub", &[Number(left), Number(right)], sink),
     }
 }
 
@@ -202,7 +197,7 @@ fn put_control<W: Sink>(control: Control, sink: &mut W) -> Result<(), WriteFault
 }
 
 // Hands a sink the text of a statement that gives a number its value: `number N word(operands)`.
-fn put_counted<'a, W: Sink>(
+fn put_given<'a, W: Sink>(
     target: &'a cord_script::Name,
     word: &'a [u8],
     operands: &[Fragment],

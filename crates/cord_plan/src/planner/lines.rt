@@ -23,9 +23,7 @@ pub(crate) fn operation_of(
 {
     let line = statement.line();
     match statement.family() {
-        Family::Composition(composition) => {
-            operation_of_composition(line, composition, expression, dead)
-        }
+        Family::Composition(composition) => composed(line, composition, expression, dead),
         Family::Put { .. } => Ok(Operation::Write {
             line,
             expression: or_nothing(expression.take()),
@@ -41,7 +39,7 @@ pub(crate) fn operation_of(
 }
 
 // The operation of a line that makes a cord for which an expression stands.
-fn operation_of_composition(
+fn composed(
     line: u32,
     composition: Composition,
     expression: &mut Option<Expr>,
@@ -59,7 +57,7 @@ fn operation_of_composition(
         | Composition::Catc { target, .. }
         | Composition::Substr { target, .. } => {
             let made = Made::Joined(or_nothing(expression.take()));
-            copied_assignment(dead, line, target, made)
+            gives(dead, line, target, made)
         }
     }
 }
@@ -70,25 +68,17 @@ fn operation_of_origin(line: u32, origin: Origin, dead: bool) -> Result<Operatio
         operation_view o ≡ plan.operation (statement_of line (Family.Origin origin.entry)) e dead paired) }
 {
     match origin {
-        Origin::Let { target, text } => {
-            copied_assignment(dead, line, target, Made::Literal(text.clone()?))
-        }
-        Origin::File { target, path } => {
-            copied_assignment(dead, line, target, Made::OfFile(path.clone()?))
-        }
-        Origin::Eager { target, path } => {
-            copied_assignment(dead, line, target, Made::OfEager(path.clone()?))
-        }
-        Origin::Lazy { target, path } => {
-            copied_assignment(dead, line, target, Made::OfLazy(path.clone()?))
-        }
+        Origin::Let { target, text } => gives(dead, line, target, Made::Literal(text.clone()?)),
+        Origin::File { target, path } => gives(dead, line, target, Made::OfFile(path.clone()?)),
+        Origin::Eager { target, path } => gives(dead, line, target, Made::OfEager(path.clone()?)),
+        Origin::Lazy { target, path } => gives(dead, line, target, Made::OfLazy(path.clone()?)),
         Origin::FromFn {
             target,
             function,
             count,
         } => {
             let made = Made::OfFunction(function, count.clone()?);
-            copied_assignment(dead, line, target, made)
+            gives(dead, line, target, made)
         }
     }
 }
@@ -104,17 +94,17 @@ fn operation_of_derivation(
 {
     match derivation {
         Derivation::Balance { target, operand } => {
-            copied_assignment(dead, line, target, Made::Balanced(operand.clone()?))
+            gives(dead, line, target, Made::Balanced(operand.clone()?))
         }
         Derivation::EcToCord { target, extensible } => {
-            copied_assignment(dead, line, target, Made::OfExtensible(extensible.clone()?))
+            gives(dead, line, target, Made::OfExtensible(extensible.clone()?))
         }
         Derivation::Sprintf {
             target,
             text,
             format,
             arguments,
-        } => copied_assignment(dead, line, target, printed(text, format, arguments)?),
+        } => gives(dead, line, target, printed(text, format, arguments)?),
     }
 }
 
@@ -131,12 +121,7 @@ fn printed(
 }
 
 // The operation that gives a copy of a name what it is made of, or computes the length of that alone.
-fn copied_assignment(
-    measures: bool,
-    line: u32,
-    target: &Name,
-    made: Made,
-) -> Result<Operation, AllocError>
+fn gives(measures: bool, line: u32, target: &Name, made: Made) -> Result<Operation, AllocError>
     ensures made { IfOk result (λ o. operation_view o ≡ plan.gives measures line target.now (made_view made)) }
 {
     match target.clone() {

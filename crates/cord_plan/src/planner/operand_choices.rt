@@ -1,6 +1,6 @@
 // What stands for the operands of a line: their names, or expressions of earlier lines.
 ghost use Rattle.std.specs.Prelude.{◌≡◌, ◌==◌, ◌+◌, ◌-◌, ◌<◌, ◌++◌, ◌∷◌, ◌||◌, ℕ, List, Option, Some};
-ghost use Rattle.std.specs.Prelude.{IfOk, IfSome, drop, length, map, not, option_map, slice_get};
+ghost use Rattle.std.specs.Prelude.{IfOk, IfSome, drop, length, map, option_map, slice_get};
 ghost use Rattle.cord_plan.specs.Exprs as plain;
 ghost use Rattle.cord_plan.specs.Exprs.{names, name, parts};
 ghost use Rattle.cord_syntax.specs.declared.statements.Statement.{Statement};
@@ -12,7 +12,6 @@ ghost use Rattle.cord_plan.specs.inner.Choices.{is_named, operation_expression, 
 ghost use Rattle.cord_syntax.specs.Readings.{operand_names};
 ghost use Rattle.cord_plan.specs.inner.Liveness.{reports};
 ghost use Rattle.cord_plan.specs.Views.{expr_view, operation_view};
-ghost use Rattle.std.specs.Str.{bytes_eq};
 
 use crate::flow::{LineNumbers, Recent, assigns, number_at};
 use crate::planner::expression_facts::{ExpressionFacts, Facts};
@@ -67,20 +66,14 @@ fn is_once_in(operands: &[Name], name: &Name) -> bool
     times == 1
 }
 
-fn is(operand: &Name, name: &Name) -> bool
-    ensures { result ≡ bytes_eq name.now operand.now }
-{
-    name.is(operand)
-}
-
 // Whether a name is one of the operands, and only once.
 fn is_named_once(operands: Operands, name: &Name) -> bool
     ensures { result ≡ (count name.now (operand_names operands.entry) == 1) }
 {
     match operands {
         Operands::Nothing => false,
-        Operands::One(operand) => is(operand, name),
-        Operands::Two(left, right) => is(left, name) != is(right, name),
+        Operands::One(operand) => name.is(operand),
+        Operands::Two(left, right) => name.is(left) != name.is(right),
         Operands::Listed(names) => is_once_in(names, name),
     }
 }
@@ -247,9 +240,7 @@ pub(crate) fn is_last(choice: &Choice, place: usize) -> bool
 {
     match choice {
         Choice::Named(_) => false,
-        Choice::Replaced(source, expression) => {
-            place.saturating_sub(*source) == 1 && is_cat(expression)
-        }
+        Choice::Replaced(source, made) => place.saturating_sub(*source) == 1 && is_cat(made),
     }
 }
 

@@ -2,7 +2,7 @@ use Rattle.std.specs.Prelude.{◌≡◌, ◌∷◌, ◌++◌}
 use Rattle.cord_plan.proofs.Common.{List, ℕ, [], map, sym, ap, ◌∙◌, append_assoc, codes, called, spaced, fragment_text}
 use Rattle.cord_plan.proofs.Spacing.{two_words}
 use Rattle.cord_plan.proofs.Writing.{writes_same, writes_then, writes_stopped, writes_failed}
-use Rattle.cord_plan.proofs.plan_text.statements.put_counted.Goals as goal
+use Rattle.cord_plan.proofs.plan_text.statements.put_given.Goals as goal
 
 -- the head of the text, and its operands
 opened : (target word operands : List ℕ) → (codes "number " ++ (target ++ 32 ∷ (word ++ 40 ∷ []))) ++ (operands ++ 41 ∷ [])
