@@ -3,6 +3,7 @@
 #include <malloc.h>
 #include <stdio.h>
 #include <stdlib.h>
+#include <string.h>
 #include <zomtsje.h>
 
 static void must(int code) {
@@ -98,9 +99,14 @@ static uint64_t place_of(zc_cord *text, uint64_t start, unsigned char byte) {
 }
 
 uint64_t zomtsje_lines(void *text) {
-    uint64_t total = 0;
-    for (uint64_t end = place_of(text, 0, '\n'); end != ZC_NOT_FOUND; end = place_of(text, end + 1, '\n'))
-        total += end;
+    static zc_chunks chunks = ZC_CHUNKS_EMPTY;
+    uint64_t total = 0, begin = 0;
+    must(zc_chunks_set(text, 0, &chunks));
+    for (; zc_chunks_next(&chunks) != 0; begin += chunks.count) {
+        const unsigned char *at = chunks.bytes, *end = at + chunks.count;
+        while ((at = memchr(at, '\n', (size_t)(end - at))) != NULL) total += begin + (uint64_t)(at++ - chunks.bytes);
+    }
+    zc_chunks_free(&chunks);
     return total;
 }
 
