@@ -980,7 +980,7 @@ static void walks_far(void) {
 static void expect_chunk(zc_chunks *chunks, const char *bytes, size_t count, int line) {
     expect(zc_chunks_next(chunks) == count, "the number that the call gives", line);
     expect(chunks->count == count, "the number of the chunk's bytes", line);
-    expect(memcmp(chunks->bytes, bytes, count) == 0, "the chunk's bytes", line);
+    expect(count == 0 || memcmp(chunks->bytes, bytes, count) == 0, "the chunk's bytes", line);
 }
 #define EXPECT_CHUNK(chunks, text) expect_chunk((chunks), (text), sizeof(text) - 1, __LINE__)
 
@@ -1016,7 +1016,7 @@ static void chunks_in_order(void) {
 static void expect_chunk_before(zc_chunks *chunks, const char *bytes, size_t count, int line) {
     expect(zc_chunks_prev(chunks) == count, "the number that the call gives", line);
     expect(chunks->count == count, "the number of the chunk's bytes", line);
-    expect(memcmp(chunks->bytes, bytes, count) == 0, "the chunk's bytes", line);
+    expect(count == 0 || memcmp(chunks->bytes, bytes, count) == 0, "the chunk's bytes", line);
 }
 #define EXPECT_CHUNK_BEFORE(chunks, text) expect_chunk_before((chunks), (text), sizeof(text) - 1, __LINE__)
 
@@ -1072,6 +1072,32 @@ static void long_chunks(void) {
     zc_chunks_free(&chunks);
     zc_free(&a);
     zc_free(&b);
+}
+
+/* A long leaf is one chunk, which stays where the cord was freed; a leaf of fewer than 512 bytes is copied with more. */
+static void lent_chunks(void) {
+    char bytes[5000];
+    zc_cord a = ZC_EMPTY;
+    zc_chunks chunks = ZC_CHUNKS_EMPTY;
+    for (size_t i = 0; i < sizeof bytes; i++) bytes[i] = (char)('a' + i % 26);
+    DO(zc_from_bytes(bytes, sizeof bytes, &a));
+    DO(zc_cat_bytes(&a, bytes, 511, &a));
+    DO(zc_cat_bytes(&a, bytes, 512, &a));
+    DO(zc_chunks_set(&a, 0, &chunks));
+    zc_free(&a);
+    EXPECT(zc_chunks_next(&chunks) == 5000 && memcmp(chunks.bytes, bytes, 5000) == 0);
+    EXPECT(chunks.bytes != chunks.room);
+    EXPECT(zc_chunks_next(&chunks) == 1023 && memcmp(chunks.bytes + 511, bytes, 512) == 0);
+    EXPECT(chunks.bytes == chunks.room);
+    EXPECT(zc_chunks_next(&chunks) == 0);
+    zc_chunks_move(&chunks, 5511);
+    EXPECT(zc_chunks_next(&chunks) == 512 && chunks.bytes != chunks.room && memcmp(chunks.bytes, bytes, 512) == 0);
+    EXPECT(zc_chunks_prev(&chunks) == 4096 && chunks.bytes == chunks.room && chunks.bytes[0] == bytes[1415]);
+    zc_chunks_move(&chunks, 4488);
+    EXPECT(zc_chunks_next(&chunks) == 512 && chunks.bytes != chunks.room && chunks.bytes[0] == bytes[4488]);
+    zc_chunks_move(&chunks, 4489);
+    EXPECT(zc_chunks_next(&chunks) == 1534 && chunks.bytes == chunks.room && chunks.bytes[511] == 'a');
+    zc_chunks_free(&chunks);
 }
 
 /* Puts bytes to a file, from this place on. */
@@ -1824,6 +1850,7 @@ int main(int count, char **words) {
     chunks_in_order();
     chunks_from_the_back();
     long_chunks();
+    lent_chunks();
     files();
     paths();
     formats();

@@ -400,9 +400,10 @@ static inline void zc_pos_prev_here(zc_pos *position) {
 
 /* ---- chunks ---- */
 
-/* A cord that is gone over, and the chunk of it that was reached: count bytes at bytes, which are a copy and stay until
-   the next call; they are only read. It owns a share of the cord, so it is never copied, and the cord may be freed before
-   it. Begin with ZC_CHUNKS_EMPTY or zeros, end with zc_chunks_free:
+/* A cord that is gone over, and the chunk of it that was reached: count bytes at bytes, which stay until the next call;
+   they are only read. A leaf of 512 bytes or more is lent as it lies in the cord, and of others up to 4,096 bytes are
+   copied to room, so the struct isn't moved while they are read. It owns a share of the cord, so it is never copied,
+   and the cord may be freed before it. Begin with ZC_CHUNKS_EMPTY or zeros, end with zc_chunks_free:
 
        if (zc_chunks_set(&x, 0, &chunks) == ZC_OK)
            while (zc_chunks_next(&chunks) != 0) fwrite(chunks.bytes, 1, chunks.count, stdout);
@@ -412,17 +413,21 @@ typedef struct zc_chunks {
     uint64_t length;
     uint64_t next;
     size_t count;
-    unsigned char bytes[4096];
+    const unsigned char *bytes;
+    void *lender;
+    const unsigned char *lent;
+    size_t lent_count;
+    unsigned char room[4096];
 } zc_chunks;
 
-#define ZC_CHUNKS_EMPTY {ZC_EMPTY, 0, 0, 0, {0}}
+#define ZC_CHUNKS_EMPTY {ZC_EMPTY, 0, 0, 0, 0, 0, 0, 0, {0}}
 
 /* Goes over the bytes of x from start on from now on: none where start is at or past the end. There is no chunk yet.
    ZC_NO_MEMORY: chunks stays. O(1). */
 int zc_chunks_set(const zc_cord *x, uint64_t start, zc_chunks *chunks);
 
-/* Goes to the next chunk, of at most 4,096 bytes, and gives its count: 0 at the end, and of null. It takes no memory.
-   O(count + d). */
+/* Goes to the next chunk, and gives its count: 0 at the end, and of null. It takes no memory. O(d) where a leaf is lent,
+   and O(count + d) where bytes are copied. */
 size_t zc_chunks_next(zc_chunks *chunks);
 
 /* Goes to the chunk of at most 4,096 bytes that ends where the present one begins, and gives its count: 0 at the

@@ -41,11 +41,11 @@ use Rattle.cord_c.proofs.handle.Handle.TheLaws as handle_laws
 abbrev pub heap_val : Val
 heap_val = vstruct (vcons (vstruct (vcons vunit vnil)) vnil)
 
-heap_is : (a : Global) → Is heap.the_row a (heap_val ∷ [])
+pub heap_is : (a : Global) → Is heap.the_row a (heap_val ∷ [])
 heap_is a = ((vstruct (vcons vunit vnil) ∷ [], tt), (refl, (((vunit ∷ [], tt), (refl, (refl, tt))), tt)))
 
 -- and owns nothing
-heap_plain : (a : Global) (vs : List Val) → Pure (heap.the_row.own_val a vs)
+pub heap_plain : (a : Global) (vs : List Val) → Pure (heap.the_row.own_val a vs)
 heap_plain a vs = heap_laws.the_field_plain (heap.the_type.to a) vs
 
 pub heap_typed : Yes (has_ty (lone heap.the_row.mir) heap_val) × WT heap_val

@@ -1,4 +1,5 @@
 pub mod Handles
+pub mod Loans
 pub mod Lists
 pub mod Scanning
 pub mod Parts

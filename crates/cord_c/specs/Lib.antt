@@ -8,6 +8,8 @@ pub mod Referent
 pub mod Lazy
 pub mod LineIndexes
 pub mod Lists
+pub mod Loans
 pub mod Positions
 pub mod Prints
+pub mod Shown
 pub mod inner

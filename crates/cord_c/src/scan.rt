@@ -9,7 +9,7 @@ use crate::chunks::CHUNK;
 use crate::code::{NO_MEMORY, NULL_POINTER, OK};
 use crate::pointer::{either_missing, missing};
 use crate::referent::Referent;
-use crate::{Chunks, Handle};
+use crate::{Chunks, Handle, Loan};
 use std::alloc::Global;
 
 /// Goes over the bytes of `x` from `start` on from now on. `zc_chunks_next` gives the first chunk.
@@ -37,9 +37,16 @@ pub extern "C" fn zc_chunks_set(
         return NO_MEMORY;
     };
     let len = text.len();
+    let Ok(shared) = text.share(alloc) else {
+        return NO_MEMORY;
+    };
+    let Ok(loan) = Loan::make(alloc, shared) else {
+        return NO_MEMORY;
+    };
     if chunks.text.keep(alloc, Referent::Text(text)) != OK {
         return NO_MEMORY;
     }
+    chunks.loan = loan;
     chunks.len = len;
     chunks.next = start.min(len);
     chunks.count = 0;
@@ -48,7 +55,7 @@ pub extern "C" fn zc_chunks_set(
 
 /// Goes to the next chunk, and answers how many bytes it has: 0 where no bytes are left.
 #[unsafe(no_mangle)]
-pub extern "C" fn zc_chunks_next(chunks: &mut Chunks) -> usize
+pub extern "C" fn zc_chunks_next(alloc: Global, chunks: &mut Chunks) -> usize
     requires places { Testable (as_mut_ptr chunks) }
     ensures before { before_of chunks.new ≡ before_of chunks.old ++ chunk_of chunks.old }
     ensures chunk { chunk_of chunks.new ++ left_of chunks.new ≡ left_of chunks.old }
@@ -58,7 +65,11 @@ pub extern "C" fn zc_chunks_next(chunks: &mut Chunks) -> usize
     if missing(chunks) {
         return 0;
     }
-    let count = chunks.text.copy_to(chunks.next, &mut chunks.bytes);
+    chunks.loan.move_to(alloc, chunks.next);
+    let mut count = chunks.loan.count();
+    if count == 0 {
+        count = chunks.text.copy_to(chunks.next, &mut chunks.room);
+    }
     chunks.count = count;
     chunks.next += count as u64;
     count
@@ -66,7 +77,7 @@ pub extern "C" fn zc_chunks_next(chunks: &mut Chunks) -> usize
 
 /// Goes to the chunk before the one that is looked at, and answers how many bytes it has: 0 where no bytes are before it.
 #[unsafe(no_mangle)]
-pub extern "C" fn zc_chunks_prev(chunks: &mut Chunks) -> usize
+pub extern "C" fn zc_chunks_prev(alloc: Global, chunks: &mut Chunks) -> usize
     requires places { Testable (as_mut_ptr chunks) }
     ensures left { left_of chunks.new ≡ chunk_of chunks.old ++ left_of chunks.old }
     ensures chunk { before_of chunks.new ++ chunk_of chunks.new ≡ before_of chunks.old }
@@ -78,7 +89,8 @@ pub extern "C" fn zc_chunks_prev(chunks: &mut Chunks) -> usize
     }
     let end = chunks.next - chunks.count as u64;
     let start = end.saturating_sub(CHUNK as u64);
-    chunks.text.copy_to(start, &mut chunks.bytes);
+    chunks.loan.move_to(alloc, chunks.len);
+    chunks.text.copy_to(start, &mut chunks.room);
     chunks.next = end;
     chunks.count = (end - start) as usize;
     chunks.count
@@ -121,6 +133,7 @@ impl Chunks {
         ensures none { chunk_of self.new ≡ [] }
     {
         self.text = Handle::empty(alloc);
+        self.loan = Loan::empty(alloc);
         self.len = 0;
         self.next = 0;
         self.count = 0;
