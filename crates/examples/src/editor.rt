@@ -36,7 +36,7 @@ use anyhow::Result;
 use buffer::Buffer;
 use command::Command;
 use cord::{StdSink, Text};
-use edit::edited;
+use edit::{edited, first_place};
 use refusal::Refusal;
 use std::alloc::Global;
 use std::io::ErrorKind;
@@ -57,8 +57,7 @@ fn obey(alloc: Global, buffer: &mut Buffer, command: &Command<'_>) -> Result<Tex
 
 /// The first place of a text, on a line of its own.
 fn place_of(alloc: Global, text: &Text, wanted: &str) -> Result<Text, Refusal> {
-    let found = text.find(alloc, wanted.as_bytes(), 0)?;
-    let place = found.ok_or(Refusal::NotFound)?;
+    let place = first_place(alloc, text, wanted)?;
     let line = format!(in alloc; "{place}\n")?;
     Ok(Text::from_str(alloc, line.as_str())?)
 }

@@ -19,12 +19,15 @@ fn run(rt: &HostRuntime, words: &[String]) -> Result<()> {
         [name] if name.as_str() == "editor" => editor::run(rt),
         [name] if name.as_str() == "report" => report::run(rt),
         [name, others @ ..] if name.as_str() == "assembler" => assembler::run(rt, others),
-        _ => {
-            editor::run(rt)?;
-            report::run(rt)?;
-            assembler::run(rt, words)
-        }
+        _ => run_all(rt, words),
     }
+}
+
+/// Runs all three programs, one after the other.
+fn run_all(rt: &HostRuntime, words: &[String]) -> Result<()> {
+    editor::run(rt)?;
+    report::run(rt)?;
+    assembler::run(rt, words)
 }
 
 fn main(rt: HostRuntime) -> Result<()> {

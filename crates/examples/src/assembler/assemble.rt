@@ -22,13 +22,21 @@ pub fn write_range<S: Source, W: Sink>(
         (W.taken out.new ≡ W.taken out.old ++ take count (drop from
         (meaning (S.table src.old file_system) segments.now))) }
 {
+    let text = text_of(alloc, src, segments)?;
+    let range = text.substr(alloc, from, count)?;
+    put(&range, src, out)
+}
+
+/// The text of a template.
+fn text_of<S: Source>(alloc: Global, src: &S, segments: &[Segment<'_>]) -> Result<Cord, CordError>
+    ensures { IfOk result (Means (S.lengths src.now) (λ t. meaning t segments.now)) }
+{
     let mut text = Cord::empty();
     for segment in segments {
         let next = cord_of(alloc, src, segment)?;
         text = Cord::cat(alloc, &text, &next)?;
     }
-    let range = text.substr(alloc, from, count)?;
-    put(&range, src, out)
+    Ok(text)
 }
 
 /// The text of a segment.

@@ -31,23 +31,28 @@ impl<'a> Command<'a> {
 
 /// Reads what follows the name of an edit.
 fn edit_of<'a>(name: &str, rest: &'a str) -> Result<Edit<'a>, Refusal> {
-    let edit = match name {
-        "append" => Edit::Append(rest),
-        "insert" => {
-            let (place, text) = split_number(rest)?;
-            Edit::Insert(place, text)
-        }
-        "delete" => {
-            let (place, count) = split_number(rest)?;
-            Edit::Delete(place, number(count)?)
-        }
-        "replace" => {
-            let (old, new) = rest.split_once('/').ok_or(Refusal::NoSlash)?;
-            Edit::Replace(old, new)
-        }
-        _ => return Err(Refusal::NoSuchCommand),
-    };
-    Ok(edit)
+    match name {
+        "append" => Ok(Edit::Append(rest)),
+        "insert" => insertion_of(rest),
+        "delete" => deletion_of(rest),
+        "replace" => replacement_of(rest),
+        _ => Err(Refusal::NoSuchCommand),
+    }
+}
+
+fn insertion_of(rest: &str) -> Result<Edit<'_>, Refusal> {
+    let (place, text) = split_number(rest)?;
+    Ok(Edit::Insert(place, text))
+}
+
+fn deletion_of(rest: &str) -> Result<Edit<'_>, Refusal> {
+    let (place, count) = split_number(rest)?;
+    Ok(Edit::Delete(place, number(count)?))
+}
+
+fn replacement_of(rest: &str) -> Result<Edit<'_>, Refusal> {
+    let (old, new) = rest.split_once('/').ok_or(Refusal::NoSlash)?;
+    Ok(Edit::Replace(old, new))
 }
 
 /// The number that a text begins with, and what follows the space after it.

@@ -1,5 +1,6 @@
 //! Edits, each of which makes a new text of an old one.
-ghost use Rattle.std.specs.Prelude.{IfOk};
+ghost use Rattle.std.specs.Prelude.{◌≡◌, Some, IfOk};
+ghost use Rattle.cord_core.specs.Texts.{first};
 ghost use Rattle.examples.specs.Edits.{IsEdited};
 ghost use Rattle.examples.specs.declared.editor.edit.Edit.TheVariants.{Append, Insert, Delete, Replace};
 
@@ -58,11 +59,18 @@ fn deleted(alloc: Global, text: &Text, place: u64, count: u64) -> Result<Text, R
     Ok(text.remove(alloc, place, count)?)
 }
 
+/// The first place of a text in another one.
+pub fn first_place(alloc: Global, text: &Text, wanted: &str) -> Result<u64, Refusal>
+    ensures { IfOk result (λ place. first text.now 0 wanted.now ≡ Some place) }
+{
+    let found = text.find(alloc, wanted.as_bytes(), 0)?;
+    found.ok_or(Refusal::NotFound)
+}
+
 fn replaced(alloc: Global, text: &Text, old: &str, new: &str) -> Result<Text, Refusal>
     ensures { IfOk result (IsEdited (Replace old.entry new.entry) text.now) }
 {
-    let found = text.find(alloc, old.as_bytes(), 0)?;
-    let place = found.ok_or(Refusal::NotFound)?;
+    let place = first_place(alloc, text, old)?;
     let new = Text::from_str(alloc, new)?;
     Ok(text.replace_range(alloc, place, old.len() as u64, &new)?)
 }

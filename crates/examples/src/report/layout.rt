@@ -47,13 +47,14 @@ impl Layout {
         ensures { IfOk result (λ t. t ≡ printed (λ b. b) self.now.row (row_arguments entry.now)) }
     {
         let name = Text::from_str(alloc, entry.name)?;
+        let amount = entry.amount();
         let args = [
             TextArg::Text(&name),
             TextArg::Num(entry.count.into()),
             TextArg::Num((entry.price / 100).into()),
             TextArg::Num((entry.price % 100).into()),
-            TextArg::Num((entry.amount() / 100) as i64),
-            TextArg::Num((entry.amount() % 100) as i64),
+            TextArg::Num((amount / 100) as i64),
+            TextArg::Num((amount % 100) as i64),
         ];
         Ok(Text::print(alloc, &self.row, &args)?)
     }

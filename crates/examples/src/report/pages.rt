@@ -86,6 +86,11 @@ impl Report {
     /// The whole report: each page under its head, and then the notes.
     pub fn finish(&mut self, alloc: Global) -> Result<Text> {
         self.end_page(alloc, "Total")?;
+        self.whole(alloc)
+    }
+
+    /// The text of all pages that have ended.
+    fn whole(&mut self, alloc: Global) -> Result<Text> {
         let mut report = TextBuilder::new(alloc)?;
         self.put_all(alloc, &mut report)?;
         Ok(report.to_text(alloc)?)
