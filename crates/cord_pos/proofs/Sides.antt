@@ -1,7 +1,7 @@
 -- A node is a part, or has a side that holds its index: what is said of it, by what is said of the side.
 use Rattle.std.proofs.Common.{◌≡◌, ℕ, ◌+◌, ◌-◌, ◌<◌, ◌≤◌, ◌⊎◌, inl, inr, [], refl, arith, Global, false, true, List, Some, None}
 use Rattle.std.specs.Prelude.{nat_lt}
-use Rattle.std.proofs.Math.Logic.{⊎_elim}
+use Rattle.std.proofs.Math.Logic.{⊎_elim, ⊎_map}
 use Rattle.std.proofs.lemmas.Bool.{cases_lt, lt-ltb}
 use Rattle.std.proofs.lemmas.Bool.Decides.{nat_tests}
 use Rattle.std.specs.declared.rc.Rc.{Rc}
@@ -174,10 +174,7 @@ module _ (p q : Rc (Unit {0}) Global) (left right : Node) (len depth count : ℕ
     offset = 0;
     skipped = 0;
     step = left_step p q left right len depth count mark i h;
-    other = λ j. elim (cases_lt j (len_of left)) [
-      | inl k ↦ inl (left_on i j h k)
-      | inr k ↦ inr (left_apart i j h k)
-    ];
+    other = λ j. ⊎_map (left_on i j h) (left_apart i j h) (cases_lt j (len_of left));
     sound = λ sound. record {
       sound = sound.0;
       to = omega (arith, sound.2);
@@ -213,10 +210,7 @@ module _ (p q : Rc (Unit {0}) Global) (left right : Node) (len depth count : ℕ
     offset = len_of left;
     skipped = size left;
     step = right_step p q left right len depth count mark i h;
-    other = λ j. elim (cases_lt j (len_of left)) [
-      | inl k ↦ inr (right_apart i j h k)
-      | inr k ↦ inl (right_on i j h k)
-    ];
+    other = λ j. ⊎_elim (λ k. inr (right_apart i j h k)) (λ k. inl (right_on i j h k)) (cases_lt j (len_of left));
     sound = λ sound. record {
       sound = sound.1;
       to = omega (arith, sound.2);
