@@ -1,3 +1,4 @@
+pub mod Common
 pub mod Handles
 pub mod Loans
 pub mod Lists

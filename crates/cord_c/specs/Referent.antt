@@ -26,7 +26,7 @@ abbrev pub edited_by : Referent → List ℕ
 edited_by Nothing = []
 edited_by (Text t) = []
 edited_by (Cord c) = []
-edited_by (Editor t) = t
+edited_by (Editor t) = t.value
 edited_by (Lines i) = []
 
 -- the index of lines, that of no bytes where there is none
@@ -35,4 +35,4 @@ index_by Nothing = of_no_bytes
 index_by (Text t) = of_no_bytes
 index_by (Cord c) = of_no_bytes
 index_by (Editor t) = of_no_bytes
-index_by (Lines i) = i
+index_by (Lines i) = i.value

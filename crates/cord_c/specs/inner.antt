@@ -1,3 +1,2 @@
 pub mod Loans
 pub mod Prints
-pub mod Referent

@@ -1,5 +1,6 @@
 //! What a `zc_chunks` of C is: a cord that is gone over, and the chunk of it that C looks at.
 ghost use Rattle.std.specs.Prelude.{◌≡◌, ◌-◌, ◌≤◌, length, take, drop};
+ghost use Rattle.cord_c.specs.Referent.{text_by};
 ghost use Rattle.cord_c.specs.Shown.{shown};
 ghost use Rattle.cord_c.specs.declared.chunks.TheConstants.{CHUNK};
 
@@ -25,6 +26,6 @@ pub struct Chunks {
     ghost roomy: { length room ≡ CHUNK },
     ghost filled: { count ≤ length (shown loan room) },
     ghost reached: { count ≤ next },
-    ghost lent: { loan.text ≡ text.text },
+    ghost lent: { text_by loan.lender.referent ≡ text.text },
     ghost copied: { take count (shown loan room) ≡ take count (drop (next - count) text.text) },
 }

@@ -7,6 +7,7 @@ ghost use Rattle.core.specs.Ptr.{as_mut_ptr};
 
 use crate::code::{NO_MEMORY, NULL_POINTER, OK, TOO_LONG, code_of};
 use crate::pointer::{either_missing, missing};
+use crate::referent::Referent;
 use crate::{Editor, Handle};
 use cord::{MAX_LEN, Text, TextEditor};
 use std::alloc::Global;
@@ -59,12 +60,16 @@ pub extern "C" fn zc_edit_bytes(alloc: Global, edit: &mut Editor, at: u64, bytes
     if missing(edit) {
         return NULL_POINTER;
     }
-    let Ok(mut taken) = edit.take(alloc) else {
+    if edit.ready(alloc) != OK {
+        return NO_MEMORY;
+    }
+    let Some(referent) = edit.handle.lent() else {
         return NO_MEMORY;
     };
-    let done = taken.text.insert_bytes(alloc, at, bytes);
-    edit.put_back(alloc, taken);
-    match done {
+    let Referent::Editor(text) = referent else {
+        return NO_MEMORY;
+    };
+    match text.insert_bytes(alloc, at, bytes) {
         Ok(()) => OK,
         Err(refusal) => code_of(refusal),
     }
@@ -82,12 +87,16 @@ pub extern "C" fn zc_edit_remove(alloc: Global, edit: &mut Editor, start: u64, c
     if missing(edit) {
         return NULL_POINTER;
     }
-    let Ok(mut taken) = edit.take(alloc) else {
+    if edit.ready(alloc) != OK {
+        return NO_MEMORY;
+    }
+    let Some(referent) = edit.handle.lent() else {
         return NO_MEMORY;
     };
-    let done = taken.text.remove(alloc, start, count);
-    edit.put_back(alloc, taken);
-    match done {
+    let Referent::Editor(text) = referent else {
+        return NO_MEMORY;
+    };
+    match text.remove(alloc, start, count) {
         Ok(()) => OK,
         Err(_) => NO_MEMORY,
     }
@@ -116,14 +125,16 @@ pub extern "C" fn zc_edit_cord(
     if either_missing(edit, y) {
         return NULL_POINTER;
     }
-    let Ok(mut taken) = edit.take(alloc) else {
+    if edit.ready(alloc) != OK {
+        return NO_MEMORY;
+    }
+    let Some(referent) = edit.handle.lent() else {
         return NO_MEMORY;
     };
-    let done = taken
-        .text
-        .replace_range(alloc, start, count, y.text(&Text::empty()));
-    edit.put_back(alloc, taken);
-    match done {
+    let Referent::Editor(text) = referent else {
+        return NO_MEMORY;
+    };
+    match text.replace_range(alloc, start, count, y.text(&Text::empty())) {
         Ok(()) => OK,
         Err(refusal) => code_of(refusal),
     }

@@ -1,14 +1,13 @@
 //! What a `zc_edit` of C is: a text that is edited in place.
-ghost use Rattle.std.specs.Prelude.{◌≡◌, ◌⊎◌, IfOk, IsErr};
+ghost use Rattle.std.specs.Prelude.{◌≡◌, ◌⊎◌, [], false};
 ghost use Rattle.cord_c.specs.Codes.{MayLackMemory};
 ghost use Rattle.cord_c.specs.Editors.{edited_of};
 
 use crate::Handle;
-use crate::code::OK;
+use crate::code::{NO_MEMORY, OK};
 use crate::referent::Referent;
 use cord::{Text, TextEditor};
-use std::alloc::{AllocError, Global};
-use std::mem::replace;
+use std::alloc::Global;
 
 /// Owns the text at the pointer, where it isn't null: null is that of no bytes.
 #[repr(C)]
@@ -17,38 +16,30 @@ pub struct Editor {
     pub(crate) handle: Handle,
 }
 
-/// A text that is out of its handle while a call edits it, and the place on the heap where it was.
-#[derive(Drop)]
-pub(crate) struct Taken {
-    pub(crate) text: TextEditor,
-    place: Box<Referent, Global>,
-}
-
 impl Editor {
-    /// Takes the text out, and leaves nothing. Refused only when out of memory, where the pointer is null: then it
-    /// stays so.
-    pub(crate) fn take(&mut self, alloc: Global) -> Result<Taken, AllocError>
-        ensures text { IfOk result (λ taken. taken.text ≡ edited_of self.old) }
-        ensures unchanged { IsErr result → edited_of self.new ≡ edited_of self.old }
+    /// Has a text that is edited from now on, that of no bytes where it had none. Refused only when out of memory.
+    pub(crate) fn ready(&mut self, alloc: Global) -> i32
+        ensures same { edited_of self.new ≡ edited_of self.old }
+        ensures code { MayLackMemory result }
     {
-        let mut place = match self.handle.lift(alloc) {
-            Some(place) => place,
-            None => Box::new(alloc, Referent::Nothing)?,
-        };
-        let text = match replace(place.as_mut(), Referent::Nothing) {
-            Referent::Editor(text) => text,
-            _ => TextEditor::of(alloc, &Text::empty())?,
-        };
-        Ok(Taken { text, place })
+        if self.is_ready() {
+            return OK;
+        }
+        match TextEditor::of(alloc, &Text::empty()) {
+            Ok(text) => self.hold(alloc, text),
+            Err(_) => NO_MEMORY,
+        }
     }
 
-    /// Holds what was taken from now on.
-    pub(crate) fn put_back(&mut self, alloc: Global, taken: Taken)
-        ensures { edited_of self.new ≡ taken.text }
+    // Whether it has a text that is edited.
+    fn is_ready(&mut self) -> bool
+        ensures none { result ≡ false → edited_of self.old ≡ [] }
+        ensures same { edited_of self.new ≡ edited_of self.old }
     {
-        let Taken { text, mut place } = taken;
-        *place = Referent::Editor(text);
-        self.handle.lower(place);
+        match self.handle.lent() {
+            Some(Referent::Editor(_)) => true,
+            _ => false,
+        }
     }
 
     /// Holds this text from now on, and frees the one that it held. Refused only when out of memory, where the pointer
@@ -58,6 +49,9 @@ impl Editor {
         ensures kept { (result ≡ OK) ⊎ (edited_of self.new ≡ edited_of self.old) }
         ensures code { MayLackMemory result }
     {
-        self.handle.keep(alloc, Referent::Editor(text))
+        match Box::new(alloc, text) {
+            Ok(text) => self.handle.keep(alloc, Referent::Editor(text)),
+            Err(_) => NO_MEMORY,
+        }
     }
 }

@@ -1,31 +1,30 @@
 //! What a `zc_cord` of C is: a pointer to a text on the heap, or null for the text of no bytes.
 ghost use Rattle.std.specs.Prelude.{◌≡◌, ◌⊎◌, ◌-◌, ℕ, List, [], length, take, drop, min, MatchOption};
-ghost use Rattle.std.specs.Prelude.{Ok, Err, IfOk, IfErr};
+ghost use Rattle.std.specs.Prelude.{◌++◌, ◌∷◌, Ok, Err, IfOk, IfErr};
 ghost use denote.RawPtr.{Testable};
 ghost use Rattle.cord_core.specs.Refusals.{IsRefusal};
 ghost use Rattle.cord_c.specs.Codes.{MayBeTooLong, MayLackMemory};
 ghost use Rattle.cord_c.specs.Handles.{handle_owns};
 ghost use Rattle.cord_c.specs.Referent.{text_by};
-ghost use Rattle.cord_c.specs.inner.Referent.{referent_in};
 ghost use Rattle.cord_c.specs.contracts.referent.Referent as row;
 ghost use Rattle.cord_c.specs.declared.referent.Referent.{Referent};
 
 use crate::code::{NO_MEMORY, OK, TOO_LONG, code_of};
 use crate::copy::copy_from;
+use crate::loan::{Lender, Loan, leaf_at};
 use crate::referent::Referent;
 use cord::{CordError, Text};
 use cord_raw::Raw;
 use std::alloc::{AllocError, Global};
 use std::marker::Model;
-use std::mem::replace;
 
 /// Owns what lies at the pointer, where it isn't null: a text, a cord if it is a `LazyHandle`'s, or a text that is edited
 /// if it is an `Editor`'s. In C it is a struct of one pointer, which doesn't say to what. Its `text` is that of the text,
 /// and has no bytes where there is none.
 #[repr(C)]
 pub struct Handle {
-    at: *mut u8,
-    alloc: Global,
+    pub(crate) at: *mut u8,
+    pub(crate) alloc: Global,
     pub ghost referent: { Referent } by { row.the_row.coded },
     pub ghost text: { List ℕ },
     ghost reported: { text ≡ text_by referent },
@@ -83,6 +82,33 @@ impl Handle {
         })
     }
 
+    /// Lends the bytes of the leaf that holds the byte at `place`, from there on, if they are many, and else none.
+    pub(crate) fn lend(self, place: u64) -> Loan
+        ensures { (result.lender.referent ≡ self.referent)
+            × (result.lender.items ≡ take (length result.lender.items) (drop place (text_by self.referent))) }
+    {
+        let Handle { at, alloc } = self;
+        if at.is_null() {
+            return Loan {
+                lender: Lender {
+                    at,
+                    bytes: std::ptr::null(),
+                    alloc,
+                },
+                count: 0,
+            };
+        }
+        let bytes = leaf_at(unsafe { &*(at as *mut Referent) }, place);
+        Loan {
+            lender: Lender {
+                at,
+                bytes: bytes.as_ptr(),
+                alloc,
+            },
+            count: bytes.len(),
+        }
+    }
+
     /// What lies on the heap, where it lies: nothing where the pointer is null.
     pub(crate) fn lent(&mut self) -> Option<&mut Referent>
         ensures* given_back { sem 𝓛 (LendsReferent self.entry result) }
@@ -124,20 +150,18 @@ impl Handle {
         self.text(&Text::empty()).share(alloc)
     }
 
-    /// Takes away what it holds, and leaves nothing: nothing where the pointer is null.
-    pub(crate) fn lift(&mut self, alloc: Global) -> Option<Box<Referent, Global>>
-        ensures referent { referent_in result ≡ self.old.referent }
-        ensures left { self.new.referent ≡ Referent.Nothing }
+    /// Appends its text once more to these, as `read`.
+    pub(crate) fn read_onto(
+        &mut self,
+        alloc: Global,
+        made: &mut Vec<Text>,
+    ) -> Result<(), AllocError>
+        ensures made { IfOk result (λ _. made.new.items ≡ made.old.items ++ self.old.text ∷ []) }
+        ensures same { self.new.text ≡ self.old.text }
     {
-        let held = replace(self, Handle::empty(alloc));
-        Some(held.into_raw()?.into_box())
-    }
-
-    /// Holds what was lifted from now on, and frees what it held.
-    pub(crate) fn lower(&mut self, held: Box<Referent, Global>)
-        ensures { self.new.referent ≡ held.value }
-    {
-        *self = Handle::of(Raw::of(held));
+        let text = self.read(alloc)?;
+        made.push(text)?;
+        Ok(())
     }
 
     /// Holds this from now on, and frees what it held, whose place on the heap it takes. Refused only when out of
@@ -152,7 +176,7 @@ impl Handle {
             return OK;
         }
         match Box::new(alloc, referent) {
-            Ok(held) => self.lower(held),
+            Ok(held) => *self = Handle::of(Raw::of(held)),
             Err(_) => return NO_MEMORY,
         }
         OK

@@ -1,28 +1,20 @@
 //! What a `zc_lines` of C is: the index of the lines of a text.
-ghost use Rattle.std.specs.Prelude.{◌≡◌, ◌⊎◌, IfOk, IsErr};
+ghost use Rattle.std.specs.Prelude.{◌≡◌, ◌⊎◌, false};
 ghost use Rattle.cord_lines.specs.Index.{of_no_bytes};
 ghost use Rattle.cord_c.specs.Codes.{MayLackMemory};
 ghost use Rattle.cord_c.specs.LineIndexes.{index_in};
 
 use crate::Handle;
-use crate::code::OK;
+use crate::code::{NO_MEMORY, OK};
 use crate::referent::Referent;
 use cord_lines::LineIndex;
-use std::alloc::{AllocError, Global};
-use std::mem::replace;
+use std::alloc::Global;
 
 /// Owns the index at the pointer, where it isn't null: null is that of no bytes.
 #[repr(C)]
 #[derive(Drop)]
 pub struct Lines {
     pub(crate) handle: Handle,
-}
-
-/// An index that is out of its handle while a call changes it, and the place on the heap where it was.
-#[derive(Drop)]
-pub(crate) struct TakenIndex {
-    pub(crate) index: LineIndex,
-    place: Box<Referent, Global>,
 }
 
 impl Lines {
@@ -41,30 +33,26 @@ impl Lines {
         }
     }
 
-    /// Takes the index out, and leaves nothing. Refused only when out of memory, where the pointer is null: then it
-    /// stays so.
-    pub(crate) fn take(&mut self, alloc: Global) -> Result<TakenIndex, AllocError>
-        ensures index { IfOk result (λ taken. taken.index ≡ index_in self.old) }
-        ensures unchanged { IsErr result → index_in self.new ≡ index_in self.old }
+    /// Has an index from now on, that of no bytes where it had none. Refused only when out of memory.
+    pub(crate) fn ready(&mut self, alloc: Global) -> i32
+        ensures same { index_in self.new ≡ index_in self.old }
+        ensures code { MayLackMemory result }
     {
-        let mut place = match self.handle.lift(alloc) {
-            Some(place) => place,
-            None => Box::new(alloc, Referent::Nothing)?,
-        };
-        let index = match replace(place.as_mut(), Referent::Nothing) {
-            Referent::Lines(index) => index,
-            _ => LineIndex::empty(alloc),
-        };
-        Ok(TakenIndex { index, place })
+        if self.is_ready() {
+            return OK;
+        }
+        self.hold(alloc, LineIndex::empty(alloc))
     }
 
-    /// Holds what was taken from now on.
-    pub(crate) fn put_back(&mut self, taken: TakenIndex)
-        ensures { index_in self.new ≡ taken.index }
+    // Whether it has an index.
+    fn is_ready(&mut self) -> bool
+        ensures none { result ≡ false → index_in self.old ≡ of_no_bytes }
+        ensures same { index_in self.new ≡ index_in self.old }
     {
-        let TakenIndex { index, mut place } = taken;
-        *place = Referent::Lines(index);
-        self.handle.lower(place);
+        match self.handle.lent() {
+            Some(Referent::Lines(_)) => true,
+            _ => false,
+        }
     }
 
     /// Holds this index from now on, and frees the one that it held. Refused only when out of memory, where the pointer
@@ -74,6 +62,9 @@ impl Lines {
         ensures kept { (result ≡ OK) ⊎ (index_in self.new ≡ index_in self.old) }
         ensures code { MayLackMemory result }
     {
-        self.handle.keep(alloc, Referent::Lines(index))
+        match Box::new(alloc, index) {
+            Ok(index) => self.handle.keep(alloc, Referent::Lines(index)),
+            Err(_) => NO_MEMORY,
+        }
     }
 }

@@ -11,6 +11,7 @@ ghost use Rattle.cord_c.specs.LineIndexes.{index_in};
 
 use crate::code::{NO_MEMORY, NULL_POINTER, OK, PAST_END};
 use crate::pointer::{any_missing, either_missing, missing};
+use crate::referent::Referent;
 use crate::{Handle, Lines};
 use cord::Text;
 use cord_lines::LineIndex;
@@ -185,12 +186,16 @@ pub extern "C" fn zc_lines_edited(
     if either_missing(index, after) {
         return NULL_POINTER;
     }
-    let Ok(mut taken) = index.take(alloc) else {
+    if index.ready(alloc) != OK {
+        return NO_MEMORY;
+    }
+    let Some(referent) = index.handle.lent() else {
         return NO_MEMORY;
     };
-    let done = taken.index.edited(alloc, after.text(&Text::empty()), start, removed, inserted);
-    index.put_back(taken);
-    match done {
+    let Referent::Lines(lines) = referent else {
+        return NO_MEMORY;
+    };
+    match lines.edited(alloc, after.text(&Text::empty()), start, removed, inserted) {
         Ok(()) => OK,
         Err(_) => NO_MEMORY,
     }
@@ -219,19 +224,23 @@ pub extern "C" fn zc_lines_edited_from(
     if any_missing(index, before, after) {
         return NULL_POINTER;
     }
-    let Ok(mut held) = index.take(alloc) else {
+    if index.ready(alloc) != OK {
+        return NO_MEMORY;
+    }
+    let Some(referent) = index.handle.lent() else {
         return NO_MEMORY;
     };
-    let done = held.index.edited_from(
+    let Referent::Lines(lines) = referent else {
+        return NO_MEMORY;
+    };
+    match lines.edited_from(
         alloc,
         before.text(&Text::empty()),
         after.text(&Text::empty()),
         start,
         removed,
         inserted,
-    );
-    index.put_back(held);
-    match done {
+    ) {
         Ok(()) => OK,
         Err(_) => NO_MEMORY,
     }

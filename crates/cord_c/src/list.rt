@@ -40,8 +40,7 @@ fn shares(alloc: Global, parts: &mut [Handle]) -> Result<Vec<Text>, AllocError>
     let mut made = Vec::with_capacity(alloc, parts.len())?;
     for place in 0..parts.len() {
         let part = &mut parts[place];
-        let text = part.read(alloc)?;
-        made.push(text)?;
+        part.read_onto(alloc, &mut made)?;
     }
     Ok(made)
 }

@@ -1,8 +1,13 @@
 //! A text on the heap that is lent to C, and which of its bytes.
-ghost use Rattle.std.specs.Prelude.{◌≡◌, List, ℕ, [], length, take, drop, MatchOption, IfOk};
+ghost use Rattle.std.specs.Prelude.{◌≡◌, List, ℕ, [], length, take, drop, IfOk};
 ghost use denote.RawPtr.{Testable};
-ghost use Rattle.cord_c.specs.Loans.{loan_owns};
+ghost use Rattle.cord_c.specs.Loans.{lender_owns};
+ghost use Rattle.cord_c.specs.Referent.{text_by};
+ghost use Rattle.cord_c.specs.contracts.referent.Referent as row;
+ghost use Rattle.cord_c.specs.declared.referent.Referent.{Referent};
 
+use crate::Handle;
+use crate::referent::Referent;
 use cord::{Chunk, Text};
 use cord_raw::Raw;
 use std::alloc::{AllocError, Global};
@@ -12,112 +17,87 @@ use std::mem::replace;
 /// The fewest bytes that are lent: of shorter leaves more than one are copied at a time.
 const LEAST: usize = 512;
 
-/// Owns a text at the pointer `at`, none where that is null, and lends `count` bytes of it at the pointer `bytes`,
-/// which may be read as long as this stays.
+/// Owns what lies at the pointer `at`, where it isn't null, and lends bytes of it at the pointer `bytes`, which may be
+/// read as long as this stays.
 #[repr(C)]
-pub struct Loan {
-    at: *mut u8,
-    bytes: *const u8,
-    count: usize,
-    alloc: Global,
-    pub ghost text: { List ℕ },
+pub struct Lender {
+    pub(crate) at: *mut u8,
+    pub(crate) bytes: *const u8,
+    pub(crate) alloc: Global,
+    pub ghost referent: { Referent } by { row.the_row.coded },
     pub ghost items: { List ℕ },
-    ghost counted: { count ≡ length items },
     ghost testable: { Testable at },
 }
 
-impl Model for Loan {
-    ghost also_owns = { λ l. loan_owns l.at l.text l.bytes l.items };
+impl Model for Lender {
+    ghost also_owns = { λ l. lender_owns l.at l.referent l.bytes l.items };
 }
 
-impl Drop for Loan {
+impl Drop for Lender {
     fn drop(self) {
-        if let Some(text) = self.into_raw() {
-            drop(text.into_box());
-        }
+        drop(self.end());
     }
+}
+
+impl Lender {
+    /// Ends the loan: what was lent from.
+    fn end(self) -> Handle
+        ensures { result.referent ≡ self.referent }
+    {
+        let Lender {
+            at,
+            bytes: _,
+            alloc,
+        } = self;
+        Handle { at, alloc }
+    }
+}
+
+/// Lends `count` bytes of a text.
+#[repr(C)]
+#[derive(Drop)]
+pub struct Loan {
+    pub(crate) lender: Lender,
+    pub(crate) count: usize,
+    ghost counted: { count ≡ length lender.items },
 }
 
 impl Loan {
     /// That of no text.
     pub(crate) fn empty(alloc: Global) -> Loan
-        ensures { (result.text ≡ []) × (result.items ≡ []) }
+        ensures { (result.lender.referent ≡ Referent.Nothing) × (result.lender.items ≡ []) }
     {
-        Loan {
-            at: std::ptr::null_mut(),
-            bytes: std::ptr::null(),
-            count: 0,
-            alloc,
-        }
-    }
-
-    /// Lends the bytes of the leaf that holds the byte at `place`, from there on, if they are many, and else none.
-    pub(crate) fn of(text: Raw<Text, Global>, place: u64) -> Loan
-        ensures { (result.text ≡ text.value)
-            × (result.items ≡ take (length result.items) (drop place text.value)) }
-    {
-        let Raw { at, alloc } = text;
-        let bytes = leaf_at(unsafe { &*at }, place);
-        Loan {
-            at: at as *mut u8,
-            bytes: bytes.as_ptr(),
-            count: bytes.len(),
-            alloc,
-        }
+        Handle::empty(alloc).lend(0)
     }
 
     /// Lends no bytes of the text yet. Refused only when out of memory.
     pub(crate) fn make(alloc: Global, text: Text) -> Result<Loan, AllocError>
-        ensures { IfOk result (λ l. l.text ≡ text) }
+        ensures { IfOk result (λ l. text_by l.lender.referent ≡ text) }
     {
-        match Box::new(alloc, text) {
-            Ok(held) => Ok(Loan::of(Raw::of(held), u64::MAX)),
+        match Box::new(alloc, Referent::Text(text)) {
+            Ok(held) => Ok(Handle::of(Raw::of(held)).lend(u64::MAX)),
             Err(refused) => Err(AllocError::from(refused)),
         }
     }
 
-    /// Ends it: the text, none where the pointer is null.
-    pub(crate) fn into_raw(self) -> Option<Raw<Text, Global>>
-        ensures { MatchOption result (self.text ≡ []) (λ l. l.value ≡ self.text) }
-    {
-        let Loan {
-            at,
-            bytes: _,
-            count: _,
-            alloc,
-        } = self;
-        if at.is_null() {
-            return None;
-        }
-        Some(Raw {
-            at: at as *mut Text,
-            alloc,
-        })
-    }
-
-    /// How many bytes it lends.
-    pub(crate) fn count(&mut self) -> usize
-        ensures { (result ≡ length self.old.items) × (self.new ≡ self.old) }
-    {
-        self.count
-    }
-
-    /// Lends other bytes of the text from now on: those at `place`, as `of`.
+    /// Lends other bytes of the text from now on: those at `place`, as `lend`.
     pub(crate) fn move_to(&mut self, alloc: Global, place: u64)
-        ensures text { self.new.text ≡ self.old.text }
-        ensures items { self.new.items ≡ take (length self.new.items) (drop place self.old.text) }
+        ensures text { self.new.lender.referent ≡ self.old.lender.referent }
+        ensures items { self.new.lender.items
+            ≡ take (length self.new.lender.items) (drop place (text_by self.old.lender.referent)) }
     {
-        let held = replace(self, Loan::empty(alloc));
-        if let Some(text) = held.into_raw() {
-            *self = Loan::of(text, place);
-        }
+        let Loan { lender, count: _ } = replace(self, Loan::empty(alloc));
+        *self = lender.end().lend(place);
     }
 }
 
-// The bytes of the leaf that holds the byte at `place`, from there on: none where they are few, or where no leaf does.
-fn leaf_at(text: &Text, place: u64) -> &[u8]
-    ensures { result.now ≡ take (length result.now) (drop place text.now) }
+/// The bytes of the leaf that holds the byte at `place`, from there on: none where they are few, or where no leaf does.
+pub(crate) fn leaf_at(referent: &Referent, place: u64) -> &[u8]
+    ensures { result.now ≡ take (length result.now) (drop place (text_by referent.now)) }
 {
+    let Referent::Text(text) = referent else {
+        return &[];
+    };
     match text.chunk_at(place) {
         Some(Chunk::Bytes(bytes)) if bytes.len() >= LEAST => bytes,
         _ => &[],

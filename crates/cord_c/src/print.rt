@@ -81,8 +81,7 @@ fn texts_of(alloc: Global, args: &mut [Argument]) -> Result<Vec<Text>, AllocErro
     let mut made = Vec::with_capacity(alloc, args.len())?;
     for place in 0..args.len() {
         let arg = &mut args[place];
-        let text = arg.text.read(alloc)?;
-        made.push(text)?;
+        arg.text.read_onto(alloc, &mut made)?;
     }
     Ok(made)
 }

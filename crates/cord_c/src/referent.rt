@@ -7,7 +7,7 @@ use cord_core::Cord;
 use cord_lines::LineIndex;
 use std::alloc::{AllocError, Global};
 
-/// What a handle leads to.
+/// What a handle leads to, in few bytes: what has more lies at another place on the heap.
 #[derive(Drop)]
 pub enum Referent {
     /// Nothing: the pointer is null.
@@ -17,9 +17,9 @@ pub enum Referent {
     /// A cord, which may have parts in files.
     Cord(Cord),
     /// A text that is edited in place.
-    Editor(TextEditor),
+    Editor(Box<TextEditor, Global>),
     /// The index of the lines of a text.
-    Lines(LineIndex),
+    Lines(Box<LineIndex, Global>),
 }
 
 impl Referent {

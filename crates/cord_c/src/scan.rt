@@ -66,7 +66,7 @@ pub extern "C" fn zc_chunks_next(alloc: Global, chunks: &mut Chunks) -> usize
         return 0;
     }
     chunks.loan.move_to(alloc, chunks.next);
-    let mut count = chunks.loan.count();
+    let mut count = chunks.loan.count;
     if count == 0 {
         count = chunks.text.copy_to(chunks.next, &mut chunks.room);
     }

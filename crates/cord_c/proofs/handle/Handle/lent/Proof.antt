@@ -1,54 +1,43 @@
 -- `lent` lends what lies at the pointer, and keeps what gives the handle back; a null pointer's handle stays as it is.
-use Rattle.std.proofs.Common.{◌≡◌, ℕ, List, [], ◌∷◌, refl, sym, subst, MutBor}
-use lib.Dec.{lit<}
+use Rattle.cord_c.proofs.Common.{[], ◌∷◌, refl, lit<, ftrue, at_ret, ‵, ◌⊛◌, ◌$◌, ◌∵◌, !, qed, keep, use1, drop, split, join, fsplit, suffices, done, agg, whole, sub, stop, fld, of_opd, bin, lit, and_then, no_more, first, branches, skips, exec, returns, returns_within, enter, alloc_all, pass_all, free_all, look_at, get, sets, env, tables, tests_null, plain, nothing, says, Stays, stay_dropped, walk_of, ends_at, Ptr-Good, after, proved}
+use Rattle.std.proofs.Common.{◌≡◌, ℕ, List, sym, MutBor}
 use seplogic.Ra.Ura.{Ura}
 use mir.Syntax.{named}
 use mir.Raw.{raw as bare}
 use mir.Val.{Val, vptr, of_list}
 use base.Fraction.{full_share}
 use base.Logic.{ent, sep, id⊢}
-use base.Fml.{Fml, GName, ftrue, flft, fres, fsep}
+use base.Fml.{Fml, GName, flft, fres, fsep}
 use types.Logic.{Logic, sem}
-use types.Kit.{Seq, Item, Goal, at_ret, ‵, ◌⊛◌, some, later, ◌$◌, ◌∵◌, !, qed, move, keep, use0, use1, drop, split, split3, join, pick, await, group, fsplit}
-use types.Kit.{fsplit3, fjoin, fpack, feq_i, feq_l, rewrite, raw, suffices, frame, done}
+use types.Kit.{some, later, move, use0, split3, pick, await, group}
+use types.Kit.{fsplit3, fjoin, fpack, rewrite, raw, frame}
 use types.Match.{live}
-use types.Part.{agg, whole, sub, look_in}
-use types.Run.{stop, fld, of_opd, load, bin, lit, and_then, no_more, first, blocks, branches, skips, exec, returns, returns_within, enter, addr}
-use types.ByLocal.{alloc_all, pass_all, free_all, look_at, get, through, sets, sets_last, env}
-use contract.Running.{tables}
+use types.Part.{look_in}
+use types.Run.{load, blocks, addr}
+use types.ByLocal.{through, sets_last}
 use denote.Exit.{no}
 use denote.Follow.{follows, follows_by, Part, lends_Part}
 use denote.Memory.{cell_at, part_at, part_of, mem, lone}
-use denote.RawPtr.{Ptr, block_ptr, null_ptr, Testable, tests_null}
+use denote.RawPtr.{Ptr, block_ptr}
 use denote.Ref.{MutRef, mut_vals, mut_Tells}
 use denote.RattleType.{owns}
-use denote.Signature.{plain, mut_ref_to}
-use denote.Steps.{nothing, opens, closes}
-use denote.Triple.Walked.{says, Stays, stay_dropped, walk_of, ends_at, Goes-spent_ref}
+use denote.Signature.{mut_ref_to}
+use denote.Steps.{opens, closes}
+use denote.Triple.Walked.{Goes-spent_ref}
 use Rattle.core.proofs.option.Made.{Some-of, none_of}
 use Rattle.core.specs.contracts.option.Option as OP
 use Rattle.core.specs.declared.option.Option.TheVariants.{None, Some}
-use Rattle.std_alloc.proofs.RcSteps.{Ptr-Good}
-use Rattle.std_alloc.proofs.VecSteps.Shapes.{after}
-use Rattle.std.proofs.raw_atomic.Walks.{proved}
 use Rattle.cord_raw.specs.inner.Ownership.{frees}
 use Rattle.cord_c.specs.Handles.{handle_owns}
 use Rattle.cord_c.specs.inner.Loans.{with_referent}
 use Rattle.cord_c.specs.declared.handle.Handle.{Handle}
 use Rattle.cord_c.specs.declared.referent.Referent.{Referent}
-use Rattle.cord_c.specs.declared.referent.Referent.TheVariants.{Nothing}
 use Rattle.cord_c.specs.contracts.referent.Referent.{the_row as R}
 use Rattle.cord_c.specs.contracts.handle.Handle.{the_row as H}
-use Rattle.cord_c.proofs.Handles.{word, handle_val, packs, unpacks}
+use Rattle.cord_c.proofs.Handles.{word, handles, packs, unpacks, at_null, at_block, in_block}
 use Rattle.cord_c.specs.contracts.handle.Handle.lent as f
 use Rattle.cord_c.proofs.handle.Handle.lent.Statement.{statement}
 use Rattle.cord_c.proofs.handle.Handle.lent.Code as code
-
--- a pointer is null, or leads into a block
-by_form : {M : Type 1} {𝓤 : Ura M} {𝓛 : Logic 𝓤} {X : Type 0} {Γ : List (Item 𝓤)} {G : Goal 𝓤 𝓛.H} (p : Ptr)
-    → (p ≡ null_ptr → Seq X 𝓛 Γ G) → ((b o : ℕ) → p ≡ block_ptr b o → Seq X 𝓛 Γ G) → Seq X 𝓛 Γ G
-by_form null_ptr at_null at_block = at_null refl
-by_form (block_ptr b o) at_null at_block = at_block b o refl
 
 module _ {M : Type 1} {𝓤 : Ura M} (𝓛 : Logic 𝓤) (at_b at_o : ℕ) (h : Handle) (b o : ℕ) where
   -- the handle at (at_b, at_o) without what it leads to, while that is lent
@@ -61,9 +50,9 @@ module _ {M : Type 1} {𝓤 : Ura M} (𝓛 : Logic 𝓤) (at_b at_o : ℕ) (h : 
   unfolding part_of
   returned e w =
       qed 𝓛 (‵ (part_at R full_share w b o) ∷ ‵ PartsFrom ∷ []) ∵ move ! (1 ∷ []) $ fsplit ! $ move ! (2 ∷ 0 ∷ []) $ fjoin ! $
-      rewrite ! 0 (λ (p : Ptr). ‵ (handle_owns p w)) (sym e) refl $ packs ! (with_referent h w) $ move ! (1 ∷ []) $
+      rewrite ! 0 (λ (p : Ptr). ‵ (handle_owns p w)) (sym e) refl $ packs handles ! (with_referent h w) $ move ! (1 ∷ []) $
       rewrite ! 0 (λ (p : Ptr). ‵ (cell_at full_share H.mir (word p ∷ []) at_b at_o)) (sym e) refl $ fjoin ! $
-      fpack ! (List Val) (λ us. fsep (cell_at full_share H.mir us at_b at_o) (H.own_val (with_referent h w) us)) (handle_val h ∷ []) $ done !
+      fpack ! (List Val) (λ us. fsep (cell_at full_share H.mir us at_b at_o) (H.own_val (with_referent h w) us)) (word h.at ∷ []) $ done !
 
 abbrev stayed : Stays f.ended.signature.params f.ended.kept
 stayed = (stay_dropped (mut_ref_to (0 ∷ []) tt (plain (λ _. H))) no, tt)
@@ -82,35 +71,25 @@ lent_spec 𝓤 𝓛 𝓜 𝓡 wired =
     enter ! _ _ _ _ _ $ alloc_all ! (λ l. pass_all ! refl ((tt, tt), tt) $
     move ! (2 ∷ 3 ∷ 0 ∷ []) $ opens ! tt H ab ao (λ us. move ! (1 ∷ []) $ unpacks ! d us (λ is.
     rewrite ! 1 (λ (ws : List Val). ‵ (cell_at full_share H.mir ws ab ao)) is refl $
-    by_form d.at
-    (λ e. rewrite ! 1 (λ (p : Ptr). ‵ (cell_at full_share H.mir (word p ∷ []) ab ao)) e refl $
-    rewrite ! 0 (λ (p : Ptr). ‵ (handle_owns p d.referent)) e refl $ feq_l ! (λ none.
-    sets ! (of_opd ! (load ! (through ! refl (fld ! refl (stop !))) (look_in ! 0 (sub ! 0 refl (whole !))))) refl (Ptr-Good null_ptr) $
-    sets ! (of_opd ! (get ! refl)) refl (Ptr-Good null_ptr) $
-    sets ! (bin ! (get ! refl) (lit ! tt) (tests_null null_ptr (subst Testable e d.testable))) refl (tt, tt) $
+    -- [what the handle owns; the handle's cell; the open borrow, in three entries; ..]
+    sets ! (of_opd ! (load ! (through ! refl (fld ! refl (stop !))) (look_in ! 1 (sub ! 0 refl (whole !))))) refl (Ptr-Good d.at) $
+    sets ! (of_opd ! (get ! refl)) refl (Ptr-Good d.at) $
+    sets ! (bin ! (get ! refl) (lit ! tt) (tests_null d.at d.testable)) refl (tt, tt) $
     first ! $ branches ! (get ! refl)
-    (λ yes. sets ! (agg ! (and_then ! (lit ! tt) (no_more !))) refl (tt, (record { fits = lit< tt }, tt)) $
-    feq_i ! Referent d.referent Nothing none $ rewrite ! 0 (λ (p : Ptr). ‵ (handle_owns p d.referent)) (sym e) refl $ packs ! d $
-    move ! (1 ∷ []) $ rewrite ! 0 (λ (p : Ptr). ‵ (cell_at full_share H.mir (word p ∷ []) ab ao)) (sym e) refl $
-    closes ! tt H d (handle_val d ∷ []) ab ao $
+    (λ null. sets ! (agg ! (and_then ! (lit ! tt) (no_more !))) refl (tt, (record { fits = lit< tt }, tt)) $
+    at_null ! d.at d.referent null (λ none. packs handles ! d $ move ! (1 ∷ []) $
+    closes ! tt H d (word d.at ∷ []) ab ao $
     use1 𝓛 (‵ (fres γ (H.coded.code d))) (𝓛.names.obs-res γ (H.coded.code d)) $ move ! (1 ∷ []) $ drop ! $
     use0 𝓛 (‵ ((OP.the_row Lent).own_val None (live 0 (of_list []) ∷ []))) (none_of 𝓛 Lent) $
     returns_within ! Post refl (look_at ! 0 refl) $ free_all ! refl $
     -- [nothing; what settles the handle; the token; the other tokens]
     keep ! (0 ∷ 2 ∷ 1 ∷ 3 ∷ []) $ suffices ! _ (ends_at 𝓛 f.ended stayed c y (live 0 (of_list [])) None (tt, tt) (tt, tt)) $
-    nothing ! $ nothing ! $ fjoin ! $ join ! $ move ! (1 ∷ 3 ∷ 0 ∷ []) $ join ! $ join ! $ frame ! $ says ! none $ done !)
-    (λ no. absurd no)))
-    (λ b o e. rewrite ! 1 (λ (p : Ptr). ‵ (cell_at full_share H.mir (word p ∷ []) ab ao)) e refl $
-    rewrite ! 0 (λ (p : Ptr). ‵ (handle_owns p d.referent)) e refl $ fsplit ! $
-    -- [what is led to; the right to free it; the handle's cell; the open borrow, in three entries; ..]
-    sets ! (of_opd ! (load ! (through ! refl (fld ! refl (stop !))) (look_in ! 2 (sub ! 0 refl (whole !))))) refl (Ptr-Good (block_ptr b o)) $
-    sets ! (of_opd ! (get ! refl)) refl (Ptr-Good (block_ptr b o)) $
-    sets ! (bin ! (get ! refl) (lit ! tt) (tests_null (block_ptr b o) (subst Testable e d.testable))) refl (tt, tt) $
-    first ! $ branches ! (get ! refl) (λ yes. absurd yes)
-    (λ no. skips ! $ exec ! 𝓣.C 𝓣.Λ (env fn.locals l) (after 4 fn.body) (at_ret (env fn.locals l) Post) $
-    first ! $ blocks ! $
-    sets ! (of_opd ! (get ! refl)) refl (Ptr-Good (block_ptr b o)) $
-    sets ! (of_opd ! (get ! refl)) refl (Ptr-Good (block_ptr b o)) $
+    nothing ! $ nothing ! $ fjoin ! $ join ! $ move ! (1 ∷ 3 ∷ 0 ∷ []) $ join ! $ join ! $ frame ! $ says ! none $ done !))
+    (λ other. skips ! $ exec ! 𝓣.C 𝓣.Λ (env fn.locals l) (after 4 fn.body) (at_ret (env fn.locals l) Post) $
+    at_block ! d.at d.referent other (λ b o e. fsplit ! $
+    rewrite ! 2 (λ (p : Ptr). ‵ (cell_at full_share H.mir (word p ∷ []) ab ao)) e refl $
+    -- [what is led to; the right to free it; the handle's cell; the open borrow; ..]
+    first ! $ blocks ! $ sets ! (of_opd ! (get ! refl)) refl (Ptr-Good d.at) $ sets ! (of_opd ! (in_block e (get ! refl))) refl (tt, tt) $
     sets_last ! (addr ! (through ! refl (stop !))) refl (tt, tt) $
     exec ! 𝓣.C 𝓣.Λ (env fn.locals l) (after 5 fn.body) (at_ret (env fn.locals l) Post) $
     sets ! (of_opd ! (get ! refl)) refl (tt, tt) $
