@@ -1,20 +1,19 @@
 -- The operations of a script's lines, made line by line, and the lines whose expressions they take.
 use Rattle.std.specs.Prelude.{◌≡◌, ◌+◌, ◌<◌, ◌≤◌, ◌||◌, ◌∷◌, ◌++◌}
 use Rattle.cord_plan.proofs.Common.{ℕ, Bool, true, false, List, [], map, drop, take, length, get_or, Option, Some, None, inl, inr}
-use Rattle.cord_plan.proofs.Common.{option_map, refl, sym, ap, ◌∙◌, subst, arith, length-append, replicate}
-use Rattle.cord_plan.proofs.Common.{slice_get, or_assoc, or-false, slice_get_read, at_drop_more, at_drop_all}
-use Rattle.cord_plan.proofs.Common.{get_or-replicate, length-replicate, map-append, take_more, Statement, Expr, target_of}
-use Rattle.cord_plan.proofs.Common.{ChoiceTable, Choice, defining, expr_of, expr_with, operands_chosen, grown, exprs, Has}
-use Rattle.cord_plan.proofs.Common.{choice_view, simple_operands, AreLonger, AreUnpaired, IsLongerAt, is_longer, operation_expression}
-use Rattle.cord_plan.proofs.Common.{Takes, Operation, or_nothing, operation, operations, is_dead, is_first, is_from, some_from}
-use Rattle.cord_plan.proofs.Common.{expr_view}
+use Rattle.cord_plan.proofs.Common.{option_map, refl, sym, ap, ◌∙◌, subst, arith, length-append, replicate, slice_get, or_assoc, or-false}
+use Rattle.cord_plan.proofs.Common.{slice_get_read, at_drop_more, at_drop_all, get_or-replicate, length-replicate, map-append, take_more}
+use Rattle.cord_plan.proofs.Common.{Statement, Expr, target_of, ChoiceTable, Choice, defining, expr_of, expr_with, operands_chosen, grown}
+use Rattle.cord_plan.proofs.Common.{exprs, Has, choice_view, simple_operands, AreLonger, AreUnpaired, IsLongerAt, is_longer}
+use Rattle.cord_plan.proofs.Common.{operation_expression, Takes, Operation, or_nothing, operation, operations, is_dead, is_first, is_from}
+use Rattle.cord_plan.proofs.Common.{some_from, expr_view}
 use Rattle.std.proofs.Math.Seq.{take-append_seam}
 use Rattle.std.proofs.lemmas.List.Recursion.{or_push}
 use Rattle.cord_plan.specs.Planned.{Build, Made, Measure, gives}
 use Rattle.cord_syntax.specs.declared.statements.Statement.TheVariants.{Let, File, Eager, Lazy, Chars, Nul, FromFn, Cat, Catn, Catc, Substr}
 use Rattle.cord_syntax.specs.declared.statements.Statement.TheVariants.{Balance, EcToCord, Sprintf, Put}
 use Rattle.cord_plan.specs.declared.planner.expression_facts.ExpressionFacts.{ExpressionFacts}
-use Rattle.cord_plan.specs.declared.planner.expressions.NextExpression.{NextExpression}
+use Rattle.cord_plan.specs.declared.expressions.Expr as expressions
 use Rattle.cord_plan.specs.inner.Choices.{AreChoices, IsKnown, IsNext}
 use Rattle.cord_plan.proofs.ExpressionFacts.{known_more}
 use Rattle.cord_plan.specs.declared.planner.operand_choices.Choice as program
@@ -110,20 +109,20 @@ module _ (s : List Statement) (later : List ℕ → ℕ → Bool) where
     entry_without t none = chosen_simple s later t b l ∙ ap (λ (o : Option (List (List ℕ))). entry_of s later t b l o) none
 
     -- a line that isn't simple has no expression, and takes none
-    pub next_without : (table : List (Option Expr)) (taken : List Bool) (known : ExpressionFacts) (next : NextExpression) →
-        simple_operands l ≡ None → next.expression ≡ None → next.extends ≡ false → IsKnown s b table known →
+    pub next_without : (table : List (Option Expr)) (taken : List Bool) (known : ExpressionFacts) (next : Option expressions.Expr × Bool) →
+        simple_operands l ≡ None → next.0 ≡ None → next.1 ≡ false → IsKnown s b table known →
         IsNext s later b l table taken taken known next
     next_without table taken known next none bare short before = record {
       expression = λ t has. ap (option_map expr_view) bare ∙ sym (ap (λ (en : Option Expr × List Choice). en.0) (entry_without t none));
       taken = λ t has. subst (λ (en : Option Expr × List Choice). Takes en.1 taken taken) (sym (entry_without t none)) (none_taken taken);
       longer = λ t has is. let bad : ⊥ = cc in absurd bad;
-      known = known_more s b table (option_map expr_view next.expression) known before;
+      known = known_more s b table (option_map expr_view next.0) known before;
     }
 
     -- a simple line with these choices
     pub next_with : (table : List (Option Expr)) (old new : List Bool) (xs : List (List ℕ)) (cs : List Choice) (known : ExpressionFacts)
-        (next : NextExpression) → simple_operands l ≡ Some xs → AreChoices s later b l table cs → Takes cs old new →
-        option_map expr_view next.expression ≡ expr_with l (map (λ c. expr_of c) cs) → next.extends ≡ is_longer b l cs →
+        (next : Option expressions.Expr × Bool) → simple_operands l ≡ Some xs → AreChoices s later b l table cs → Takes cs old new →
+        option_map expr_view next.0 ≡ expr_with l (map (λ c. expr_of c) cs) → next.1 ≡ is_longer b l cs →
         IsKnown s (b + 1) (table ++ expr_with l (map (λ c. expr_of c) cs) ∷ []) known → IsNext s later b l table old new known next
     next_with table old new xs cs known next simple chosen takes made extends after = record {
       expression = λ t has. made ∙ ap (λ (en : Option Expr × List Choice). en.0) (entry_is t has);
@@ -161,7 +160,7 @@ module _ (s : List Statement) (later : List ℕ → ℕ → Bool) where
   }
 
   module _ (b : ℕ) (l : Statement) (made : List Operation) (old new : List Bool) (within : b < length s) (here : l ≡ get_or s b l)
-      (so_far : IsBegun b made old) (facts : ExpressionFacts) (next : NextExpression)
+      (so_far : IsBegun b made old) (facts : ExpressionFacts) (next : Option expressions.Expr × Bool)
       (is_next : IsNext s later b l (map operation_expression made) old new facts next) where
     abbrev entry : Option Expr × List Choice
     entry = operands_chosen s later so_far.table b l (defining l)
@@ -178,12 +177,12 @@ module _ (s : List Statement) (later : List ℕ → ℕ → Bool) where
 
     -- the operation of the line has the expression that its choices make
     module _ (o : Operation)
-        (is_made : o ≡ operation l (or_nothing (option_map expr_view next.expression)) (is_dead later b (target_of l)) false) where
+        (is_made : o ≡ operation l (or_nothing (option_map expr_view next.0)) (is_dead later b (target_of l)) false) where
       made_so : o ≡ operation l (or_nothing entry.0) (is_dead later b (target_of l)) false
       made_so = is_made ∙ ap (λ (f : Option Expr). operation l (or_nothing f) (is_dead later b (target_of l)) false)
           (is_next.expression so_far.table so_far.has)
 
-      pub has_expression : map operation_expression (made ++ o ∷ []) ≡ map operation_expression made ++ option_map expr_view next.expression ∷ []
+      pub has_expression : map operation_expression (made ++ o ∷ []) ≡ map operation_expression made ++ option_map expr_view next.0 ∷ []
       has_expression =
           map-append operation_expression made (o ∷ [])
           ∙ ap (λ (f : Option Expr). map operation_expression made ++ f ∷ [])
@@ -217,8 +216,8 @@ module _ (s : List Statement) (later : List ℕ → ℕ → Bool) where
         (ap (λ (n : ℕ). slice_get (so_far.table ++ entry ∷ []) n) (sym so_far.long) ∙ get_last so_far.table entry)
 
     -- it is reported whether it extends the one before it
-    pub longer_then : (all : List Bool) → length all ≡ b → AreLonger s later all → AreLonger s later (all ++ next.extends ∷ [])
-    longer_then all size before p h = elim (last_or all next.extends p true h) [
+    pub longer_then : (all : List Bool) → length all ≡ b → AreLonger s later all → AreLonger s later (all ++ next.1 ∷ [])
+    longer_then all size before p h = elim (last_or all next.1 p true h) [
       | inl f ↦ before p f
       | inr f ↦ subst (λ (n : ℕ). IsLongerAt s later n) (sym (f.0 ∙ size)) (record {
         line = l;

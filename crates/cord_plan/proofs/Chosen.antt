@@ -4,7 +4,7 @@ use Rattle.cord_plan.proofs.Common.{ℕ, zero, suc, Bool, true, false, List, [],
 use Rattle.cord_plan.proofs.Common.{inl, inr, ⊎_elim, arith, append_assoc, append-nil, length-append, slice_get, eq-or-lt_of_le, map-append}
 use Rattle.cord_plan.proofs.Common.{Statement, Expr, name, assigns, assigns_at, ChoiceTable, Choice, named, replaced, expr_of, expr_with}
 use Rattle.cord_plan.proofs.Common.{first_of, defining, setter, fits, is_small, chosen_from, chosen_of, choices, operands_chosen, grown}
-use Rattle.cord_plan.proofs.Common.{exprs, and_parts}
+use Rattle.cord_plan.proofs.Common.{exprs, and_parts, read_by, slice_get_cases, slice_get_within}
 use Rattle.cord_plan.proofs.Pushed.{get_before}
 
 -- the last element of a list, or one before it
@@ -57,6 +57,22 @@ setter_is s x (suc p) a e = pick (assigns_at (slice_get s p) x) refl e (λ h. se
 pub line_there : (o : Option Statement) (x : List ℕ) → assigns_at o x ≡ true → (l : Statement) × (o ≡ Some l) × (assigns l x ≡ true)
 line_there None x e = let bad : ⊥ = cc in absurd bad
 line_there (Some l) x e = (l, refl, e)
+
+abbrev pub choices_at : Option (Option Expr × List Choice) → List Choice
+choices_at None = []
+choices_at (Some en) = en.1
+
+-- the entry of an expression
+pub record EntryOf (table : ChoiceTable) (a : ℕ) (r : Expr) : Type 0 where
+  pub choices : List Choice
+  pub at : slice_get table a ≡ Some (Some r, choices)
+
+pub entry_of : (table : ChoiceTable) (a : ℕ) (r : Expr) → first_of (slice_get table a) ≡ Some r → EntryOf table a r
+entry_of table a r e = pick (slice_get table a) refl e
+  where
+    pick : (o : Option (Option Expr × List Choice)) → slice_get table a ≡ o → first_of o ≡ Some r → EntryOf table a r
+    pick None at h = let bad : ⊥ = cc in absurd bad
+    pick (Some en) at h = record { choices = en.1; at = at ∙ ap (λ (o : Option Expr). Some (o, en.1)) h }
 
 module _ (s : List Statement) (later : List ℕ → ℕ → Bool) where
   -- the expression r of the line at a stands for x in the line l at b
@@ -202,3 +218,68 @@ module _ (s : List Statement) (later : List ℕ → ℕ → Bool) where
     pub each_entry : EachEntry P (exprs s later)
     each_entry = grown_each [] s (λ k. (let sum : length {A = Option Expr × List Choice} [] + k ≡ k = omega arith in
         ap (λ (n : ℕ). slice_get s n) sum)) refl (λ k en e. (let bad : ⊥ = cc in absurd bad))
+
+  -- ---- the entries of a script's lines
+  grown_length : (table : ChoiceTable) (b : ℕ) (rest : List Statement) → length (grown s later table b rest) ≡ length table + length rest
+  grown_length table b [] = omega arith
+  grown_length table b (l ∷ rest) =
+      let en : Option Expr × List Choice = operands_chosen s later table b l (defining l) in
+      omega (arith, grown_length (table ++ en ∷ []) (b + 1) rest, length-append table (en ∷ []))
+
+  pub table_long : length (exprs s later) ≡ length s
+  table_long = let none : length {A = Option Expr × List Choice} [] ≡ 0 = refl in grown_length [] 0 s ∙ omega (arith, none)
+
+  -- that of a line, chosen over a prefix of the table
+  pub record LineEntry (b : ℕ) (l : Statement) : Type 0 where
+    pub table : ChoiceTable
+    pub prefix : IsPrefix table
+    pub is : slice_get (exprs s later) b ≡ Some (operands_chosen s later table b l (defining l))
+
+  abbrev EntryOver : ℕ → Option Expr × List Choice → Type 0
+  EntryOver k en = (l : Statement) → slice_get s k ≡ Some l → (table : ChoiceTable) × IsPrefix table ×
+      (en ≡ operands_chosen s later table k l (defining l))
+
+  entry_over : (table : ChoiceTable) (k : ℕ) (m : Statement) → slice_get s k ≡ Some m → IsPrefix table → EachEntry EntryOver table →
+      EntryOver k (operands_chosen s later table k m (defining m))
+  entry_over table k m here prefix each l there =
+      let same : m ≡ l = cc in
+      (table, prefix, ap (λ (w : Statement). operands_chosen s later table k w (defining w)) same)
+
+  pub line_entry : (b : ℕ) (l : Statement) → slice_get s b ≡ Some l → LineEntry b l
+  line_entry b l here = elim (slice_get_cases (exprs s later) b).1 [
+    | inl w ↦
+        let one = each_entry EntryOver entry_over b w.0 w.2 l here in
+        record { table = one.0; prefix = one.1; is = w.2 ∙ ap (λ (en : Option Expr × List Choice). Some en) one.2 }
+    | inr w ↦ absurd (omega (arith, w.0, table_long, slice_get_within s b l here))
+  ]
+
+  -- that of a line with an expression
+  pub record SimpleEntry (b : ℕ) (l : Statement) (e : Expr) (cs : List Choice) : Type 0 where
+    pub table : ChoiceTable
+    pub prefix : IsPrefix table
+    pub defined : Expr
+    pub defining_is : defining l ≡ Some defined
+    pub choices_are : choices s later table b l [] (read_by l) ≡ cs
+    pub chosen : AreChosen table b l (read_by l) cs
+    pub expression : expr_with l (map (λ c. expr_of c) cs) ≡ Some e
+
+  pub simple_entry : (b : ℕ) (l : Statement) (e : Expr) (cs : List Choice) → slice_get s b ≡ Some l →
+      slice_get (exprs s later) b ≡ Some (Some e, cs) → SimpleEntry b l e cs
+  simple_entry b l e cs here there = pick (defining l) refl (sym w.is ∙ there)
+    where
+      w : LineEntry b l
+      w = line_entry b l here
+
+      pick : (o : Option Expr) → defining l ≡ o → Some (operands_chosen s later w.table b l o) ≡ Some (Some e, cs) → SimpleEntry b l e cs
+      pick None f same = let gone : None ≡ Some e = ap first_of same in let bad : ⊥ = cc in absurd bad
+      pick (Some defined) f same =
+          let are : choices s later w.table b l [] (read_by l) ≡ cs = ap choices_at same in
+          record {
+            table = w.table;
+            prefix = w.prefix;
+            defined = defined;
+            defining_is = f;
+            choices_are = are;
+            chosen = subst (λ (ds : List Choice). AreChosen w.table b l (read_by l) ds) are (are_chosen w.table b l [] [] (read_by l) tt);
+            expression = ap (λ (ds : List Choice). expr_with l (map (λ c. expr_of c) ds)) (sym are) ∙ ap first_of same;
+          }

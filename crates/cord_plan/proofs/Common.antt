@@ -87,7 +87,6 @@ pub use Rattle.cord_plan.specs.declared.expressions.Members.{Members}
 pub use Rattle.cord_plan.specs.declared.expressions.Rest.{Rest}
 pub use Rattle.cord_plan.specs.declared.expressions.Rest.TheVariants.{Nothing, One, Two, rolls-Nothing, rolls-One, rolls-Two}
 pub use Rattle.cord_plan.specs.declared.expressions.Single.{Single}
-pub use Rattle.cord_plan.specs.declared.flow.liveness.Group.{Group}
 pub use Rattle.cord_plan.specs.declared.flow.liveness.Later.{Later}
 pub use Rattle.cord_plan.specs.declared.flow.numbering.LineNumbers.{LineNumbers}
 pub use Rattle.cord_plan.specs.declared.flow.numbering.NumberedLine.{NumberedLine}

@@ -1,6 +1,6 @@
 -- Operations that join what the one before them joins, and one member more.
 use Rattle.std.specs.Prelude.{◌≡◌, ◌+◌, ◌-◌, ◌∷◌, ◌&&◌, ◌||◌, ◌==◌}
-use Rattle.cord_plan.proofs.Common.{ℕ, zero, suc, Bool, true, false, List, [], map, get_or, Option, Some, pos, refl, sym, ap, ◌∙◌, subst}
+use Rattle.cord_plan.proofs.Common.{ℕ, suc, Bool, true, false, List, [], map, Option, Some, pos, refl, sym, ap, ◌∙◌, subst}
 use Rattle.cord_plan.proofs.Common.{arith, slice_get, and-false, eqb-true, Number, Numeral, Statement, Chars, Nul, Cat, Catn, Catc, Substr}
 use Rattle.cord_plan.proofs.Common.{Put, Expr, Exprs, name, run, cat, nothing, member, append, lacks, members, names, Extends, IsLonger}
 use Rattle.cord_plan.proofs.Common.{joined_at, joined_by, AreExtending, Choice, ChoiceTable, choices, defining, expr_of, expr_with, exprs}
@@ -8,16 +8,11 @@ use Rattle.cord_plan.proofs.Common.{named, operands_chosen, preserves, replaced,
 use Rattle.cord_plan.proofs.Common.{assigns, read_by, target_of, Joined, Operation, gives, is_dead, is_first, operation, or_nothing}
 use Rattle.cord_plan.proofs.Common.{planned, and_parts}
 use Rattle.cord_plan.specs.Exprs.{names_of}
-use Rattle.cord_plan.proofs.Chosen.{AreChosen, IsPrefix, Taken, are_chosen, each_entry, line_there}
+use Rattle.cord_plan.proofs.Chosen.{AreChosen, EntryOf, IsPrefix, LineEntry, Taken, are_chosen, choices_at, entry_of, line_entry, line_there}
 use Rattle.cord_plan.proofs.Lacking.{preserves_lacking}
-use Rattle.cord_plan.proofs.Pairs.{EntryOf, entry_of, taken_at, taken_facts}
+use Rattle.cord_plan.proofs.Pairs.{taken_at, taken_facts}
 use Rattle.cord_plan.proofs.PlannedPairs.{has_defining, operation_at}
 use Rattle.cord_plan.proofs.ReadNames.{HasDefining}
-
-pub reported_there : (reported : List Bool) (place : ℕ) → get_or reported place false ≡ true → slice_get reported place ≡ Some true
-reported_there [] place h = let bad : ⊥ = cc in absurd bad
-reported_there (v ∷ reported) zero h = ap (λ (w : Bool). Some w) h
-reported_there (v ∷ reported) (suc place) h = reported_there reported place h
 
 -- ---- one operation
 -- the operation of a line that makes a `cat` gives its target what the members join
@@ -149,11 +144,6 @@ module _ (s : List Statement) (later : List ℕ → ℕ → Bool) where
     joined : joined_at (slice_get (planned s later) a) ≡ Some (target, es)
     lacking : lacks (names_of es) target ≡ true
 
-  -- where its choices say that a line joins more than the one before it, its operation does
-  abbrev IsEntry : ℕ → Option Expr × List Choice → Type 0
-  IsEntry k en = (l : Statement) → slice_get s k ≡ Some l → slice_get (exprs s later) k ≡ Some en → is_longer k l en.1 ≡ true →
-      Extends (planned s later) k
-
   -- no name of an expression that stands for an operand is assigned by its line
   taken_stays : (t : ChoiceTable) (b : ℕ) (l : Statement) (x : List ℕ) (a : ℕ) (r : Expr) → Taken s later t b l x a r →
       preserves (slice_get s a) (names r) ≡ true
@@ -168,24 +158,23 @@ module _ (s : List Statement) (later : List ℕ → ℕ → Bool) where
   module _ (t : ChoiceTable) (b : ℕ) (prefix : IsPrefix s later t) where
     source_of_taken : (l : Statement) (x : List ℕ) (a : ℕ) (es : Exprs) → Taken s later t b l x a (cat es) → Source a es
     source_of_taken l x a es h =
-        record { target = j.target; joined = ap joined_at (found.2 ∙ ap Some same) ∙ j.joined; lacking = lacking }
+        record { target = j.target; joined = ap joined_at found.2 ∙ j.joined; lacking = lacking }
       where
         there : (m : Statement) × (slice_get s a ≡ Some m) × (assigns m x ≡ true)
         there = line_there (slice_get s a) x h.set.assigns
 
-        from : EntryOf s later t a (cat es)
-        from = entry_of s later t a (cat es) h.from
+        from : EntryOf t a (cat es)
+        from = entry_of t a (cat es) h.from
+
+        entered : slice_get (exprs s later) a ≡ Some (Some (cat es), from.choices)
+        entered = prefix a (Some (cat es), from.choices) from.at
 
         found : (dead : Bool) × (paired : Bool)
-            × (slice_get (planned s later) a ≡ Some (operation there.0 (or_nothing from.en.0) dead paired))
-        found = operation_there a there.0 from.en there.1 (prefix a from.en from.at)
-
-        same : operation there.0 (or_nothing from.en.0) found.0 found.1 ≡ operation there.0 (cat es) found.0 found.1
-        same = ap (λ (f : Option Expr). operation there.0 (or_nothing f) found.0 found.1) from.is
+            × (slice_get (planned s later) a ≡ Some (operation there.0 (cat es) dead paired))
+        found = operation_there a there.0 (Some (cat es), from.choices) there.1 entered
 
         j : Joins there.0 (operation there.0 (cat es) found.0 found.1) es
-        j = line_joins there.0 es found.0 found.1 x there.2 (has_defining s later a from.en there.0 (cat es) (prefix a from.en from.at)
-            there.1 from.is)
+        j = line_joins there.0 es found.0 found.1 x there.2 (has_defining s later a there.0 (cat es) from.choices there.1 entered)
 
         lacking : lacks (names_of es) j.target ≡ true
         lacking = sym (preserves_lacking there.0 j.target j.is_target (names_of es))
@@ -237,14 +226,11 @@ module _ (s : List Statement) (later : List ℕ → ℕ → Bool) where
         longer_extends l (made l) at entered (are_made l) (catc_longer b line target operand byte (made l) longer)
     extends_here l at entered longer = let bad : ⊥ = cc in absurd bad
 
-    entry_here : (l : Statement) → slice_get s b ≡ Some l → IsEntry b (operands_chosen s later t b l (defining l))
-    entry_here l at m there entered longer =
-        let same : l ≡ m = cc in
-        extends_here l at entered (ap (λ (k : Statement). is_longer b k (operands_chosen s later t b l (defining l)).1) same ∙ longer)
-
   -- each line of which it is reported that it joins more than the line before it has an operation that does
   pub all_extending : (reported : List Bool) → AreLonger s later reported → AreExtending reported (planned s later)
   all_extending reported longer place h =
       let w : IsLongerAt s later place = longer place h in
-      (each_entry s later IsEntry (λ t b l at prefix each. entry_here t b prefix l at) place w.entry w.entered) w.line w.at
-      w.entered w.longer
+      let here : LineEntry s later place w.line = line_entry s later place w.line w.at in
+      let both : Some w.entry ≡ Some (operands_chosen s later here.table place w.line (defining w.line)) = sym w.entered ∙ here.is in
+      extends_here here.table place here.prefix w.line w.at here.is
+      (ap (λ (o : Option (Option Expr × List Choice)). is_longer place w.line (choices_at o)) (sym both) ∙ w.longer)

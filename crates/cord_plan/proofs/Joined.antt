@@ -1,7 +1,7 @@
 -- The members of a `cat`, one operand after the other.
 use Rattle.std.specs.Prelude.{◌≡◌, ◌+◌, ◌<◌, ◌∷◌, ◌++◌}
 use Rattle.cord_plan.proofs.Common.{ℕ, List, [], map, take, length, get_or, refl, sym, ap, ◌∙◌, map-append, take_more, Number, Expr, Exprs}
-use Rattle.cord_plan.proofs.Common.{name, run, cat, nothing, member, append, preceding, members, expr_of, choice_view}
+use Rattle.cord_plan.proofs.Common.{run, cat, nothing, member, append, preceding, members, expr_of, choice_view}
 use Rattle.cord_plan.specs.declared.planner.operand_choices.Choice.{Choice}
 use Rattle.cord_plan.specs.Inlined as plain
 use Rattle.cord_plan.proofs.Appending.{append_nothing, append_thrice}
@@ -45,8 +45,3 @@ joined_more es old new last c n made added is = ap cat (
     ∙ (ap (λ (ms : Exprs). append ms (member last nothing)) made
     ∙ (ap (λ (e : Expr). append (members es) (member e nothing)) is
     ∙ sym (members_more es (run c n)))))
-
--- a name more
-pub added_name : (old : Exprs) (copy v : Expr) (x : List ℕ) → copy ≡ name x → v ≡ name x →
-    append old (member copy nothing) ≡ append old (preceding v nothing)
-added_name old copy v x made same = added_one old copy v (name x) (made ∙ sym same) same refl

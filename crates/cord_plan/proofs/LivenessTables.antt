@@ -1,7 +1,7 @@
 -- Tables of what is read later.
 use Rattle.std.specs.Prelude.{◌≡◌, ◌+◌, ◌*◌, ◌/◌, ◌%◌, ◌<◌, ◌∷◌, ◌++◌}
 use Rattle.cord_plan.proofs.Common.{ℕ, Bool, true, false, List, [], map, length, Option, Some, None, refl, sym, ap, ◌∙◌, arith, slice_get}
-use Rattle.cord_plan.proofs.Common.{div-add-mod, mod-lt, slice_get_within, Statement, Next, shape_of, Group, Successors, Numbering, has}
+use Rattle.cord_plan.proofs.Common.{div-add-mod, mod-lt, slice_get_within, Statement, Next, shape_of, Global, Vec, Successors, Numbering, has}
 use Rattle.cord_plan.proofs.Common.{reads_at, ReadBy, ReadLater, NotLive, IsLater, successors, some_of, names_of, number_of, IsBit, column}
 use Rattle.cord_plan.proofs.Common.{ArePaths, AreLive, AllLive, IsLive, at, column_of, places_at, reports_of, below_more}
 use Rattle.cord_plan.proofs.Pushed.{get_before, get_last}
@@ -17,35 +17,35 @@ pub bit_within : (n : ℕ) → n % 128 < 128
 bit_within n = mod-lt n (omega arith)
 
 -- the live places of a name
-abbrev live_of : Numbering → List Group → List ℕ → List Bool
+abbrev live_of : Numbering → List (Vec ℕ Global) → List ℕ → List Bool
 live_of t groups x = column_of groups (number_of t x)
 
 -- of one that has no number
-none_live : (t : Numbering) (groups : List Group) (x : List ℕ) → has (names_of t) x ≡ false → live_of t groups x ≡ []
+none_live : (t : Numbering) (groups : List (Vec ℕ Global)) (x : List ℕ) → has (names_of t) x ≡ false → live_of t groups x ≡ []
 none_live t groups x e = rw (unnumbered t x e) refl
 
 -- each of the first k groups is live
-abbrev pub LiveTo : List Statement → Numbering → ℕ → List Group → Type 0
-LiveTo s t k groups = (g : ℕ) → g < k → (group : Group) × (slice_get groups g ≡ Some group) × AreLive s t g group.words.items
+abbrev pub LiveTo : List Statement → Numbering → ℕ → List (Vec ℕ Global) → Type 0
+LiveTo s t k groups = (g : ℕ) → g < k → (group : Vec ℕ Global) × (slice_get groups g ≡ Some group) × AreLive s t g group.items
 
-pub live_more : (s : List Statement) (t : Numbering) (k : ℕ) (groups : List Group) (last : Group) → length groups ≡ k →
-    LiveTo s t k groups → AreLive s t k last.words.items → LiveTo s t (k + 1) (groups ++ last ∷ [])
+pub live_more : (s : List Statement) (t : Numbering) (k : ℕ) (groups : List (Vec ℕ Global)) (last : Vec ℕ Global) → length groups ≡ k →
+    LiveTo s t k groups → AreLive s t k last.items → LiveTo s t (k + 1) (groups ++ last ∷ [])
 live_more s t k groups last size before live =
-    below_more (λ g. (group : Group) × (slice_get (groups ++ last ∷ []) g ≡ Some group) × AreLive s t g group.words.items) k
+    below_more (λ g. (group : Vec ℕ Global) × (slice_get (groups ++ last ∷ []) g ≡ Some group) × AreLive s t g group.items) k
     (λ g lt. (let found = before g lt in (found.0, get_before groups (last ∷ []) g found.0 found.1, found.2)))
     (last, ap (λ (n : ℕ). slice_get (groups ++ last ∷ []) n) (sym size) ∙ get_last groups last, live)
 
-module _ (s : List Statement) (t : Numbering) (table : List Successors) (groups : List Group) (paths : ArePaths (map shape_of s) table)
+module _ (s : List Statement) (t : Numbering) (table : List Successors) (groups : List (Vec ℕ Global)) (paths : ArePaths (map shape_of s) table)
     (covers : CoversNames s t) (all : AllLive s t groups) where
   module _ (x : List ℕ) where
     live : has (names_of t) x ≡ true → IsLive s x (live_of t groups x)
     live known =
         let found : Numbered t x = numbered t x known in
-        let group : (group : Group) × (slice_get groups (found.number / 128) ≡ Some group)
-        × AreLive s t (found.number / 128) group.words.items = all found.number found.within in
+        let group : (group : Vec ℕ Global) × (slice_get groups (found.number / 128) ≡ Some group)
+        × AreLive s t (found.number / 128) group.items = all found.number found.within in
         let bit : IsBit t (found.number / 128) x (found.number % 128) =
         record { within = bit_within found.number; number = found.is ∙ ap Some (sym (split_number found.number)) } in
-        let there : live_of t groups x ≡ column group.0.words.items (found.number % 128) = rw (found.is, group.1) refl in
+        let there : live_of t groups x ≡ column group.0.items (found.number % 128) = rw (found.is, group.1) refl in
         rw there (group.2 x (found.number % 128) bit)
 
     path_known : (p : ℕ) (path : List ℕ) → ReadBy s x p path → has (names_of t) x ≡ true

@@ -7,9 +7,10 @@ use Rattle.cord_plan.proofs.Common.{length-map, map-append, take-append-le, take
 use Rattle.cord_plan.proofs.Common.{slice_get-map, slice_get_cases, slice_get_within, Statement, LineNumbers, NumberedLine, Numbering, has}
 use Rattle.cord_plan.proofs.Common.{read_by, reads_at, target_of, simple_operands, IsNumbered, IsNumbering, names_of, number_in, number_of}
 use Rattle.cord_plan.proofs.Common.{AddsPlaces, AddsLine, IsLineIn, AreNumbers, GainsNames, IsNumberedLine, IsNumber, TakesNumber, place_of}
-use Rattle.std.specs.List.{IsDistinct, list_any}
+use Rattle.std.specs.List.{IsDistinct}
 use Rattle.std.proofs.lemmas.Cmp.{nat_list_eq_equiv}
 use Rattle.std.proofs.Math.Seq.{drop-append_seam}
+use Rattle.std.proofs.lemmas.List.Folds.{list_any_none}
 use Rattle.std.proofs.lemmas.Map.Keys.{IsDistinct-push, apart_from_distinct}
 use Rattle.cord_plan.proofs.Choices.{simple_reads}
 use Rattle.cord_plan.proofs.Named.{has_at, same_bytes, own_bytes}
@@ -71,12 +72,6 @@ unfolding IsDistinct
 none_distinct = tt
 
 -- a name that no name of the list is equal to
-unlisted : (y : List ℕ) (names : List (List ℕ)) → All (λ z. bytes_eq y z ≡ false) names → list_any (bytes_eq y) names ≡ false
-unlisted y [] none = refl
-unlisted y (z ∷ names) none =
-    let first : bytes_eq y z ≡ false = none 0 z (omega arith) in
-    rw first (unlisted y names (λ k d lt. none (suc k) d (omega (arith, lt))))
-
 unplaced : (y : List ℕ) (names : List (List ℕ)) → All (λ z. bytes_eq y z ≡ false) names → place_of names y ≡ None
 unplaced y [] none = refl
 unplaced y (z ∷ names) none =
@@ -125,14 +120,10 @@ pub name_added : (y : List ℕ) (names : List (List ℕ)) → All (λ z. bytes_e
 name_added y names new = record {
   grows = record {
     remains = λ n x e. get_before names (y ∷ []) n x e;
-    distinct = λ d. IsDistinct-push nat_list_eq_equiv names y d (unlisted y names new);
+    distinct = λ d. IsDistinct-push nat_list_eq_equiv names y d (list_any_none (bytes_eq y) names new);
   };
   is = get_last names y;
 }
-
--- a name that stands in the list already
-pub name_known : (y : List ℕ) (names : List (List ℕ)) (n : ℕ) → slice_get names n ≡ Some y → TakesNumber y n names names
-name_known y names n there = record { grows = same_names names; is = there }
 
 -- ---- the numbers of names stay when other names come
 module _ (old new : List (List ℕ)) (grows : GainsNames old new) where

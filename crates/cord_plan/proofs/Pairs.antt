@@ -3,11 +3,12 @@ use Rattle.std.specs.Prelude.{◌≡◌, ◌⊎◌, ◌+◌, ◌-◌, ◌<◌, �
 use Rattle.cord_plan.proofs.Common.{ℕ, zero, suc, Bool, true, false, List, [], map, Option, Some, None, refl, sym, ap, ◌∙◌, subst, inl, inr}
 use Rattle.cord_plan.proofs.Common.{⊎_elim, arith, append-nil, slice_get, not, nat_le, bytes_eq, leb-true, leb-false, eqb-true, Grammar}
 use Rattle.cord_plan.proofs.Common.{ReadsBy, Statement, Expr, parts, names, count, has, read_by, reads_at, assigns, assigns_at, ChoiceTable}
-use Rattle.cord_plan.proofs.Common.{Choice, named, replaced, expr_of, expr_with, is_small, is_block_at, each_from, preserves, first_of}
-use Rattle.cord_plan.proofs.Common.{defining, choices, operands_chosen, IsPair, numbers_named, numbers_named_at, IsNoNumber, or_cases}
+use Rattle.cord_plan.proofs.Common.{Choice, named, replaced, expr_of, expr_with, is_small, is_block_at, each_from, preserves}
+use Rattle.cord_plan.proofs.Common.{defining, choices, exprs, operands_chosen, IsPair, numbers_named, numbers_named_at, IsNoNumber, or_cases}
 use Rattle.cord_plan.proofs.Common.{not-true, false_from_ne_true, and_parts, or-false}
 use Rattle.cord_plan.specs.declared.TheConstants.{MAX_EXPR_PARTS}
-use Rattle.cord_plan.proofs.Chosen.{Taken, Chosen, AreChosen, are_chosen, stay_small, EachEntry, IsPrefix, each_entry}
+use Rattle.cord_plan.proofs.Chosen.{Taken, Chosen, AreChosen, EachEntry, EntryOf, SimpleEntry, are_chosen, each_entry, entry_of}
+use Rattle.cord_plan.proofs.Chosen.{simple_entry, stay_small}
 use Rattle.cord_plan.proofs.Named.{same_bytes, has_at, one_place, each_at, preserves_at, SomeNames, Names, with_names}
 use Rattle.cord_plan.proofs.ReadKinds.{no_number}
 
@@ -85,19 +86,6 @@ module _ (s : List Statement) (later : List ℕ → ℕ → Bool) where
       subst (λ (w : List ℕ). Taken s later table b l w a r) same (subst (λ (d : Choice). Chosen s later table b l x d) is h.0)
   taken_at table b l (x ∷ xs) (c ∷ cs) (suc i) t a r h e f = taken_at table b l xs cs i t a r h.1 e f
 
-  -- the entry of an expression
-  pub record EntryOf (table : ChoiceTable) (a : ℕ) (r : Expr) : Type 0 where
-    pub en : Option Expr × List Choice
-    pub at : slice_get table a ≡ Some en
-    pub is : en.0 ≡ Some r
-
-  pub entry_of : (table : ChoiceTable) (a : ℕ) (r : Expr) → first_of (slice_get table a) ≡ Some r → EntryOf table a r
-  entry_of table a r e = pick (slice_get table a) refl e
-    where
-      pick : (o : Option (Option Expr × List Choice)) → slice_get table a ≡ o → first_of o ≡ Some r → EntryOf table a r
-      pick None at h = let bad : ⊥ = cc in absurd bad
-      pick (Some en) at h = record { en = en; at = at; is = h }
-
   module _ (table : ChoiceTable) (b : ℕ) (l : Statement) (at : slice_get s b ≡ Some l) (each : EachEntry s later EntryNamed table) where
     abbrev made : List Choice
     made = choices s later table b l [] (read_by l)
@@ -117,20 +105,19 @@ module _ (s : List Statement) (later : List ℕ → ℕ → Bool) where
     named_there : (x : List ℕ) (a : ℕ) (r : Expr) (y : List ℕ) → Taken s later table b l x a r → has (names r) y ≡ true →
         (n : NamedBy b y) × (n.place ≤ a)
     named_there x a r y h is_named =
-        let from : EntryOf table a r = entry_of table a r h.from in
-        let n : NamedBy a y = each a from.en from.at r y from.is is_named in
         let low : n.place ≤ a = n.up_to in
         let before : a < b = h.set.before in
         let stays : (m : ℕ) → n.place ≤ m → m < b → assigns_at (slice_get s m) y ≡ false =
         λ m least most. two m least most (nat_le a m) refl in
         (record { place = n.place; up_to = omega arith; names_it = n.names_it; stays = stays }, low)
       where
-        two : (m : ℕ) → (each a (entry_of table a r h.from).en (entry_of table a r h.from).at r y
-            (entry_of table a r h.from).is is_named).place ≤ m → m < b → (v : Bool) → nat_le a m ≡ v → assigns_at (slice_get s m) y ≡ false
+        n : NamedBy a y
+        n = let from : EntryOf table a r = entry_of table a r h.from in each a (Some r, from.choices) from.at r y refl is_named
+
+        two : (m : ℕ) → n.place ≤ m → m < b → (v : Bool) → nat_le a m ≡ v → assigns_at (slice_get s m) y ≡ false
         two m least most true e =
             preserves_at (slice_get s m) (names r) y ((taken_facts table b l x a r h).fixed m (leb-true a m e) most) is_named
-        two m least most false e = (each a (entry_of table a r h.from).en (entry_of table a r h.from).at r y
-            (entry_of table a r h.from).is is_named).stays m least (leb-false a m e)
+        two m least most false e = n.stays m least (leb-false a m e)
 
     chosen_named : (k : ℕ) (f : Expr) (y : List ℕ) → (c : ChosenAt table b l (read_by l) made k f) → has (names f) y ≡ true → NamedBy b y
     chosen_named k f y c is_named = pick c.choice c.is c.chosen
@@ -210,69 +197,32 @@ module _ (s : List Statement) (later : List ℕ → ℕ → Bool) where
           pick (inr h) = clash (has (numbers_named l) t) h (ap (λ (o : Option Statement). has (numbers_named_at o) t) (sym at)
               ∙ no_number b)
 
-    -- the line's own entry
-    abbrev LeavesOut : Option Expr × List Choice → Type 0
-    LeavesOut en = (t : List ℕ) (a i : ℕ) (r e : Expr) → en.0 ≡ Some e → slice_get (read_by l) i ≡ Some t →
-        slice_get en.1 i ≡ Some (replaced a r) → IsNoNumber s t → has (names e) t ≡ false
+  module _ (a b : ℕ) (t : List ℕ) (e : Expr) (pair : IsPair s later a b t e) where
+    whole : SimpleEntry s later b pair.line e pair.choices
+    whole = simple_entry s later b pair.line e pair.choices pair.is_line pair.is_expression
 
-    entry_out : (o : Option Expr) → LeavesOut (operands_chosen s later table b l o)
-    entry_out None t a i r e is operand is_replaced no_number = let bad : ⊥ = cc in absurd bad
-    entry_out (Some first) t a i r e is operand is_replaced no_number = left_out t a i r operand is_replaced no_number e is
+    is_replaced : slice_get (choices s later whole.table b pair.line [] (read_by pair.line)) pair.operand ≡ Some (replaced a pair.earlier)
+    is_replaced = ap (λ (cs : List Choice). slice_get cs pair.operand) whole.choices_are ∙ pair.is_replaced
 
-  abbrev EntryOut : ℕ → Option Expr × List Choice → Type 0
-  EntryOut k en = (l : Statement) (t : List ℕ) (a i : ℕ) (r e : Expr) → slice_get s k ≡ Some l → en.0 ≡ Some e →
-      slice_get (read_by l) i ≡ Some t → slice_get en.1 i ≡ Some (replaced a r) → IsNoNumber s t → has (names e) t ≡ false
+    is_expression : expr_with pair.line (map (λ c. expr_of c) (choices s later whole.table b pair.line [] (read_by pair.line))) ≡ Some e
+    is_expression = ap (λ (cs : List Choice). expr_with pair.line (map (λ c. expr_of c) cs)) whole.choices_are ∙ whole.expression
 
-  abbrev EntryFine : ℕ → Option Expr × List Choice → Type 0
-  EntryFine k en = EntryNamed k en × EntryOut k en
+    pub leaves_out : IsNoNumber s t → has (names e) t ≡ false
+    leaves_out no_number =
+        left_out whole.table b pair.line pair.is_line (λ k en at. all_named k en (whole.prefix k en at)) t a pair.operand pair.earlier
+        pair.is_operand is_replaced no_number e is_expression
+      where
+        all_named : EachEntry s later EntryNamed (exprs s later)
+        all_named = each_entry s later EntryNamed (λ table b l at prefix each. entry_named table b l at each (defining l))
 
-  entry_fine : (table : ChoiceTable) (b : ℕ) (l : Statement) → slice_get s b ≡ Some l → IsPrefix s later table →
-      EachEntry s later EntryFine table → EntryFine b (operands_chosen s later table b l (defining l))
-  entry_fine table b l at prefix each = (
-    entry_named table b l at is_named (defining l),
-    λ line t a i r e line_at is operand is_replaced no_number. (
-        let same : l ≡ line = (let both : Some l ≡ Some line = sym at ∙ line_at in cc) in
-        entry_out table b l at is_named (defining l) t a i r e is
-        (subst (λ (x : Statement). slice_get (read_by x) i ≡ Some t) (sym same) operand)
-        is_replaced no_number),
-  )
-    where
-      is_named : EachEntry s later EntryNamed table
-      is_named k en e = (each k en e).0
-
-  pub leaves_out : (a b : ℕ) (t : List ℕ) (e : Expr) → IsPair s later a b t e → IsNoNumber s t → has (names e) t ≡ false
-  leaves_out a b t e h no_number = (each_entry s later EntryFine entry_fine b (Some e, h.choices) h.is_expression).1 h.line t a h.operand
-      h.earlier e h.is_line refl h.is_operand h.is_replaced no_number
-
-  abbrev EntrySmall : ℕ → Option Expr × List Choice → Type 0
-  EntrySmall k en = (e : Expr) (i a : ℕ) (r : Expr) → en.0 ≡ Some e → slice_get en.1 i ≡ Some (replaced a r) → parts e ≤ MAX_EXPR_PARTS
-
-  small_of : (table : ChoiceTable) (b : ℕ) (l : Statement) (o : Option Expr) → EntrySmall b (operands_chosen s later table b l o)
-  small_of table b l None e i a r is is_replaced = let bad : ⊥ = cc in absurd bad
-  small_of table b l (Some first) e i a r is is_replaced =
-      let cs : List Choice = choices s later table b l [] (read_by l) in
-      let small : is_small (expr_with l (map (λ c. expr_of c) cs ++ [])) ≡ true =
-      stay_small s later table b l [] (read_by l) (λ k n q f. (let bad : ⊥ = cc in absurd bad)) i a r is_replaced in
-      leb-true (parts e) MAX_EXPR_PARTS (ap (λ (o : Option Expr). is_small o) (sym is) ∙ ap (λ (es : List Expr). is_small (expr_with l es))
-      (sym (append-nil (map (λ c. expr_of c) cs))) ∙ small)
-
-  pub stays_small : (a b : ℕ) (t : List ℕ) (e : Expr) → IsPair s later a b t e → parts e ≤ MAX_EXPR_PARTS
-  stays_small a b t e h = each_entry s later EntrySmall (λ table b l at prefix each. small_of table b l (defining l)) b
-      (Some e, h.choices) h.is_expression e h.operand a h.earlier refl h.is_replaced
-
-  abbrev pub EntryDefining : ℕ → Option Expr × List Choice → Type 0
-  EntryDefining k en = (l : Statement) (e : Expr) → slice_get s k ≡ Some l → en.0 ≡ Some e → (o : Expr) × (defining l ≡ Some o)
-
-  defining_of : (table : ChoiceTable) (b : ℕ) (l : Statement) (o : Option Expr) → defining l ≡ o → (e : Expr) →
-      (operands_chosen s later table b l o).0 ≡ Some e → (o : Expr) × (defining l ≡ Some o)
-  defining_of table b l None defining_is e is = let bad : ⊥ = cc in absurd bad
-  defining_of table b l (Some first) defining_is e is = (first, defining_is)
-
-  pub entry_defining : (table : ChoiceTable) (b : ℕ) (l : Statement) → slice_get s b ≡ Some l → IsPrefix s later table →
-      EachEntry s later EntryDefining table → EntryDefining b (operands_chosen s later table b l (defining l))
-  entry_defining table b l at prefix each line e line_at is =
-      let same : l ≡ line = (let both : Some l ≡ Some line = sym at ∙ line_at in cc) in
-      subst (λ (x : Statement). (o : Expr) × (defining x ≡ Some o)) same (defining_of table b l (defining l) refl e is)
+    pub stays_small : parts e ≤ MAX_EXPR_PARTS
+    stays_small =
+        let cs : List Choice = choices s later whole.table b pair.line [] (read_by pair.line) in
+        let small : is_small (expr_with pair.line (map (λ c. expr_of c) cs ++ [])) ≡ true =
+        stay_small s later whole.table b pair.line [] (read_by pair.line) (λ k n q f. (let bad : ⊥ = cc in absurd bad)) pair.operand a
+        pair.earlier is_replaced in
+        leb-true (parts e) MAX_EXPR_PARTS (ap (λ (o : Option Expr). is_small o) (sym is_expression
+        ∙ ap (λ (es : List Expr). expr_with pair.line es) (sym (append-nil (map (λ c. expr_of c) cs)))) ∙ small)
 
   -- the same in a script that is read
   pub leaves_out_read : (g : Grammar) (text : List ℕ) → ReadsBy g text s → (a b : ℕ) (t : List ℕ) (e : Expr) → IsPair s later a b t e →

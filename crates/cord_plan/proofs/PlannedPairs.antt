@@ -1,16 +1,15 @@
 -- The operations of inlined pairs.
 use Rattle.std.specs.Prelude.{◌≡◌, ◌+◌, ◌||◌, ◌∷◌}
-use Rattle.cord_plan.proofs.Common.{ℕ, zero, suc, Bool, true, false, List, [], Option, Some, None, refl, sym, ap, ◌∙◌, subst, arith}
-use Rattle.cord_plan.proofs.Common.{slice_get, bytes_eq, or_left, or_right, eq-eqb, Statement, Chars, Nul, Cat, Catn, Catc, Substr, Put}
-use Rattle.cord_plan.proofs.Common.{Expr, read_by, target_of, assigns, assigns_at, ChoiceTable, Choice, replaced, defining, choices}
-use Rattle.cord_plan.proofs.Common.{operands_chosen, exprs, Operation, Measure, Joined, gives, or_nothing, operation, is_from, some_from}
-use Rattle.cord_plan.proofs.Common.{is_first, is_dead, operations, planned, IsPair}
+use Rattle.cord_plan.proofs.Common.{ℕ, zero, suc, Bool, true, false, List, [], Option, Some, refl, sym, ap, ◌∙◌, subst, arith, slice_get}
+use Rattle.cord_plan.proofs.Common.{bytes_eq, or_left, or_right, eq-eqb, Statement, Chars, Nul, Cat, Catn, Catc, Substr, Put, Expr, read_by}
+use Rattle.cord_plan.proofs.Common.{target_of, assigns, ChoiceTable, Choice, replaced, defining, exprs, Operation, Measure, Joined, gives}
+use Rattle.cord_plan.proofs.Common.{or_nothing, operation, is_from, some_from, is_first, is_dead, operations, planned, IsPair}
 use Rattle.cord_syntax.specs.Lines.{line_of}
 use Rattle.cord_plan.specs.Pairs.{expression_of}
-use Rattle.cord_plan.proofs.Chosen.{Taken, are_chosen, EachEntry, IsPrefix, each_entry, line_there}
+use Rattle.cord_plan.proofs.Chosen.{EntryOf, SimpleEntry, Taken, entry_of, line_there, simple_entry}
 use Rattle.cord_plan.proofs.Named.{same_bytes}
 use Rattle.cord_plan.proofs.ReadNames.{HasDefining}
-use Rattle.cord_plan.proofs.Pairs.{taken_at, EntryOf, entry_of, EntryDefining, entry_defining}
+use Rattle.cord_plan.proofs.Pairs.{taken_at}
 
 -- the operation at a line's place
 pub operation_at : (later : List ℕ → ℕ → Bool) (table : ChoiceTable) (p : ℕ) (s : List Statement) (entries : ChoiceTable) (k : ℕ) (l : Statement)
@@ -82,38 +81,9 @@ only_measures (Put line operand) e dead paired t o named first = let bad : ⊥ =
 only_measures l e dead paired t o named first = absurd o
 
 module _ (s : List Statement) (later : List ℕ → ℕ → Bool) where
-  -- the earlier line of a pair assigns the name, and its expression is the one that was taken
-  record Earlier (a : ℕ) (t : List ℕ) (r : Expr) : Type 0 where
-    assigned : assigns_at (slice_get s a) t ≡ true
-    entry : EntryOf s later (exprs s later) a r
-
-  abbrev EntryEarlier : ℕ → Option Expr × List Choice → Type 0
-  EntryEarlier k en = (l : Statement) (t : List ℕ) (a i : ℕ) (r e : Expr) → slice_get s k ≡ Some l → en.0 ≡ Some e →
-      slice_get (read_by l) i ≡ Some t → slice_get en.1 i ≡ Some (replaced a r) → Earlier a t r
-
-  earlier_of : (table : ChoiceTable) (b : ℕ) (l : Statement) → IsPrefix s later table → (o : Option Expr) (t : List ℕ) (a i : ℕ) (r e : Expr) →
-      (operands_chosen s later table b l o).0 ≡ Some e → slice_get (read_by l) i ≡ Some t →
-      slice_get (operands_chosen s later table b l o).1 i ≡ Some (replaced a r) → Earlier a t r
-  earlier_of table b l prefix None t a i r e is operand is_replaced = let bad : ⊥ = cc in absurd bad
-  earlier_of table b l prefix (Some first) t a i r e is operand is_replaced =
-      let taken : Taken s later table b l t a r =
-      taken_at s later table b l (read_by l) (choices s later table b l [] (read_by l)) i t a r
-      (are_chosen s later table b l [] [] (read_by l) tt) operand is_replaced in
-      let en : EntryOf s later table a r = entry_of s later table a r taken.from in
-      record { assigned = taken.set.assigns; entry = record { en = en.en; at = prefix a en.en en.at; is = en.is } }
-
-  entry_earlier : (table : ChoiceTable) (b : ℕ) (l : Statement) → slice_get s b ≡ Some l → IsPrefix s later table →
-      EachEntry s later EntryEarlier table → EntryEarlier b (operands_chosen s later table b l (defining l))
-  entry_earlier table b l at prefix each line t a i r e line_at is operand is_replaced =
-      let same : line ≡ l = (let both : Some line ≡ Some l = sym line_at ∙ at in cc) in
-      earlier_of table b l prefix (defining l) t a i r e is (subst (λ (x : Statement). slice_get (read_by x) i ≡ Some t) same operand)
-      is_replaced
-
-  pub has_defining : (k : ℕ) (en : Option Expr × List Choice) (l : Statement) (e : Expr) → slice_get (exprs s later) k ≡ Some en →
-      slice_get s k ≡ Some l → en.0 ≡ Some e → HasDefining (defining l)
-  has_defining k en l e entry at is =
-      let first = each_entry s later (EntryDefining s later) (entry_defining s later) k en entry l e at is in
-      subst (λ (o : Option Expr). HasDefining o) (sym first.1) tt
+  pub has_defining : (k : ℕ) (l : Statement) (e : Expr) (cs : List Choice) → slice_get s k ≡ Some l →
+      slice_get (exprs s later) k ≡ Some (Some e, cs) → HasDefining (defining l)
+  has_defining k l e cs at entry = subst (λ (o : Option Expr). HasDefining o) (sym (simple_entry s later k l e cs at entry).defining_is) tt
 
   module _ (a b : ℕ) (t : List ℕ) (e : Expr) (pair : IsPair s later a b t e) where
     -- the later operation has the pair's expression
@@ -122,29 +92,28 @@ module _ (s : List Statement) (later : List ℕ → ℕ → Bool) where
       operation pair.line e (is_dead later (0 + b) (target_of pair.line)) (is_first (0 + b) (exprs s later)),
       operation_at later (exprs s later) 0 s (exprs s later) b pair.line (Some e, pair.choices) pair.is_line pair.is_expression,
       has_expression pair.line e (is_dead later (0 + b) (target_of pair.line)) (is_first (0 + b) (exprs s later))
-          (has_defining b (Some e, pair.choices) pair.line e pair.is_expression pair.is_line refl),
+          (has_defining b pair.line e pair.choices pair.is_line pair.is_expression),
     )
 
     -- the earlier one computes the name's length alone
     pub earlier_operation : (line : ℕ) × (slice_get (planned s later) a ≡ Some (Measure line t (Joined pair.earlier)))
     earlier_operation =
-        let earlier : Earlier a t pair.earlier =
-        each_entry s later EntryEarlier entry_earlier b (Some e, pair.choices) pair.is_expression pair.line t a pair.operand
-        pair.earlier e pair.is_line refl pair.is_operand pair.is_replaced in
-        let line = line_there (slice_get s a) t earlier.assigned in
-        let en : Option Expr × List Choice = earlier.entry.en in
-        let defining_is : HasDefining (defining line.0) = has_defining a en line.0 pair.earlier earlier.entry.at line.1
-        earlier.entry.is in
+        let w : SimpleEntry s later b pair.line e pair.choices =
+        simple_entry s later b pair.line e pair.choices pair.is_line pair.is_expression in
+        let taken : Taken s later w.table b pair.line t a pair.earlier =
+        taken_at s later w.table b pair.line (read_by pair.line) pair.choices pair.operand t a pair.earlier w.chosen pair.is_operand
+        pair.is_replaced in
+        let from : EntryOf w.table a pair.earlier = entry_of w.table a pair.earlier taken.from in
+        let entered : slice_get (exprs s later) a ≡ Some (Some pair.earlier, from.choices) = w.prefix a _ from.at in
+        let line = line_there (slice_get s a) t taken.set.assigns in
+        let defining_is : HasDefining (defining line.0) = has_defining a line.0 pair.earlier from.choices line.1 entered in
         let first : is_first a (exprs s later) ≡ true =
         first_found a b (exprs s later) (Some e, pair.choices) pair.is_expression
         (some_found a pair.operand pair.earlier pair.choices pair.is_replaced) in
         let place : 0 + a ≡ a = omega arith in (
           line_of line.0,
-          operation_at later (exprs s later) 0 s (exprs s later) a line.0 en line.1 earlier.entry.at
-              ∙ ap (λ (n : ℕ). Some (operation line.0 (or_nothing en.0) (is_dead later n (target_of line.0))
-              (is_first n (exprs s later)))) place
-              ∙ ap (λ (o : Option Expr). Some (operation line.0 (or_nothing o) (is_dead later a (target_of line.0))
-              (is_first a (exprs s later)))) earlier.entry.is
+          operation_at later (exprs s later) 0 s (exprs s later) a line.0 (Some pair.earlier, from.choices) line.1 entered
+              ∙ ap (λ (n : ℕ). Some (operation line.0 pair.earlier (is_dead later n (target_of line.0)) (is_first n (exprs s later)))) place
               ∙ ap (λ (o : Operation). Some o) (only_measures line.0 pair.earlier (is_dead later a (target_of line.0))
               (is_first a (exprs s later)) t defining_is line.2 first),
         )

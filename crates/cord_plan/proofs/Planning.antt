@@ -1,14 +1,14 @@
 -- What the plan of a script decides meets the conditions.
-use Rattle.std.specs.Prelude.{◌≡◌, ◌⊎◌, ◌+◌, ◌<◌, ◌∷◌, ◌++◌, ◌==◌, if◌then◌else◌}
+use Rattle.std.specs.Prelude.{◌≡◌, ◌⊎◌, ◌+◌, ◌<◌, ◌∷◌, ◌==◌, if◌then◌else◌}
 use Rattle.cord_plan.proofs.Common.{ℕ, zero, suc, Bool, true, false, List, [], map, length, Option, Some, None, refl, sym, ap, ◌∙◌, subst}
-use Rattle.cord_plan.proofs.Common.{inl, inr, ⊎_elim, arith, length-append, eqb-true, slice_get_cases, slice_get_within, bytes_eq-Decides}
-use Rattle.cord_plan.proofs.Common.{slice_get, bytes_eq, Statement, Chars, Nul, Cat, Catn, Catc, Substr, Put, at_here, some_here, Expr}
-use Rattle.cord_plan.proofs.Common.{name, names, count, read_by, target_of, is_this_name, assigns, assigns_at, NotLive, IsLater}
-use Rattle.cord_plan.proofs.Common.{ChoiceTable, Choice, named, replaced, expr_of, expr_with, first_of, defining, setter, preserves}
-use Rattle.cord_plan.proofs.Common.{choices, operands_chosen, entry, grown, exprs, or_nothing, operation, operations, is_dead, is_first}
-use Rattle.cord_plan.proofs.Common.{some_from, planned, Decisions, decided, decided_from, is_simple, is_simple_at, HasKinds, stands}
-use Rattle.cord_plan.proofs.Common.{stands_by, IsInlined, MeetsConditions, or_cases, not-true}
-use Rattle.cord_plan.proofs.Chosen.{AreChosen, Chosen, EachEntry, IsPrefix, IsSetter, Taken, are_chosen, each_entry, line_there}
+use Rattle.cord_plan.proofs.Common.{inl, inr, ⊎_elim, arith, eqb-true, slice_get_within, bytes_eq-Decides, slice_get, bytes_eq, Statement}
+use Rattle.cord_plan.proofs.Common.{Chars, Nul, Cat, Catn, Catc, Substr, Put, at_here, some_here, Expr, name, names, count, read_by}
+use Rattle.cord_plan.proofs.Common.{target_of, is_this_name, assigns, assigns_at, NotLive, IsLater, ChoiceTable, Choice, named, replaced}
+use Rattle.cord_plan.proofs.Common.{expr_of, expr_with, first_of, defining, setter, preserves, choices, operands_chosen, exprs, or_nothing}
+use Rattle.cord_plan.proofs.Common.{operation, operations, is_dead, is_first, some_from, planned, Decisions, decided, decided_from}
+use Rattle.cord_plan.proofs.Common.{is_simple, is_simple_at, HasKinds, stands, stands_by, IsInlined, MeetsConditions, or_cases, not-true}
+use Rattle.cord_plan.proofs.Chosen.{AreChosen, Chosen, EntryOf, IsSetter, LineEntry, Taken, are_chosen, entry_of, line_entry, line_there}
+use Rattle.cord_plan.proofs.Chosen.{SimpleEntry, choices_at, simple_entry, table_long}
 use Rattle.cord_plan.proofs.Named.{one_place}
 use Rattle.cord_plan.proofs.Pairs.{Facts, taken_at, taken_facts}
 
@@ -125,48 +125,7 @@ module _ (s : List Statement) (later : List ℕ → ℕ → Bool) where
   abbrev whole_table : ChoiceTable
   whole_table = exprs s later
 
-  pub grown_length : (table : ChoiceTable) (b : ℕ) (rest : List Statement) → length (grown s later table b rest) ≡ length table + length rest
-  grown_length table b [] = omega arith
-  grown_length table b (l ∷ rest) =
-      let ih : length (grown s later (table ++ operands_chosen s later table b l (defining l) ∷ []) (b + 1) rest)
-      ≡ length (table ++ operands_chosen s later table b l (defining l) ∷ []) + length rest =
-      grown_length (table ++ operands_chosen s later table b l (defining l) ∷ []) (b + 1) rest in
-      let long : length (table ++ operands_chosen s later table b l (defining l) ∷ []) ≡ length table + 1 =
-      length-append table (operands_chosen s later table b l (defining l) ∷ []) in
-      omega (arith, ih, long)
-
-  table_long : length whole_table ≡ length s
-  table_long = let none : length {A = Option Expr × List Choice} [] ≡ 0 = refl in grown_length [] 0 s ∙ omega (arith, none)
-
-  -- the entry of a line, chosen over a prefix of the table
-  record EntryAt (b : ℕ) (l : Statement) : Type 0 where
-    prefix : ChoiceTable
-    keeps_on : IsPrefix s later prefix
-    entry_is : slice_get whole_table b ≡ Some (operands_chosen s later prefix b l (defining l))
-
-  abbrev EntryOver : ℕ → Option Expr × List Choice → Type 0
-  EntryOver k en = (l : Statement) → slice_get s k ≡ Some l → (prefix : ChoiceTable) × IsPrefix s later prefix ×
-      (en ≡ operands_chosen s later prefix k l (defining l))
-
-  entry_over : (table : ChoiceTable) (k : ℕ) (m : Statement) → slice_get s k ≡ Some m → IsPrefix s later table →
-      EachEntry s later EntryOver table → EntryOver k (operands_chosen s later table k m (defining m))
-  entry_over table k m here prefix each l there =
-      let same : m ≡ l = cc in
-      (table, prefix, ap (λ (w : Statement). operands_chosen s later table k w (defining w)) same)
-
-  entry_at : (b : ℕ) (l : Statement) → slice_get s b ≡ Some l → EntryAt b l
-  entry_at b l here = elim (slice_get_cases whole_table b).1 [
-    | inl w ↦
-        let one = each_entry s later EntryOver entry_over b w.0 w.2 l here in
-        record { prefix = one.0; keeps_on = one.1; entry_is = w.2 ∙ ap (λ (en : Option Expr × List Choice). Some en) one.2 }
-    | inr w ↦ absurd (omega (arith, w.0, table_long, slice_get_within s b l here))
-  ]
-
   -- ---- what the plan decides
-  abbrev choices_at : Option (Option Expr × List Choice) → List Choice
-  choices_at None = []
-  choices_at (Some en) = en.1
-
   abbrev read_at : Option Statement → List (List ℕ)
   read_at None = []
   read_at (Some l) = read_by l
@@ -201,54 +160,50 @@ module _ (s : List Statement) (later : List ℕ → ℕ → Bool) where
 
   pub planned_decided : planned s later ≡ decided decisions s
   planned_decided =
-      operations_decided 0 s whole_table table_long (λ k. (let same : 0 + k ≡ k = omega arith in ap (λ (n : ℕ). slice_get s n) same))
+      operations_decided 0 s whole_table (table_long s later) (λ k. (let same : 0 + k ≡ k = omega arith in ap (λ (n : ℕ). slice_get s n) same))
       (λ k. (let same : 0 + k ≡ k = omega arith in ap (λ (n : ℕ). slice_get whole_table n) same))
 
   -- ---- a line with an expression
   module _ (b : ℕ) (l : Statement) (here : slice_get s b ≡ Some l) where
-    at : EntryAt b l
-    at = entry_at b l here
+    at : LineEntry s later b l
+    at = line_entry s later b l here
 
     abbrev chosen_here : List Choice
-    chosen_here = choices s later at.prefix b l [] (read_by l)
+    chosen_here = choices s later at.table b l [] (read_by l)
 
-    picked_here : AreChosen s later at.prefix b l (read_by l) chosen_here
-    picked_here = are_chosen s later at.prefix b l [] [] (read_by l) tt
+    picked_here : AreChosen s later at.table b l (read_by l) chosen_here
+    picked_here = are_chosen s later at.table b l [] [] (read_by l) tt
 
     module _ (e : Expr) (defining_is : defining l ≡ Some e) where
       entry_chosen : slice_get whole_table b ≡ Some (expr_with l (map (λ c. expr_of c) chosen_here), chosen_here)
-      entry_chosen = at.entry_is ∙ ap (λ (o : Option Expr). Some (operands_chosen s later at.prefix b l o)) defining_is
+      entry_chosen = at.is ∙ ap (λ (o : Option Expr). Some (operands_chosen s later at.table b l o)) defining_is
 
       -- an expression that was taken is that of its line
-      taken_is : (x : List ℕ) (a : ℕ) (r : Expr) → Taken s later at.prefix b l x a r → decisions.exprs a ≡ r
-      taken_is x a r h = pick (slice_get at.prefix a) refl
-        where
-          pick : (o : Option (Option Expr × List Choice)) → slice_get at.prefix a ≡ o → decisions.exprs a ≡ r
-          pick None f = let gone : first_of None ≡ Some r = ap first_of (sym f) ∙ h.from in let bad : ⊥ = cc in absurd bad
-          pick (Some en) f = ap (λ (o : Option (Option Expr × List Choice)). or_nothing (first_of o)) (at.keeps_on a en f)
-              ∙ ap or_nothing (ap first_of (sym f) ∙ h.from)
+      taken_is : (x : List ℕ) (a : ℕ) (r : Expr) → Taken s later at.table b l x a r → decisions.exprs a ≡ r
+      taken_is x a r h = ap (λ (o : Option (Option Expr × List Choice)). or_nothing (first_of o))
+          (at.prefix a (Some r, (entry_of at.table a r h.from).choices) (entry_of at.table a r h.from).at)
 
       source_is : (x : List ℕ) → decisions.source b x ≡ source_in (read_by l) chosen_here x
       source_is x = λ i. source_in (read_at (here i)) (choices_at (entry_chosen i)) x
 
       -- what stands for the operand at a place is its choice's expression
       stands_here : (i : ℕ) (x : List ℕ) (c : Choice) → slice_get (read_by l) i ≡ Some x → slice_get chosen_here i ≡ Some c →
-          Chosen s later at.prefix b l x c → (o : Option ℕ) → source_in (read_by l) chosen_here x ≡ o → stands_by decisions.exprs o x ≡ expr_of c
+          Chosen s later at.table b l x c → (o : Option ℕ) → source_in (read_by l) chosen_here x ≡ o → stands_by decisions.exprs o x ≡ expr_of c
       stands_here i x (named y) operand choice h None source = ap (λ (w : List ℕ). name w) (sym h)
       stands_here i x (replaced a r) operand choice h None source =
           absurd (has_source (read_by l) chosen_here x i a r operand choice source)
       stands_here i x c operand choice h (Some a) source =
           let f : Found (read_by l) chosen_here x a = found (read_by l) chosen_here x a source in
-          let p : Taken s later at.prefix b l x a f.expression =
-          taken_at s later at.prefix b l (read_by l) chosen_here f.place x a f.expression picked_here f.operand f.choice in
-          let once : count x (read_by l) ≡ 1 = (taken_facts s later at.prefix b l x a f.expression p).once in
+          let p : Taken s later at.table b l x a f.expression =
+          taken_at s later at.table b l (read_by l) chosen_here f.place x a f.expression picked_here f.operand f.choice in
+          let once : count x (read_by l) ≡ 1 = (taken_facts s later at.table b l x a f.expression p).once in
           let place : i ≡ f.place = one_place x (read_by l) i f.place once operand f.operand in
           let same : Some c ≡ Some (replaced a f.expression) = sym choice ∙ ap (λ (n : ℕ). slice_get chosen_here n) place ∙ f.choice in
           let is : c ≡ replaced a f.expression = cc in
           taken_is x a f.expression p ∙ ap expr_of (sym is)
 
-      all_stand : (xs : List (List ℕ)) (cs : List Choice) → AreChosen s later at.prefix b l xs cs →
-          ((i : ℕ) (x : List ℕ) (c : Choice) → slice_get xs i ≡ Some x → slice_get cs i ≡ Some c → Chosen s later at.prefix b l x c →
+      all_stand : (xs : List (List ℕ)) (cs : List Choice) → AreChosen s later at.table b l xs cs →
+          ((i : ℕ) (x : List ℕ) (c : Choice) → slice_get xs i ≡ Some x → slice_get cs i ≡ Some c → Chosen s later at.table b l x c →
           stands decisions b x ≡ expr_of c) → map (λ x. stands decisions b x) xs ≡ map (λ c. expr_of c) cs
       all_stand [] [] h each = refl
       all_stand (x ∷ xs) (c ∷ cs) h each = λ i. each 0 x c refl refl h.0 i ∷ all_stand xs cs h.1 (λ k y d e f g. each (suc k) y d e f g) i
@@ -258,37 +213,25 @@ module _ (s : List Statement) (later : List ℕ → ℕ → Bool) where
       defining_stands = ap (λ (es : List Expr). expr_with l es) (all_stand (read_by l) chosen_here picked_here
           (λ i x c operand choice h. stands_here i x c operand choice h (decisions.source b x) (sym (source_is x))))
 
-  -- the line at a place that has an expression
-  simple_with_defining : (a : ℕ) (r : Expr) (en : Option Expr × List Choice) → slice_get whole_table a ≡ Some en → en.0 ≡ Some r →
-      (l : Statement) → slice_get s a ≡ Some l → is_simple l ≡ true
-  simple_with_defining a r en e first l here = pick (defining l) refl
-    where
-      pick : (o : Option Expr) → defining l ≡ o → is_simple l ≡ true
-      pick (Some first) f = simple_defining l first f
-      pick None f =
-          let same : Some en ≡ Some (operands_chosen s later (entry_at a l here).prefix a l None) =
-          sym e ∙ (entry_at a l here).entry_is
-          ∙ ap (λ (o : Option Expr). Some (operands_chosen s later (entry_at a l here).prefix a l o)) f in
-          let none : en.0 ≡ None = ap (λ (o : Option (Option Expr × List Choice)). first_of o) same in
-          let bad : ⊥ = (let clash : Some r ≡ None = sym first ∙ none in cc) in
-          absurd bad
-
   module _ (reported : IsLater s later) where
     module _ (b : ℕ) (l : Statement) (here : slice_get s b ≡ Some l) (e : Expr) (defining_is : defining l ≡ Some e) where
       inlined_here : (a : ℕ) (x : List ℕ) → decisions.source b x ≡ Some a → IsInlined s decisions a b x
       inlined_here a x from =
           let f : Found (read_by l) (chosen_here b l here) x a =
           found (read_by l) (chosen_here b l here) x a (sym (source_is b l here e defining_is x) ∙ from) in
-          let p : Taken s later (at b l here).prefix b l x a f.expression =
-          taken_at s later (at b l here).prefix b l (read_by l) (chosen_here b l here) f.place x a f.expression (picked_here b l here)
+          let p : Taken s later (at b l here).table b l x a f.expression =
+          taken_at s later (at b l here).table b l (read_by l) (chosen_here b l here) f.place x a f.expression (picked_here b l here)
           f.operand f.choice in
           let last : IsSetter s x b a = p.set in
-          let fit : Facts s later f.expression a b l x = taken_facts s later (at b l here).prefix b l x a f.expression p in
+          let fit : Facts s later f.expression a b l x = taken_facts s later (at b l here).table b l x a f.expression p in
           let line = line_there (slice_get s a) x last.assigns in
+          let taken : EntryOf (at b l here).table a f.expression = entry_of (at b l here).table a f.expression p.from in
+          let whole : SimpleEntry s later a line.0 f.expression taken.choices = simple_entry s later a line.0 f.expression taken.choices
+          line.1 ((at b l here).prefix a (Some f.expression, taken.choices) taken.at) in
           let second : is_simple_at (slice_get s b) ≡ true = ap is_simple_at here ∙ simple_defining l e defining_is in
           record {
             before = last.before;
-            first = ap is_simple_at line.1 ∙ first_simple f.expression line.0 line.1 (slice_get (at b l here).prefix a) refl p.from;
+            first = ap is_simple_at line.1 ∙ simple_defining line.0 whole.defined whole.defining_is;
             second = second;
             sets = last.assigns;
             unassigned = last.alone;
@@ -300,11 +243,6 @@ module _ (s : List Statement) (later : List ℕ → ℕ → Bool) where
                 (taken_is b l here e defining_is x a f.expression p)
                 ∙ fit.fixed m low high;
           }
-        where
-          first_simple : (r : Expr) (k : Statement) → slice_get s a ≡ Some k → (o : Option (Option Expr × List Choice)) →
-              slice_get (at b l here).prefix a ≡ o → first_of (slice_get (at b l here).prefix a) ≡ Some r → is_simple k ≡ true
-          first_simple r k line None g h = let gone : first_of None ≡ Some r = ap first_of (sym g) ∙ h in let bad : ⊥ = cc in absurd bad
-          first_simple r k line (Some en) g h = simple_with_defining a r en ((at b l here).keeps_on a en g) (ap first_of (sym g) ∙ h) k line
 
       defining_here : is_simple l ≡ true → expr_with l (map (λ x. stands decisions b x) (read_by l)) ≡ Some (decisions.exprs b)
       defining_here simple =
@@ -321,7 +259,7 @@ module _ (s : List Statement) (later : List ℕ → ℕ → Bool) where
         by_defining l here (Some e) f = inlined_here b l here e f a x from
         by_defining l here None f =
             let entry_is : slice_get whole_table b ≡ Some (None, []) =
-            (entry_at b l here).entry_is ∙ ap (λ (o : Option Expr). Some (operands_chosen s later (entry_at b l here).prefix b l o)) f in
+            (at b l here).is ∙ ap (λ (o : Option Expr). Some (operands_chosen s later (at b l here).table b l o)) f in
             let none : decisions.source b x ≡ None =
             (λ i. source_in (read_at (here i)) (choices_at (entry_is i)) x) ∙ no_choices (read_by l) x in
             let bad : None ≡ Some a = sym none ∙ from in
@@ -361,8 +299,7 @@ module _ (s : List Statement) (later : List ℕ → ℕ → Bool) where
             (decisions.source b x ≡ Some p)
         by_defining b en entry i r choice l here None g =
             let same : Some en ≡ Some (None, []) =
-            sym entry ∙ (entry_at b l here).entry_is
-            ∙ ap (λ (o : Option Expr). Some (operands_chosen s later (entry_at b l here).prefix b l o)) g in
+            sym entry ∙ (at b l here).is ∙ ap (λ (o : Option Expr). Some (operands_chosen s later (at b l here).table b l o)) g in
             let none : en.1 ≡ [] = ap (λ (o : Option (Option Expr × List Choice)). choices_at o) same in
             let gone : slice_get {X = Choice} [] i ≡ Some (replaced p r) = ap (λ (cs : List Choice). slice_get cs i) (sym none) ∙ choice in
             let bad : ⊥ = cc in
@@ -373,9 +310,9 @@ module _ (s : List Statement) (later : List ℕ → ℕ → Bool) where
             let cs_is : en.1 ≡ chosen_here b l here = ap (λ (o : Option (Option Expr × List Choice)). choices_at o) same in
             let chosen : slice_get (chosen_here b l here) i ≡ Some (replaced p r) =
             ap (λ (cs : List Choice). slice_get cs i) (sym cs_is) ∙ choice in
-            let y = operand_of (at b l here).prefix b l (read_by l) (chosen_here b l here) i (replaced p r) (picked_here b l here) chosen in
-            let q : Taken s later (at b l here).prefix b l y.0 p r =
-            taken_at s later (at b l here).prefix b l (read_by l) (chosen_here b l here) i y.0 p r (picked_here b l here) y.1 chosen in
+            let y = operand_of (at b l here).table b l (read_by l) (chosen_here b l here) i (replaced p r) (picked_here b l here) chosen in
+            let q : Taken s later (at b l here).table b l y.0 p r =
+            taken_at s later (at b l here).table b l (read_by l) (chosen_here b l here) i y.0 p r (picked_here b l here) y.1 chosen in
             let name_is : x ≡ y.0 = one_target (slice_get s p) x y.0 f q.set.assigns in
             (b, by_source y.0 name_is (source_in (read_by l) (chosen_here b l here) y.0) refl q.found y.1 chosen)
           where
@@ -386,8 +323,8 @@ module _ (s : List Statement) (later : List ℕ → ℕ → Bool) where
                 (has_source (read_by l) (chosen_here b l here) y i p r operand chosen source)
             by_source y same (Some a) source set operand chosen =
                 let t : Found (read_by l) (chosen_here b l here) y a = found (read_by l) (chosen_here b l here) y a source in
-                let other : Taken s later (at b l here).prefix b l y a t.expression =
-                taken_at s later (at b l here).prefix b l (read_by l) (chosen_here b l here) t.place y a t.expression (picked_here b l here)
+                let other : Taken s later (at b l here).table b l y a t.expression =
+                taken_at s later (at b l here).table b l (read_by l) (chosen_here b l here) t.place y a t.expression (picked_here b l here)
                 t.operand t.choice in
                 ap (λ (w : List ℕ). decisions.source b w) same ∙ source_is b l here first g y ∙ source ∙ sym other.found ∙ set
 
@@ -396,7 +333,7 @@ module _ (s : List Statement) (later : List ℕ → ℕ → Bool) where
         by_line b en entry i r choice (Some l) here = by_defining b en entry i r choice l here (defining l) refl
         by_line b en entry i r choice None here =
             let within : b < length whole_table = slice_get_within whole_table b en entry in
-            let line = some_here s b (omega (arith, table_long)) in
+            let line = some_here s b (omega (arith, table_long s later)) in
             let bad : Some line.0 ≡ None = sym (at_here s b line.0 line.1 line.2) ∙ here in
             let no_one : ⊥ = cc in
             absurd no_one

@@ -1,11 +1,11 @@
 -- The trivial plan is never stuck and does what the script does: each name of a cord holds its text.
 use Rattle.std.specs.Prelude.{◌≡◌, ◌+◌, ◌∷◌, if◌then◌else◌}
-use Rattle.cord_plan.proofs.Common.{ℕ, zero, suc, pos, Bool, true, false, List, [], map, Option, Some, None, Result, refl, sym, ap, subst}
-use Rattle.cord_plan.proofs.Common.{slice_get, bytes_eq, FileSystem, Numeral, Statement, Let, File, Eager, Lazy, Chars, Nul, FromFn, Cat}
+use Rattle.cord_plan.proofs.Common.{ℕ, zero, suc, Bool, true, false, List, [], map, Option, Some, None, Result, refl, sym, ap, subst}
+use Rattle.cord_plan.proofs.Common.{slice_get, bytes_eq, FileSystem, Statement, Let, File, Eager, Lazy, Chars, Nul, FromFn, Cat}
 use Rattle.cord_plan.proofs.Common.{Catn, Catc, Substr, Balance, EcToCord, Sprintf, Len, Put, FaultKind, State, with_value, act, shape_of}
-use Rattle.cord_plan.proofs.Common.{line_of, file_text, Agree, Simulates, name, run, cat, sub, members, defining, read_by, Made, Joined}
+use Rattle.cord_plan.proofs.Common.{line_of, file_text, Agree, Simulates, name, defining, read_by, Made, Joined}
 use Rattle.cord_plan.proofs.Common.{Literal, OfFile, OfEager, OfLazy, OfFunction, Balanced, OfExtensible, Printed, Operation, Build, Keep}
-use Rattle.cord_plan.proofs.Common.{operation, or_nothing, trivial, gives_text, format_text, Text, Holding, plain, gets, all_texts}
+use Rattle.cord_plan.proofs.Common.{operation, or_nothing, trivial, text_in, gives_text, format_text, Text, Holding, plain, gets, all_texts}
 use Rattle.cord_plan.proofs.Common.{texts_to_build, made_text, does, operation_shape, operation_line, plan_rules}
 use Rattle.cord_meaning.specs.Statements.{rules}
 use Rattle.cord_plan.proofs.Keeps.{IsVerbatimButLen, Agrees}
@@ -51,42 +51,33 @@ module _ (limit : ℕ) (files : FileSystem) (p : ℕ) (s : State) where
       (built_agrees limit files (Same p) s (full s) z line made (made_text limit files made s) (full_texts s (texts_to_build made)) refl
       (λ t _. full_gets s z t))
 
+  joins : (l : Statement) (line : ℕ) (z : List ℕ) → act limit files l s ≡ gives_text s z (text_in limit s (or_nothing (defining l))) →
+      Agree (Same p) (act limit files l s) (does limit files (Build line z (Joined (or_nothing (defining l)))) (full s))
+  joins l line z means = makes l line z (Joined (or_nothing (defining l))) means
+
   keeps_on : (l : Statement) → IsVerbatimButLen l → Agree (Same p) (act limit files l s) (does limit files (Keep l) (full s))
   keeps_on l k = kept_agrees limit files (Same p) s (full s) l refl refl (λ u puts is e. full_others s u e) k (full_texts s (read_by l))
       (full_same s (read_by l))
 
   trivial_agrees : (l : Statement) → Agree (Same p) (act limit files l s)
       (does limit files (operation l (or_nothing (defining l)) false false) (full s))
-  trivial_agrees (Let line target text) = makes (Let line target text) line target (Literal text) (sets_within limit s target text)
-  trivial_agrees (File line target path) = makes (File line target path) line target (OfFile path)
-      (gives_after limit s target (file_text files path))
-  trivial_agrees (Eager line target path) = makes (Eager line target path) line target (OfEager path)
-      (gives_after limit s target (file_text files path))
-  trivial_agrees (Lazy line target path) = makes (Lazy line target path) line target (OfLazy path)
-      (gives_after limit s target (file_text files path))
-  trivial_agrees (Chars line target byte count) = makes (Chars line target byte count) line target (Joined (run byte count))
-      (defining_means limit s files (Chars line target byte count))
-  trivial_agrees (Nul line target count) = makes (Nul line target count) line target (Joined (run (Numeral (pos 0)) count))
-      (defining_means limit s files (Nul line target count))
-  trivial_agrees (FromFn line target function count) = makes (FromFn line target function count) line target (OfFunction function count)
-      (function_gives limit s target files line function count)
-  trivial_agrees (Cat line target left right) = makes (Cat line target left right) line target
-      (Joined (cat (members (name left ∷ name right ∷ [])))) (defining_means limit s files (Cat line target left right))
-  trivial_agrees (Catn line target parts) = makes (Catn line target parts) line target (Joined (cat (members (map (λ x. name x) parts))))
-      (defining_means limit s files (Catn line target parts))
-  trivial_agrees (Catc line target operand byte) = makes (Catc line target operand byte) line target
-      (Joined (cat (members (name operand ∷ run byte (Numeral (pos 1)) ∷ []))))
-      (defining_means limit s files (Catc line target operand byte))
-  trivial_agrees (Substr line target operand start count) = makes (Substr line target operand start count) line target
-      (Joined (sub (name operand) start count)) (defining_means limit s files (Substr line target operand start count))
-  trivial_agrees (Balance line target operand) = makes (Balance line target operand) line target (Balanced operand)
-      (sets_within limit s target (s.texts operand))
-  trivial_agrees (EcToCord line target extensible) = makes (EcToCord line target extensible) line target (OfExtensible extensible)
-      (sets_within limit s target (s.extensibles extensible))
-  trivial_agrees (Sprintf line target text format arguments) = makes (Sprintf line target text format arguments) line target
-      (Printed text format arguments) (gives_after limit s target (format_text s format arguments))
-  trivial_agrees (Len line target operand) = len_agrees limit files (Same p) s (full s) line target operand refl refl
-      (λ u puts is e. full_others s u e) refl
+  trivial_agrees (Let line z text) = makes (Let line z text) line z (Literal text) (sets_within limit s z text)
+  trivial_agrees (File line z path) = makes (File line z path) line z (OfFile path) (gives_after limit s z (file_text files path))
+  trivial_agrees (Eager line z path) = makes (Eager line z path) line z (OfEager path) (gives_after limit s z (file_text files path))
+  trivial_agrees (Lazy line z path) = makes (Lazy line z path) line z (OfLazy path) (gives_after limit s z (file_text files path))
+  trivial_agrees (Chars line z byte n) = joins (Chars line z byte n) line z (defining_means limit s files (Chars line z byte n))
+  trivial_agrees (Nul line z n) = joins (Nul line z n) line z (defining_means limit s files (Nul line z n))
+  trivial_agrees (FromFn line z function n) =
+      makes (FromFn line z function n) line z (OfFunction function n) (function_gives limit s z files line function n)
+  trivial_agrees (Cat line z x y) = joins (Cat line z x y) line z (defining_means limit s files (Cat line z x y))
+  trivial_agrees (Catn line z xs) = joins (Catn line z xs) line z (defining_means limit s files (Catn line z xs))
+  trivial_agrees (Catc line z x byte) = joins (Catc line z x byte) line z (defining_means limit s files (Catc line z x byte))
+  trivial_agrees (Substr line z x i n) = joins (Substr line z x i n) line z (defining_means limit s files (Substr line z x i n))
+  trivial_agrees (Balance line z x) = makes (Balance line z x) line z (Balanced x) (sets_within limit s z (s.texts x))
+  trivial_agrees (EcToCord line z x) = makes (EcToCord line z x) line z (OfExtensible x) (sets_within limit s z (s.extensibles x))
+  trivial_agrees (Sprintf line z text format args) =
+      makes (Sprintf line z text format args) line z (Printed text format args) (gives_after limit s z (format_text s format args))
+  trivial_agrees (Len line z x) = len_agrees limit files (Same p) s (full s) line z x refl refl (λ u puts is e. full_others s u e) refl
   trivial_agrees (Put line operand) = put_agrees limit files (Same p) s (full s) line operand (name operand) refl refl refl
   trivial_agrees l = keeps_on l tt
 

@@ -1,7 +1,6 @@
 // Where the operations of a plan lead that pass others over.
 ghost use Rattle.std.specs.Prelude.{◌≡◌, ◌+◌, ◌<◌, ℕ, false, Some, IfOk, length, map, slice_get};
 ghost use Rattle.cord_meaning.specs.Blocks.{jump};
-ghost use Rattle.cord_plan.specs.Inlined.{is_block};
 ghost use Rattle.cord_plan.specs.inner.Liveness.{shape_view};
 ghost use Rattle.cord_plan.specs.Meaning.{operation_shape};
 ghost use Rattle.cord_plan.specs.Views.{operation_view};
@@ -20,22 +19,12 @@ fn operation_shape(operation: &Operation) -> Shape
     }
 }
 
-// Whether an operation is control.
-fn is_control(operation: &Operation) -> bool
-    ensures { result ≡ is_block (operation_shape (operation_view operation.now)) }
-{
-    match operation {
-        Operation::Keep(statement) => is_block(statement),
-        _ => false,
-    }
-}
-
 /// Whether one of these operations is control. Where none is, each leads to the next one.
 pub(crate) fn have_control(operations: &[Operation]) -> bool
     ensures { result ≡ false → (p : ℕ) → jump (map operation_shape (map operation_view operations.now)) p ≡ p + 1 }
 {
     for operation in operations {
-        if is_control(operation) {
+        if is_block(operation_shape(operation)) {
             return true;
         }
     }

@@ -1,7 +1,7 @@
 //! Plans: what a run of a script makes, of what it computes the length alone, and in which order.
 //!
 //! `plans`, `operations` and `expressions` are what a plan consists of. `flow` finds which names each line reads and
-//! which are read later; `planner` chooses by it what stands for each operand, and makes the operations. `printed`
+//! which are read later; `planner` chooses by it what stands for each operand, and makes the operations. `plan_text`
 //! writes a plan as text. `laws`, `meaning` and their like state what holds of all plans.
 #![tactic(auto)]
 

@@ -3,7 +3,7 @@ mod expressions;
 mod fragments;
 mod statements;
 
-ghost use Rattle.std.specs.Prelude.{◌≡◌, [], ◌∷◌, ◌++◌, codes, map, IfErr};
+ghost use Rattle.std.specs.Prelude.{◌≡◌, [], ◌∷◌, ◌++◌, codes, map};
 ghost use Rattle.cord_meaning.specs.Statements.{line_of};
 ghost use Rattle.cord_iter.specs.Output.{Writes};
 ghost use Rattle.cord_plan.specs.PlanText.{decimal, expr, spaced, statement, made as made_text};
@@ -14,31 +14,23 @@ ghost use Rattle.cord_plan.specs.Views.{expr_view, made_view, operation_view};
 
 use self::expressions::put_expression;
 use self::fragments::Fragment::{Arguments, Count, Name, Number, Path, Plain};
-use self::fragments::{Fragment, put_fragments, put_text};
+use self::fragments::{Fragment, put_fragments};
 use self::statements::put_statement;
 use crate::{Expr, Made, Operation};
-use cord_io::{CordError, Sink, WriteFault};
+use cord_io::{Sink, WriteFault};
+use cord_iter::put_all;
 use cord_script::{Function, Statement};
 
-/// Hands a sink the text of operations: one line each, ended by byte 10. Refused with `WriteFailed` where the sink
-/// failed: then it took a prefix of the text.
-pub(crate) fn show_operations<W: Sink>(
+/// Hands a sink the text of operations: one line each, ended by byte 10. Where the sink failed, it took a prefix of it.
+pub(crate) fn put_operations<W: Sink>(
     operations: &[Operation],
     sink: &mut W,
-) -> Result<(), CordError>
-    ensures writes { Writes ⟦<W as Sink>⟧ (text_of_plan (map operation_view operations.now)) sink.old sink.new result }
-    ensures refused { IfErr result (λ e. e ≡ CordError.WriteFailed) }
-{
-    put_operations(operations, sink)?;
-    Ok(())
-}
-
-fn put_operations<W: Sink>(operations: &[Operation], sink: &mut W) -> Result<(), WriteFault>
+) -> Result<(), WriteFault>
     ensures { Writes ⟦<W as Sink>⟧ (text_of_plan (map operation_view operations.now)) sink.old sink.new result }
 {
     for operation in operations {
         put_operation(operation, sink)?;
-        put_text(b"\n", sink)?;
+        put_all(b"\n", sink)?;
     }
     Ok(())
 }

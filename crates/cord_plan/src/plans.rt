@@ -1,6 +1,6 @@
 // Plans.
 ghost use Rattle.std.specs.Prelude.{◌≡◌, All, ◌+◌, ◌<◌, ℕ, Some, IfErr, IfOk, IsOkUnless};
-ghost use Rattle.std.specs.Prelude.{false, get_or, length, map, slice_get, true};
+ghost use Rattle.std.specs.Prelude.{false, length, map, slice_get, true};
 ghost use Rattle.std.specs.List.{IsDistinct};
 ghost use Rattle.std.specs.Str.{bytes_eq};
 ghost use Rattle.cord_meaning.specs.Blocks.{jump};
@@ -16,7 +16,7 @@ ghost use Rattle.cord_plan.specs.Views.{operation_view};
 use crate::Operation;
 use crate::flow::Numbering;
 use crate::jumps::{have_control, jumps};
-use crate::plan_text::show_operations;
+use crate::plan_text::put_operations;
 use crate::planner::{Interner, defining_expression, operation_of};
 use cord_io::{CordError, Sink};
 use cord_script::{Name, Script, Statement};
@@ -63,17 +63,6 @@ fn trivial_operations(alloc: Global, statements: &[Statement]) -> Result<Vec<Ope
         operations.push_reserved(operation);
     }
     Ok(operations)
-}
-
-// Whether it is said of a place; of a place past the end it isn't.
-#[inline(always)]
-fn is_reported(reported: &[bool], place: usize) -> bool
-    ensures { result ≡ get_or reported.now place false }
-{
-    match reported.get(place) {
-        None => false,
-        Some(reported) => *reported,
-    }
 }
 
 impl Plan {
@@ -125,7 +114,10 @@ impl Plan {
     pub fn extends(&self, place: usize) -> bool
         ensures { result ≡ true → Extends (map operation_view self.now) place }
     {
-        is_reported(&self.extending, place)
+        match self.extending.get(place) {
+            Some(reported) => *reported,
+            None => false,
+        }
     }
 
     /// Whether an operation is control: a `repeat`, an `if`, an `else` or an `end`. Where none is, each operation leads
@@ -155,6 +147,6 @@ impl Plan {
         ensures writes { Writes ⟦<W as Sink>⟧ (text_of_plan (map operation_view self.now)) sink.old sink.new result }
         ensures refused { IfErr result (λ e. e ≡ CordError.WriteFailed) }
     {
-        show_operations(&self.operations, sink)
+        Ok(put_operations(&self.operations, sink)?)
     }
 }

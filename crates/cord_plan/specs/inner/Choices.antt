@@ -15,7 +15,7 @@ use Rattle.cord_syntax.specs.Readings.{operand_names}
 use Rattle.cord_plan.specs.inner.Liveness.{simple_operands, IsReported, IsRecent}
 use Rattle.cord_plan.specs.inner.Numbering.{IsNumbered}
 use Rattle.cord_plan.specs.Planned.{Build, Joined, Measure, Operation, Write, is_first, operations, some_from}
-use Rattle.cord_plan.specs.declared.planner.expressions.NextExpression.{NextExpression}
+use Rattle.cord_plan.specs.declared.expressions.Expr as expressions
 use Rattle.cord_plan.specs.declared.planner.operand_choices.Line.{Line}
 use Rattle.cord_plan.specs.Inlined as plain
 use Rattle.cord_plan.specs.declared.operations.Operation as program
@@ -155,13 +155,13 @@ module _ (s : List Statement) (later : List ℕ → ℕ → Bool) where
 
   -- what is made of the line l at b, and what comes to be noted: which lines it takes, and whether its choices extend the line before it
   pub record IsNext (b : ℕ) (l : Statement) (table : List (Option Expr)) (old new : List Bool) (facts : ExpressionFacts)
-      (next : NextExpression) : Type 0 where
+      (next : Option expressions.Expr × Bool) : Type 0 where
     pub expression : (t : plain.ChoiceTable) → Has table t →
-        option_map expr_view next.expression ≡ (plain.operands_chosen s later t b l (plain.defining l)).0
+        option_map expr_view next.0 ≡ (plain.operands_chosen s later t b l (plain.defining l)).0
     pub taken : (t : plain.ChoiceTable) → Has table t → Takes (plain.operands_chosen s later t b l (plain.defining l)).1 old new
-    pub longer : (t : plain.ChoiceTable) → Has table t → next.extends ≡ true →
+    pub longer : (t : plain.ChoiceTable) → Has table t → next.1 ≡ true →
         is_longer b l (plain.operands_chosen s later t b l (plain.defining l)).1 ≡ true
-    pub known : IsKnown s (b + 1) (table ++ option_map expr_view next.expression ∷ []) facts
+    pub known : IsKnown s (b + 1) (table ++ option_map expr_view next.0 ∷ []) facts
 
   -- the choices of the line at p say it
   pub record IsLongerAt (p : ℕ) : Type 0 where

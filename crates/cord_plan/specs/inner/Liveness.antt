@@ -16,7 +16,6 @@ use Rattle.cord_plan.specs.Liveness.{ReadBy, IsLater, successors, some_of}
 use Rattle.cord_plan.specs.declared.flow.liveness.Later.{Later}
 use Rattle.cord_plan.specs.declared.flow.liveness.Found.{Found}
 use Rattle.cord_plan.specs.declared.flow.liveness.Found.TheVariants.{ByLines, ByGroups}
-use Rattle.cord_plan.specs.declared.flow.liveness.Group.{Group}
 use Rattle.cord_plan.specs.declared.flow.successors.Shape.{Shape}
 use Rattle.cord_plan.specs.declared.flow.successors.Shape.TheVariants.{Straight, Loop, Branch, Otherwise, Close}
 use Rattle.cord_plan.specs.declared.flow.successors.Successors.{Successors}
@@ -142,7 +141,7 @@ innermost (block ∷ blocks) = block
 
 -- the places of the program as a list
 abbrev pub places : Successors → List ℕ
-places b = b.first ∷ option_to_list b.second
+places b = b.0 ∷ option_to_list b.1
 
 -- the same of the place at p; after the script there is none
 abbrev pub places_at : List Successors → ℕ → List ℕ
@@ -192,12 +191,12 @@ module _ (s : List Statement) (t : Numbering) (g : ℕ) (words : List ℕ) where
   AreLive = (x : List ℕ) (i : ℕ) → IsBit t g x i → IsLive s x (column words i)
 
 -- the live places of the name of a number
-abbrev pub column_of : List Group → Option ℕ → List Bool
+abbrev pub column_of : List (Vec ℕ Global) → Option ℕ → List Bool
 column_of groups None = []
-column_of groups (Some n) = unwrap_or (option_map (λ g. column g.words.items (n % 128)) (slice_get groups (n / 128))) []
+column_of groups (Some n) = unwrap_or (option_map (λ g. column g.items (n % 128)) (slice_get groups (n / 128))) []
 
 -- whether the name of a number is read later than the line at p, by the live places of groups of names
-abbrev pub reports_of : List Successors → List Group → Option ℕ → ℕ → Bool
+abbrev pub reports_of : List Successors → List (Vec ℕ Global) → Option ℕ → ℕ → Bool
 reports_of successor_table groups number p = some_of (λ q. at (column_of groups number) q) (places_at successor_table p)
 
 -- whether a name is read later than the line at p
@@ -228,6 +227,6 @@ pub record IsFound (s : List Statement) (t : Numbering) (found : Found) : Type 0
   pub reported : (p : ℕ) (l : Statement) → slice_get s p ≡ Some l → IsReportedBy s found l p
 
 -- the group of each name is live
-abbrev pub AllLive : List Statement → Numbering → List Group → Type 0
-AllLive s t groups = (n : ℕ) → n < length (names_of t) → (group : Group) × (slice_get groups (n / 128) ≡ Some group) ×
-    AreLive s t (n / 128) group.words.items
+abbrev pub AllLive : List Statement → Numbering → List (Vec ℕ Global) → Type 0
+AllLive s t groups = (n : ℕ) → n < length (names_of t) → (group : Vec ℕ Global) × (slice_get groups (n / 128) ≡ Some group) ×
+    AreLive s t (n / 128) group.items

@@ -1,11 +1,11 @@
 // Which names are read later than which lines.
-ghost use Rattle.std.specs.Prelude.{◌≡◌, ◌<◌, ◌≤◌, ◌/◌, ◌^◌, ℕ, List, true, false, Some, length, map, get_or};
+ghost use Rattle.std.specs.Prelude.{◌≡◌, ◌<◌, ◌≤◌, ◌^◌, ℕ, List, true, false, Some, map, get_or};
 ghost use Rattle.std.specs.Prelude.{◌+◌, slice_get, IfOk};
 ghost use Rattle.cord_meaning.specs.Statements.{shape_of};
 ghost use Rattle.cord_syntax.specs.declared.statements.Statement.{Statement};
 ghost use Rattle.cord_plan.specs.Operands.{assigns_at, target_of};
 ghost use Rattle.cord_plan.specs.Liveness.{IsLater, successors, some_of};
-ghost use Rattle.cord_plan.specs.inner.Numbering.{bit, column, room, IsBit, IsNumbering, names_of, number_of};
+ghost use Rattle.cord_plan.specs.inner.Numbering.{bit, column, room, IsBit, IsNumbering, number_of};
 ghost use Rattle.cord_plan.specs.inner.Liveness.{flow, later_in, places, places_at, ArePaths, at, reports, reports_of};
 ghost use Rattle.cord_plan.specs.inner.Liveness.{IsFound, IsReported, AllReported, AreAssigned, ArePartly, AreLive};
 ghost use Rattle.cord_plan.specs.inner.Liveness.{AllLive, column_of, simple_operands};
@@ -17,12 +17,6 @@ use crate::flow::straight_line::{LineLater, OPERANDS, has_operand, line_at, line
 use crate::flow::successors::{Successors, has_blocks, successors_of};
 use cord_script::{Name, Statement};
 use std::alloc::{AllocError, Global};
-
-/// For each place the names of a group that a path from there reads before a line assigns them.
-#[derive(Drop)]
-struct Group {
-    words: Vec<u128>,
-}
 
 /// For each name and each line of a script whether some path after the line reads the bytes of the name before a line
 /// assigns it.
@@ -38,8 +32,9 @@ pub(crate) struct Later<'a> {
 enum Found {
     /// In a script without blocks, what is asked of each line.
     ByLines(Vec<LineLater>),
-    /// In others the places that may come next after each place, and for each group of names its places.
-    ByGroups(Vec<Successors>, Vec<Group>),
+    /// In others the places that may come next after each place, and for each group of names and each place those that a
+    /// path from there reads before a line assigns them.
+    ByGroups(Vec<Successors>, Vec<Vec<u128>>),
 }
 
 /// The lines of a script, the places after them, and a group of its names.
@@ -65,21 +60,11 @@ fn word_at(words: &[u128], place: usize) -> u128
 fn successor_word(words: &[u128], successors: Successors) -> u128
     ensures { (i : ℕ) → bit result i ≡ some_of (λ q. at (column words.now i) q) (places successors) }
 {
-    let first = word_at(words, successors.first);
-    match successors.second {
+    let first = word_at(words, successors.0);
+    match successors.1 {
         Some(second) => first | word_at(words, second),
         None => first,
     }
-}
-
-// What the backwards flow over a line makes of its word: what the places after it have, but for what the line assigns,
-// is added.
-fn flowed(word: u128, successors: u128, assigned: u128) -> u128
-    ensures bits { (i : ℕ) → i < 128 → bit result i ≡ flow (bit word i) (bit successors i) (bit assigned i) }
-    ensures grows { word ≤ result }
-    ensures fits { result < 2 ^ 128 }
-{
-    word | (successors & !assigned)
 }
 
 impl Flow<'_> {
@@ -112,7 +97,8 @@ impl Flow<'_> {
         }
     }
 
-    // What the flow back over the line at a place makes of its word.
+    // What the flow back over the line at a place makes of its word: what the places after it have, but for what the line
+    // assigns, is added.
     fn flow_at(&self, assigned: &[u128], words: &[u128], place: usize) -> u128
         requires paths { ArePaths (map shape_of self.now.statements.now) self.now.successors.now }
         requires assigned { AreAssigned self.now.statements.now self.now.numbering.now self.now.group assigned.now }
@@ -126,7 +112,7 @@ impl Flow<'_> {
         let here = word_at(words, place);
         let successors = self.successor_word_at(words, place);
         let kill = word_at(assigned, place);
-        flowed(here, successors, kill)
+        here | (successors & !kill)
     }
 
     // One pass of the backwards flow over the lines, and whether it has found a place, so that another may find more.
@@ -169,51 +155,38 @@ fn groups_of(
     statements: &[Statement],
     successors: &[Successors],
     numbering: &Numbering,
-) -> Result<Vec<Group>, AllocError>
+) -> Result<Vec<Vec<u128>>, AllocError>
     requires numbered { IsNumbering statements.now numbering.now }
     requires paths { ArePaths (map shape_of statements.now) successors.now }
     ensures { IfOk result (λ v. AllLive statements.now numbering.now v.items) }
 {
     let mut groups = Vec::new(alloc);
-    for group in 0..group_count(numbering) {
+    for group in 0..numbering.count().div_ceil(GROUP) {
         let flow = Flow {
             statements,
             successors,
             numbering,
             group,
         };
-        let words = flow.live_words(alloc)?;
-        groups.push(Group { words })?;
+        groups.push(flow.live_words(alloc)?)?;
     }
     Ok(groups)
 }
 
-// How many groups hold the names.
-fn group_count(numbering: &Numbering) -> usize
-    ensures { (n : ℕ) → n < length (names_of numbering.now) → n / 128 < result }
-{
-    let whole = numbering.count() / GROUP;
-    if numbering.count() % GROUP == 0 {
-        whole
-    } else {
-        whole + 1
-    }
-}
-
 // Whether a place that may come next has the name of a number.
-fn is_live_at(groups: &[Group], number: usize, successors: Successors) -> bool
+fn is_live_at(groups: &[Vec<u128>], number: usize, successors: Successors) -> bool
     ensures { result ≡ some_of (λ q. at (column_of groups.now (Some number)) q) (places successors) }
 {
     match groups.get(number / GROUP) {
         None => false,
-        Some(group) => has_bit(successor_word(&group.words, successors), number % GROUP),
+        Some(words) => has_bit(successor_word(words, successors), number % GROUP),
     }
 }
 
 // Whether a place that may come after a line has the name of a number.
 fn is_live_after(
     successors: &[Successors],
-    groups: &[Group],
+    groups: &[Vec<u128>],
     number: Option<usize>,
     place: usize,
 ) -> bool

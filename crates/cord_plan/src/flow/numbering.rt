@@ -1,5 +1,5 @@
 // Names with numbers, and the numbers of the names of each line.
-ghost use Rattle.std.specs.Prelude.{◌≡◌, [], ◌∷◌, false, All, IfOk, OnOk, length, slice_get};
+ghost use Rattle.std.specs.Prelude.{◌≡◌, false, All, IfOk, OnOk, length, slice_get};
 ghost use Rattle.std.specs.List.{IsDistinct};
 ghost use Rattle.std.specs.Str.{bytes_eq};
 ghost use Rattle.std.proofs.Props.{props};
@@ -68,11 +68,11 @@ fn narrowed(place: usize) -> Result<u32, AllocError>
 
 // The number of a name, which is taken in where it isn't there.
 #[inline(always)]
-fn number(names: &mut Vec<Name>, name: &Name) -> Result<usize, AllocError>
+fn number(names: &mut Vec<Name>, name: &Name) -> Result<u32, AllocError>
     ensures { IfOk result (λ n. TakesNumber name.now n names.old.items names.new.items) }
 {
     match name.place_in(names) {
-        Some(place) => Ok(place),
+        Some(place) => Ok(narrowed(place)?),
         None => number_new(names, name),
     }
 }
@@ -80,24 +80,13 @@ fn number(names: &mut Vec<Name>, name: &Name) -> Result<usize, AllocError>
 // The number of a name that isn't there, and is taken in.
 #[cold]
 #[inline(never)]
-fn number_new(names: &mut Vec<Name>, name: &Name) -> Result<usize, AllocError>
+fn number_new(names: &mut Vec<Name>, name: &Name) -> Result<u32, AllocError>
     requires { All (λ other. bytes_eq name.now other ≡ false) names.old.items }
     ensures { IfOk result (λ n. TakesNumber name.now n names.old.items names.new.items) }
 {
-    let number = names.len();
+    let number = narrowed(names.len())?;
     names.push(name.clone()?)?;
     Ok(number)
-}
-
-// Notes the number of a name.
-#[inline(always)]
-fn add(names: &mut Vec<Name>, read: &mut Vec<u32>, name: &Name) -> Result<(), AllocError>
-    ensures { OnOk result (AddsPlaces (name.now ∷ []) names.old.items names.new.items read.old.items read.new.items) }
-{
-    let place = number(names, name)?;
-    let number = narrowed(place)?;
-    read.push(number)?;
-    Ok(())
 }
 
 // Notes the numbers of the names that a line reads.
@@ -111,7 +100,7 @@ fn add_read(
 {
     let mut left = statement.reading();
     'others: while let Some((name, rest)) = first_read(left) {
-        add(names, read, name)?;
+        read.push(number(names, name)?)?;
         left = rest;
     }
     Ok(())
@@ -135,8 +124,7 @@ fn add_line(
             end,
         }),
         Some(target) => {
-            let place = number(names, target)?;
-            let number = narrowed(place)?;
+            let number = number(names, target)?;
             Ok(NumberedLine {
                 target: Some(number),
                 start,

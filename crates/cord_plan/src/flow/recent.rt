@@ -11,7 +11,7 @@ ghost use Rattle.cord_plan.specs.inner.Liveness.{AreFor, IsRecent, PutsPlaces, e
 
 use crate::flow::liveness::Later;
 use crate::flow::numbering::LineNumbers;
-use crate::flow::successors::is_block;
+use crate::flow::successors::{is_block, shape_of};
 use cord_script::Statement;
 use std::alloc::{AllocError, Global};
 
@@ -96,7 +96,7 @@ pub(crate) fn note_all(places: &mut [Option<usize>], numbers: &[u32], place: usi
 fn block_after(before: Option<usize>, statement: &Statement, place: usize) -> Option<usize>
     ensures { result ≡ (if is_block (shape_of statement.now) then Some place else before) }
 {
-    if is_block(statement) {
+    if is_block(shape_of(statement)) {
         Some(place)
     } else {
         before

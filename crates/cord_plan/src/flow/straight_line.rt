@@ -1,5 +1,5 @@
 // In a script without blocks, which names of each line are read later than the line.
-ghost use Rattle.std.specs.Prelude.{◌≡◌, ◌<◌, ◌==◌, ◌&&◌, [], ◌∷◌, ℕ, List, Some, IfOk, is_some, slice_get};
+ghost use Rattle.std.specs.Prelude.{◌≡◌, ◌<◌, ◌==◌, ◌&&◌, ◌∷◌, ℕ, List, Some, IfOk, is_some, slice_get};
 ghost use Rattle.cord_syntax.specs.declared.statements.Statement.{Statement};
 ghost use Rattle.cord_plan.specs.inner.Liveness.{AreNextReads, AreBits, AreReportedFrom, entry_at, entry_of};
 ghost use Rattle.cord_plan.specs.inner.Numbering.{bit, IsNumbered, IsNumbering, names_of};
@@ -20,13 +20,6 @@ pub(crate) const OPERANDS: usize = 16;
 pub(crate) struct LineLater {
     pub(crate) target: bool,
     pub(crate) operands: u16,
-}
-
-/// On the way back over lines, by the numbers of names, the next line that reads each name, where none before that one
-/// assigns it.
-#[derive(Drop)]
-struct NextReads {
-    read: Vec<Option<usize>>,
 }
 
 impl LineLater {
@@ -65,46 +58,38 @@ fn operand_bit(index: usize, is_set: bool) -> u16
     if is_set { 1 << index } else { 0 }
 }
 
-impl NextReads {
-    // After the last line.
-    fn of(alloc: Global, numbering: &Numbering) -> Result<Self, AllocError>
-        ensures { IfOk result (λ a. AreNextReads [] numbering.now a.read.items) }
-    {
-        let count = numbering.count();
-        let read = vec![in alloc; None; count]?;
-        Ok(NextReads { read })
-    }
+// On the way back over lines `next_reads` has, by the numbers of names, the next line that reads each name, where none
+// before that one assigns it.
 
-    // Whether the name of a number is read before it is assigned.
-    fn has(&self, number: Option<usize>) -> bool
-        ensures { result ≡ is_some (entry_at self.now.read.items number) }
-    {
-        entry_at(&self.read, number).is_some()
-    }
+// Whether the name of a number is read before it is assigned.
+fn is_read(next_reads: &[Option<usize>], number: Option<usize>) -> bool
+    ensures { result ≡ is_some (entry_at next_reads.now number) }
+{
+    entry_at(next_reads, number).is_some()
+}
 
-    // Which of the first of these numbers are those of names that are read before they are assigned.
-    fn operand_bits(&self, numbers: &[u32]) -> u16
-        ensures { (t : Numbering) (xs : List (List ℕ)) → AreNumbers (names_of t) xs numbers.now →
-            AreBits (λ x. is_some (entry_of t self.now.read.items x)) xs result }
-    {
-        let mut bits = 0;
-        for (index, number) in numbers.iter().enumerate() {
-            if index >= OPERANDS {
-                return bits;
-            }
-            bits |= operand_bit(index, self.has(Some(*number as usize)));
+// Which of the first of these numbers are those of names that are read before they are assigned.
+fn operand_bits(next_reads: &[Option<usize>], numbers: &[u32]) -> u16
+    ensures { (t : Numbering) (xs : List (List ℕ)) → AreNumbers (names_of t) xs numbers.now →
+        AreBits (λ x. is_some (entry_of t next_reads.now x)) xs result }
+{
+    let mut bits = 0;
+    for (index, number) in numbers.iter().enumerate() {
+        if index >= OPERANDS {
+            return bits;
         }
-        bits
+        bits |= operand_bit(index, is_read(next_reads, Some(*number as usize)));
     }
+    bits
+}
 
-    // Goes back over the line before, whose names have these numbers.
-    fn go_back(&mut self, numbers: LineNumbers, place: usize)
-        ensures { (t : Numbering) (l : Statement) (ls : List Statement) → IsNumbered t l numbers.entry →
-            AreNextReads ls t self.old.read.items → AreNextReads (l ∷ ls) t self.new.read.items }
-    {
-        put(&mut self.read, numbers.target, None);
-        note_all(&mut self.read, numbers.read, place);
-    }
+// Goes back over the line before, whose names have these numbers.
+fn go_back(next_reads: &mut [Option<usize>], numbers: LineNumbers, place: usize)
+    ensures { (t : Numbering) (l : Statement) (ls : List Statement) → IsNumbered t l numbers.entry →
+        AreNextReads ls t next_reads.old → AreNextReads (l ∷ ls) t next_reads.new }
+{
+    put(next_reads, numbers.target, None);
+    note_all(next_reads, numbers.read, place);
 }
 
 /// Which names of each line are read later, in a script without blocks: one pass from the last line back.
@@ -116,15 +101,15 @@ pub(crate) fn lines_later(
     requires { IsNumbering statements.now numbering.now }
     ensures { IfOk result (λ v. AreReportedFrom statements.now 0 v.items) }
 {
-    let mut next_reads = NextReads::of(alloc, numbering)?;
+    let mut next_reads = vec![in alloc; None; numbering.count()]?;
     let mut lines = vec![in alloc; LineLater::none(); statements.len()]?;
     for place in (0..statements.len()).rev() {
         let numbers = numbering.line(place);
         lines[place] = LineLater {
-            target: next_reads.has(numbers.target),
-            operands: next_reads.operand_bits(numbers.read),
+            target: is_read(&next_reads, numbers.target),
+            operands: operand_bits(&next_reads, numbers.read),
         };
-        next_reads.go_back(numbers, place);
+        go_back(&mut next_reads, numbers, place);
     }
     Ok(lines)
 }

@@ -1,5 +1,5 @@
 // The places that may come next after each place.
-ghost use Rattle.std.specs.Prelude.{◌≡◌, ◌+◌, ◌-◌, ◌^◌, ◌<◌, ◌≤◌, [], ◌∷◌, Some, IfOk, OnOk, map, reverse, length};
+ghost use Rattle.std.specs.Prelude.{◌≡◌, ◌+◌, ◌-◌, ◌^◌, ◌<◌, ◌≤◌, Some, IfOk, OnOk, map, reverse, length};
 ghost use Rattle.std.specs.Prelude.{false};
 ghost use Rattle.cord_meaning.specs.Blocks.{to_end, to_else, jump};
 ghost use Rattle.cord_meaning.specs.Paths.{opened, open_at};
@@ -27,32 +27,9 @@ pub(crate) enum Shape {
     Close,
 }
 
-/// The places that may come next after a place: one, or two.
+/// The places that may come next after a place: one, and where there are two, the other.
 #[derive(Clone, Copy)]
-pub(crate) struct Successors {
-    pub(crate) first: usize,
-    pub(crate) second: Option<usize>,
-}
-
-impl Successors {
-    fn one(place: usize) -> Self
-        ensures { places result ≡ place ∷ [] }
-    {
-        Successors {
-            first: place,
-            second: None,
-        }
-    }
-
-    fn two(first: usize, second: usize) -> Self
-        ensures { places result ≡ first ∷ second ∷ [] }
-    {
-        Successors {
-            first,
-            second: Some(second),
-        }
-    }
-}
+pub(crate) struct Successors(pub(crate) usize, pub(crate) Option<usize>);
 
 /// How a statement leads on a search for the end of a block, where so many blocks are open inside it.
 #[derive(Clone, Copy)]
@@ -85,11 +62,11 @@ pub(crate) fn shape_of(statement: &Statement) -> Shape
     }
 }
 
-/// Whether a line opens, parts or closes a block.
-pub(crate) fn is_block(statement: &Statement) -> bool
-    ensures { result ≡ is_block (shape_of statement.now) }
+/// Whether a shape opens, parts or closes a block.
+pub(crate) fn is_block(shape: Shape) -> bool
+    ensures { result ≡ is_block (shape_view shape) }
 {
-    match shape_of(statement) {
+    match shape {
         Shape::Straight => false,
         Shape::Loop | Shape::Branch | Shape::Otherwise | Shape::Close => true,
     }
@@ -187,13 +164,16 @@ fn successors_at(shapes: &[Shape], p: usize, block: Option<usize>) -> Successors
 {
     let next = p + 1;
     match shapes[p] {
-        Shape::Straight => Successors::one(next),
-        Shape::Loop => Successors::two(next, jump(shapes, p)),
-        Shape::Branch => Successors::two(next, jump(shapes, p)),
-        Shape::Otherwise => Successors::one(jump(shapes, p)),
+        Shape::Straight => Successors(next, None),
+        Shape::Loop => Successors(next, Some(jump(shapes, p))),
+        Shape::Branch => Successors(next, Some(jump(shapes, p))),
+        Shape::Otherwise => Successors(jump(shapes, p), None),
         Shape::Close => match block {
-            None => Successors::one(next),
-            Some(repeat) => Successors::two(repeat + 1, next),
+            None => Successors(next, None),
+            Some(repeat) => {
+                let body = repeat + 1;
+                Successors(body, Some(next))
+            }
         },
     }
 }
@@ -227,7 +207,7 @@ pub(crate) fn has_blocks(statements: &[Statement]) -> bool
     ensures { result ≡ false → NoBlocks statements.now }
 {
     for statement in statements {
-        if is_block(statement) {
+        if is_block(shape_of(statement)) {
             return true;
         }
     }

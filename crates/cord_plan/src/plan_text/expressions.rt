@@ -5,9 +5,10 @@ ghost use Rattle.cord_plan.specs.PlanText.{expr, exprs, number};
 ghost use Rattle.cord_plan.specs.inner.Views.{exprs_after, is_nothing};
 ghost use Rattle.cord_plan.specs.Views.{expr_view, members_of, members_view, shared_view};
 
-use super::fragments::{Fragment, put_fragments, put_text};
+use super::fragments::{Fragment, put_fragments};
 use crate::{Expr, Members};
 use cord_io::{Sink, WriteFault};
+use cord_iter::put_all;
 use cord_script::Number;
 use std::rc::Rc;
 
@@ -17,19 +18,19 @@ pub(crate) fn put_expression<W: Sink>(expression: &Expr, sink: &mut W) -> Result
     ensures { Writes ⟦<W as Sink>⟧ (expr (expr_view expression.now)) sink.old sink.new result }
 {
     match expression {
-        Expr::Name(name) => put_text(name.as_slice(), sink),
+        Expr::Name(name) => put_all(name.as_slice(), sink),
         Expr::Run { byte, count } => put_numbers(b"run(", byte, count, sink),
         Expr::Cat(members) => {
-            put_text(b"cat(", sink)?;
+            put_all(b"cat(", sink)?;
             put_members(members, sink)?;
-            put_text(b")", sink)
+            put_all(b")", sink)
         }
         Expr::Sub {
             expression,
             start,
             count,
         } => {
-            put_text(b"sub(", sink)?;
+            put_all(b"sub(", sink)?;
             put_expression(expression.as_ref(), sink)?;
             put_numbers(b" ", start, count, sink)
         }
@@ -88,7 +89,7 @@ fn put_listed<W: Sink>(first: &[u8], members: &[Rc<Expr>], sink: &mut W) -> Resu
 {
     let mut blank = first;
     for member in members {
-        put_text(blank, sink)?;
+        put_all(blank, sink)?;
         put_expression(member.as_ref(), sink)?;
         blank = b" ";
     }

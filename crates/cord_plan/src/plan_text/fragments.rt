@@ -27,13 +27,6 @@ pub enum Fragment<'a> {
     Arguments(&'a Arguments),
 }
 
-// Hands a sink these bytes.
-pub(crate) fn put_text<W: Sink>(bytes: &[u8], sink: &mut W) -> Result<(), WriteFault>
-    ensures { Writes ⟦<W as Sink>⟧ bytes.now sink.old sink.new result }
-{
-    put_all(bytes, sink)
-}
-
 // Hands a sink fragments, one after the other.
 pub(crate) fn put_fragments<W: Sink>(fragments: &[Fragment], sink: &mut W) -> Result<(), WriteFault>
     ensures { Writes ⟦<W as Sink>⟧ (fragments_text fragments.now) sink.old sink.new result }
@@ -50,7 +43,7 @@ pub(crate) fn put_words<W: Sink>(words: &[Fragment], sink: &mut W) -> Result<(),
 {
     let mut blank: &[u8] = b"";
     for word in words {
-        put_text(blank, sink)?;
+        put_all(blank, sink)?;
         put_fragment(word, sink)?;
         blank = b" ";
     }
@@ -61,8 +54,8 @@ fn put_fragment<W: Sink>(fragment: &Fragment, sink: &mut W) -> Result<(), WriteF
     ensures { Writes ⟦<W as Sink>⟧ (fragment_text fragment.now) sink.old sink.new result }
 {
     match fragment {
-        Fragment::Plain(bytes) => put_text(bytes, sink),
-        Fragment::Name(name) => put_text(name.as_slice(), sink),
+        Fragment::Plain(bytes) => put_all(bytes, sink),
+        Fragment::Name(name) => put_all(name.as_slice(), sink),
         Fragment::Count(count) => put_count(*count, sink),
         Fragment::Number(number) => put_number(number, sink),
         Fragment::Path(path) => put_path(path, sink),
@@ -75,7 +68,7 @@ fn put_count<W: Sink>(count: u64, sink: &mut W) -> Result<(), WriteFault>
     ensures { Writes ⟦<W as Sink>⟧ (decimal count) sink.old sink.new result }
 {
     let mut digits = Buffer::new();
-    put_text(digits.format(count).as_bytes(), sink)
+    put_all(digits.format(count).as_bytes(), sink)
 }
 
 // A number operand: its name, or its shortest decimal form.
@@ -84,7 +77,7 @@ fn put_number<W: Sink>(operand: &Number, sink: &mut W) -> Result<(), WriteFault>
 {
     match operand {
         Number::Numeral(numeral) => put_numeral(*numeral, sink),
-        Number::Named(name) => put_text(name.as_slice(), sink),
+        Number::Named(name) => put_all(name.as_slice(), sink),
     }
 }
 
@@ -93,16 +86,16 @@ fn put_numeral<W: Sink>(numeral: i64, sink: &mut W) -> Result<(), WriteFault>
     ensures { Writes ⟦<W as Sink>⟧ (signed_decimal numeral) sink.old sink.new result }
 {
     let mut digits = Buffer::new();
-    put_text(digits.format(numeral).as_bytes(), sink)
+    put_all(digits.format(numeral).as_bytes(), sink)
 }
 
 // A path between quotes.
 fn put_path<W: Sink>(path: &Path, sink: &mut W) -> Result<(), WriteFault>
     ensures { Writes ⟦<W as Sink>⟧ (quoted path.now) sink.old sink.new result }
 {
-    put_text(b"\"", sink)?;
+    put_all(b"\"", sink)?;
     put_path_bytes(path.as_str().as_bytes(), sink)?;
-    put_text(b"\"", sink)
+    put_all(b"\"", sink)
 }
 
 // The bytes of a path, those that would be misread as escapes.
@@ -119,12 +112,12 @@ fn put_path_byte<W: Sink>(byte: u8, sink: &mut W) -> Result<(), WriteFault>
     ensures { Writes ⟦<W as Sink>⟧ (path_byte byte) sink.old sink.new result }
 {
     if byte == b'"' || byte == b'\\' || byte < 32 || byte > 126 {
-        put_text(
+        put_all(
             &[b'\\', b'x', hex_digit(byte / 16), hex_digit(byte % 16)],
             sink,
         )
     } else {
-        put_text(&[byte], sink)
+        put_all(&[byte], sink)
     }
 }
 
@@ -145,7 +138,7 @@ fn put_arguments<W: Sink>(arguments: &[Argument], sink: &mut W) -> Result<(), Wr
     ensures { Writes ⟦<W as Sink>⟧ (printed_arguments arguments.now) sink.old sink.new result }
 {
     for argument in arguments {
-        put_text(b" ", sink)?;
+        put_all(b" ", sink)?;
         put_argument(argument, sink)?;
     }
     Ok(())
@@ -156,6 +149,6 @@ fn put_argument<W: Sink>(operand: &Argument, sink: &mut W) -> Result<(), WriteFa
 {
     match operand {
         Argument::Number(number) => put_number(number, sink),
-        Argument::Cord(name) => put_text(name.as_slice(), sink),
+        Argument::Cord(name) => put_all(name.as_slice(), sink),
     }
 }

@@ -7,8 +7,9 @@ ghost use Rattle.cord_script.specs.Tests.{relation_word};
 ghost use Rattle.cord_plan.specs.inner.Views.{fragment_text};
 
 use super::fragments::Fragment::{Count, Name, Number, Plain};
-use super::fragments::{Fragment, put_fragments, put_text, put_words};
+use super::fragments::{Fragment, put_fragments, put_words};
 use cord_io::{Sink, WriteFault};
+use cord_iter::put_all;
 use cord_script::{Relation, Statement};
 use cord_syntax::{Computation, Control, Family, Growth, Look, Search};
 
@@ -191,8 +192,8 @@ fn put_control<W: Sink>(control: Control, sink: &mut W) -> Result<(), WriteFault
             ];
             put_words(&words, sink)
         }
-        Control::Else => put_text(b"else", sink),
-        Control::End => put_text(b"end", sink),
+        Control::Else => put_all(b"else", sink),
+        Control::End => put_all(b"end", sink),
     }
 }
 
@@ -217,7 +218,7 @@ fn put_given<'a, W: Sink>(
         sink,
     )?;
     put_words(operands, sink)?;
-    put_text(b")", sink)
+    put_all(b")", sink)
 }
 
 // The word for a relation.

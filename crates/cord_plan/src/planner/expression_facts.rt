@@ -1,14 +1,13 @@
 // What is known of the expressions of lines without a walk over them: how many parts they have, and since which line
 // their names are read.
-ghost use Rattle.std.specs.Prelude.{◌≡◌, ◌+◌, ◌++◌, ◌∷◌, [], true, ℕ, List, Option, Some, All, pos, IfOk, IfSome};
-ghost use Rattle.std.specs.Prelude.{map, slice_get};
+ghost use Rattle.std.specs.Prelude.{◌≡◌, ◌+◌, ◌++◌, ◌∷◌, [], ℕ, List, Option, Some, All, pos, IfOk, IfSome};
+ghost use Rattle.std.specs.Prelude.{map};
 ghost use Rattle.cord_operands.specs.declared.operands.Number.TheVariants.{Numeral};
 ghost use Rattle.cord_syntax.specs.declared.statements.Statement.{Statement};
 ghost use Rattle.cord_plan.specs.Exprs as plain;
 ghost use Rattle.cord_plan.specs.Exprs.{members, parts};
 ghost use Rattle.cord_plan.specs.Inlined.{expr_of, expr_with};
-ghost use Rattle.cord_plan.specs.Operands.{reads_at};
-ghost use Rattle.cord_plan.specs.inner.Choices.{choice_view, expression_in, room_left, HasFacts, IsFacts, IsChoiceOf};
+ghost use Rattle.cord_plan.specs.inner.Choices.{choice_view, expression_in, HasFacts, IsFacts, IsChoiceOf};
 ghost use Rattle.cord_plan.specs.inner.Choices.{IsKnown, AreFactsOf};
 
 use crate::flow::number_at;
@@ -19,7 +18,7 @@ use std::alloc::{AllocError, Global};
 /// How many parts an expression has, and a place since which lines read each name that stands in it.
 #[derive(Clone, Copy)]
 pub(crate) struct Facts {
-    parts: u32,
+    pub(crate) parts: u32,
     pub(crate) since: usize,
 }
 
@@ -37,17 +36,6 @@ pub(crate) struct ExpressionFacts {
 }
 
 impl Facts {
-    // Of a name that the line at a place reads.
-    fn of_name(place: usize) -> Self
-        ensures { (s : List Statement) (x : List ℕ) → reads_at (slice_get s place) x ≡ true →
-            IsFacts s (place + 1) (plain.name x) result }
-    {
-        Facts {
-            parts: 1,
-            since: place,
-        }
-    }
-
     // Of one copy of a byte, where that is no name, in the line at a place.
     fn of_byte(byte: &Number, place: usize) -> Option<Self>
         ensures { (s : List Statement) (b : ℕ) →
@@ -71,14 +59,6 @@ impl Facts {
         let parts = self.parts.checked_add(other.parts)?;
         let since = self.since.min(other.since);
         Some(Facts { parts, since })
-    }
-
-    /// How much of a room is left after the parts of the expression, where they find room.
-    pub(crate) fn room_left(&self, room: u32) -> Option<u32>
-        ensures { (s : List Statement) (b : ℕ) (e : plain.Expr) → IsFacts s b e self.now →
-            result ≡ room_left (parts e) room }
-    {
-        room.checked_sub(self.parts)
     }
 }
 
@@ -110,7 +90,10 @@ impl ExpressionFacts {
             IfSome result (λ f. IsFacts s (place + 1) (expr_of (choice_view choice.now)) f) }
     {
         match choice {
-            Choice::Named(_) => Some(Facts::of_name(place)),
+            Choice::Named(_) => Some(Facts {
+                parts: 1,
+                since: place,
+            }),
             Choice::Replaced(source, _) => self.at(number, *source),
         }
     }

@@ -28,13 +28,6 @@ pub(crate) struct Unpaired {
     pub(crate) extending: Vec<bool>,
 }
 
-// The expression of a line, where it is a simple one, and whether the line is reported to extend the one before it.
-#[derive(Drop)]
-struct NextExpression {
-    expression: Option<Expr>,
-    extends: bool,
-}
-
 // Whether a line with these choices joins the members that the line before it joins, and one more.
 #[inline(always)]
 fn is_longer(line: &Line, choices: &[Choice]) -> bool
@@ -74,7 +67,8 @@ fn note_choices(taken: &mut [bool], choices: &[Choice])
     }
 }
 
-// The expression of a simple line with these choices, which are noted.
+// The expression of a simple line with these choices, which are noted, and whether it is reported to extend the one before
+// it.
 #[inline(always)]
 fn taking(
     alloc: Global,
@@ -83,7 +77,7 @@ fn taking(
     choices: &[Choice],
     known: &mut ExpressionFacts,
     taken: &mut [bool],
-) -> Result<NextExpression, AllocError>
+) -> Result<(Option<Expr>, bool), AllocError>
     requires { IsSimpleLine line.now }
     ensures { (table : List (Option plain.Expr)) → IsKnown line.now.statements.now line.now.place table known.old →
         AreChoices line.now.statements.now (reports line.now.recent.now.later.now) line.now.place
@@ -94,13 +88,10 @@ fn taking(
     known.note(line, choices);
     note_choices(taken, choices);
     let expression = expression_with(alloc, interner, line.statement, choices)?;
-    Ok(NextExpression {
-        expression,
-        extends: is_longer(line, choices),
-    })
+    Ok((expression, is_longer(line, choices)))
 }
 
-// The expression of a simple line. What is chosen for at most two operands takes no memory.
+// The same of a simple line, which is chosen for. What is chosen for at most two operands takes no memory.
 fn expression_over<'a>(
     alloc: Global,
     interner: &mut Interner,
@@ -108,7 +99,7 @@ fn expression_over<'a>(
     known: &mut ExpressionFacts,
     operations: &'a [Operation],
     taken: &mut [bool],
-) -> Result<NextExpression, AllocError>
+) -> Result<(Option<Expr>, bool), AllocError>
     requires line { IsSimpleLine line.now }
     requires known { IsKnown line.now.statements.now line.now.place (table_view operations.now) known.old }
     ensures { IfOk result (IsNext line.now.statements.now (reports line.now.recent.now.later.now) line.now.place
@@ -132,7 +123,8 @@ fn expression_over<'a>(
     }
 }
 
-// The expression of the next line after those that have these expressions. The lines that it takes are noted.
+// The expression of the next line, where it is a simple one, after those that have these operations, and whether it is
+// reported to extend the one before it. The lines that it takes are noted.
 fn next_expression(
     alloc: Global,
     interner: &mut Interner,
@@ -144,7 +136,7 @@ fn next_expression(
     known: &mut ExpressionFacts,
     operations: &[Operation],
     taken: &mut [bool],
-) -> Result<NextExpression, AllocError>
+) -> Result<(Option<Expr>, bool), AllocError>
     requires here { slice_get statements.now place ≡ Some statement.now }
     requires recent { IsRecent statements.now place recent.now }
     requires numbers { IsNumbered recent.now.later.now.numbering statement.now numbers }
@@ -154,10 +146,7 @@ fn next_expression(
         (table_view operations.now) taken.old taken.new known.new) }
 {
     let Some(operands) = operands_of(statement) else {
-        return Ok(NextExpression {
-            expression: None,
-            extends: false,
-        });
+        return Ok((None, false));
     };
     let line = Line {
         statements,
@@ -202,10 +191,7 @@ pub(crate) fn unpaired_operations(
             &operations,
             &mut taken,
         )?;
-        let NextExpression {
-            mut expression,
-            extends,
-        } = next;
+        let (mut expression, extends) = next;
         let dead = is_dead(numbers.target, place, later);
         match operation_of(statement, &mut expression, dead) {
             Ok(operation) => operations.push_reserved(operation),

@@ -95,27 +95,24 @@ impl Interner {
         }
     }
 
-    // One copy of this byte, or of any other numeral.
-    fn numeral(&mut self, alloc: Global, byte: i64) -> Result<Rc<Expr>, AllocError>
-        ensures made { IfOk result (λ e. shared_view e ≡ plain.run (Numeral byte) (Numeral (pos 1))) }
-    {
-        let Ok(place) = u8::try_from(byte) else {
-            return shared_byte(alloc, &Number::Numeral(byte));
-        };
-        let slot = SLOTS + usize::from(place);
-        match find_byte(&self.slots, slot, byte) {
-            Some(shared) => shared.clone(),
-            None => self.put(alloc, slot, run(Number::Numeral(byte), Number::Numeral(1))),
-        }
-    }
-
     /// One copy of a byte as an expression.
     pub(crate) fn byte(&mut self, alloc: Global, byte: &Number) -> Result<Rc<Expr>, AllocError>
         ensures made { IfOk result (λ e. shared_view e ≡ plain.run byte.now (Numeral (pos 1))) }
     {
-        match byte {
-            Number::Numeral(byte) => self.numeral(alloc, *byte),
-            Number::Named(_) => shared_byte(alloc, byte),
+        let Number::Numeral(numeral) = byte else {
+            return shared_byte(alloc, byte);
+        };
+        let Ok(place) = u8::try_from(*numeral) else {
+            return shared_byte(alloc, byte);
+        };
+        let slot = SLOTS + usize::from(place);
+        match find_byte(&self.slots, slot, *numeral) {
+            Some(shared) => shared.clone(),
+            None => self.put(
+                alloc,
+                slot,
+                run(Number::Numeral(*numeral), Number::Numeral(1)),
+            ),
         }
     }
 }

@@ -113,7 +113,7 @@ fn joined_with(
 {
     let members = joined(alloc, interner, choices)?;
     let all = members.with(alloc, interner.byte(alloc, byte)?)?;
-    Ok(cat_of(alloc, choices, all)?)
+    cat_of(alloc, choices, all)
 }
 
 // An expression that stands for an operand, to be shared.
@@ -128,19 +128,6 @@ fn shared_expression(
         Choice::Named(name) => interner.name(alloc, name),
         Choice::Replaced(_, expression) => shared_copy(alloc, expression),
     }
-}
-
-// `sub` of what stands for an operand.
-fn part(
-    alloc: Global,
-    interner: &mut Interner,
-    choice: &Choice,
-    start: &Number,
-    count: &Number,
-) -> Result<Expr, AllocError>
-    ensures made { IfOk result (λ e. expr_view e ≡ plain.sub (expr_of (choice_view choice.now)) start.now count.now) }
-{
-    sub_of(shared_expression(alloc, interner, choice)?, start, count)
 }
 
 /// The expression of a simple line, where these stand for its operands; of any other line there is none.
@@ -166,7 +153,10 @@ pub(crate) fn expression_with(
         }
         Statement::Substr { start, count, .. } => match choices {
             [] => Ok(None),
-            [choice, ..] => Ok(Some(part(alloc, interner, choice, start, count)?)),
+            [choice, ..] => {
+                let expression = shared_expression(alloc, interner, choice)?;
+                Ok(Some(sub_of(expression, start, count)?))
+            }
         },
         Statement::Put { .. } => match choices {
             [] => Ok(None),
@@ -182,7 +172,7 @@ fn all_named<'a>(alloc: Global, names: &'a [Name]) -> Result<Vec<Choice<'a>>, Al
 {
     let mut choices = Vec::with_capacity(alloc, names.len())?;
     for name in names {
-        choices.push(Choice::Named(name))?;
+        choices.push_reserved(Choice::Named(name));
     }
     Ok(choices)
 }

@@ -23,13 +23,13 @@ pub(crate) fn operation_of(
 {
     let line = statement.line();
     match statement.family() {
-        Family::Composition(composition) => composed(line, composition, expression, dead),
+        Family::Composition(composition) => of_composition(line, composition, expression, dead),
         Family::Put { .. } => Ok(Operation::Write {
             line,
             expression: or_nothing(expression.take()),
         }),
-        Family::Origin(origin) => operation_of_origin(line, origin, dead),
-        Family::Derivation(derivation) => operation_of_derivation(line, derivation, dead),
+        Family::Origin(origin) => of_origin(line, origin, dead),
+        Family::Derivation(derivation) => of_derivation(line, derivation, dead),
         Family::Computation(computation) => Ok(Operation::Keep(computation.copied(line)?)),
         Family::Look(look) => Ok(Operation::Keep(look.copied(line)?)),
         Family::Search(sought) => Ok(Operation::Keep(sought.copied(line)?)),
@@ -39,7 +39,7 @@ pub(crate) fn operation_of(
 }
 
 // The operation of a line that makes a cord for which an expression stands.
-fn composed(
+fn of_composition(
     line: u32,
     composition: Composition,
     expression: &mut Option<Expr>,
@@ -57,54 +57,50 @@ fn composed(
         | Composition::Catc { target, .. }
         | Composition::Substr { target, .. } => {
             let made = Made::Joined(or_nothing(expression.take()));
-            gives(dead, line, target, made)
+            assign(dead, line, target, made)
         }
     }
 }
 
 // The operation of a line that makes a cord of none.
-fn operation_of_origin(line: u32, origin: Origin, dead: bool) -> Result<Operation, AllocError>
+fn of_origin(line: u32, origin: Origin, dead: bool) -> Result<Operation, AllocError>
     ensures made { IfOk result (λ o. (e : plain.Expr) (paired : Bool) →
         operation_view o ≡ plan.operation (statement_of line (Family.Origin origin.entry)) e dead paired) }
 {
     match origin {
-        Origin::Let { target, text } => gives(dead, line, target, Made::Literal(text.clone()?)),
-        Origin::File { target, path } => gives(dead, line, target, Made::OfFile(path.clone()?)),
-        Origin::Eager { target, path } => gives(dead, line, target, Made::OfEager(path.clone()?)),
-        Origin::Lazy { target, path } => gives(dead, line, target, Made::OfLazy(path.clone()?)),
+        Origin::Let { target, text } => assign(dead, line, target, Made::Literal(text.clone()?)),
+        Origin::File { target, path } => assign(dead, line, target, Made::OfFile(path.clone()?)),
+        Origin::Eager { target, path } => assign(dead, line, target, Made::OfEager(path.clone()?)),
+        Origin::Lazy { target, path } => assign(dead, line, target, Made::OfLazy(path.clone()?)),
         Origin::FromFn {
             target,
             function,
             count,
         } => {
             let made = Made::OfFunction(function, count.clone()?);
-            gives(dead, line, target, made)
+            assign(dead, line, target, made)
         }
     }
 }
 
 // The operation of a line that makes a cord anew of one cord, an extensible cord or a print.
-fn operation_of_derivation(
-    line: u32,
-    derivation: Derivation,
-    dead: bool,
-) -> Result<Operation, AllocError>
+fn of_derivation(line: u32, derivation: Derivation, dead: bool) -> Result<Operation, AllocError>
     ensures made { IfOk result (λ o. (e : plain.Expr) (paired : Bool) →
         operation_view o ≡ plan.operation (statement_of line (Family.Derivation derivation.entry)) e dead paired) }
 {
     match derivation {
         Derivation::Balance { target, operand } => {
-            gives(dead, line, target, Made::Balanced(operand.clone()?))
+            assign(dead, line, target, Made::Balanced(operand.clone()?))
         }
         Derivation::EcToCord { target, extensible } => {
-            gives(dead, line, target, Made::OfExtensible(extensible.clone()?))
+            assign(dead, line, target, Made::OfExtensible(extensible.clone()?))
         }
         Derivation::Sprintf {
             target,
             text,
             format,
             arguments,
-        } => gives(dead, line, target, printed(text, format, arguments)?),
+        } => assign(dead, line, target, printed(text, format, arguments)?),
     }
 }
 
@@ -121,26 +117,16 @@ fn printed(
 }
 
 // The operation that gives a copy of a name what it is made of, or computes the length of that alone.
-fn gives(measures: bool, line: u32, target: &Name, made: Made) -> Result<Operation, AllocError>
+fn assign(measures: bool, line: u32, target: &Name, made: Made) -> Result<Operation, AllocError>
     ensures made { IfOk result (λ o. operation_view o ≡ plan.gives measures line target.now (made_view made)) }
 {
     match target.clone() {
-        Ok(target) => Ok(assignment(measures, line, target, made)),
+        Ok(target) if measures => Ok(Operation::Measure { line, target, made }),
+        Ok(target) => Ok(Operation::Build { line, target, made }),
         Err(error) => {
             drop(made);
             Err(error)
         }
-    }
-}
-
-// The operation that gives a name what it is made of, or computes the length of that alone.
-fn assignment(measures: bool, line: u32, target: Name, made: Made) -> Operation
-    ensures { operation_view result ≡ plan.gives measures line target (made_view made) }
-{
-    if measures {
-        Operation::Measure { line, target, made }
-    } else {
-        Operation::Build { line, target, made }
     }
 }
 

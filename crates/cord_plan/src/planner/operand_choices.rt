@@ -1,7 +1,6 @@
 // What stands for the operands of a line: their names, or expressions of earlier lines.
 ghost use Rattle.std.specs.Prelude.{◌≡◌, ◌==◌, ◌+◌, ◌-◌, ◌<◌, ◌++◌, ◌∷◌, ◌||◌, ℕ, List, Option, Some};
 ghost use Rattle.std.specs.Prelude.{IfOk, IfSome, drop, length, map, option_map, slice_get};
-ghost use Rattle.cord_plan.specs.Exprs as plain;
 ghost use Rattle.cord_plan.specs.Exprs.{names, name, parts};
 ghost use Rattle.cord_syntax.specs.declared.statements.Statement.{Statement};
 ghost use Rattle.cord_plan.specs.Operands.{assigns, count};
@@ -118,7 +117,7 @@ fn room_left_known(expression: &Expr, facts: Option<Facts>, room: u32) -> Option
     ensures { result ≡ room_left (parts (expr_view expression.now)) room }
 {
     match facts {
-        Some(facts) => facts.room_left(room),
+        Some(facts) => room.checked_sub(facts.parts),
         None => room_left(expression, room),
     }
 }
@@ -161,10 +160,7 @@ fn expression_of(operation: &Operation) -> Option<&Expr>
 fn expression_at(operations: &[Operation], place: usize) -> Option<&Expr>
     ensures { option_map (λ e. expr_view e.now) result ≡ expression_in (table_view operations.now) place }
 {
-    match operations.get(place) {
-        Some(operation) => expression_of(operation),
-        None => None,
-    }
+    expression_of(operations.get(place)?)
 }
 
 // Whether the expression of the nearest line that assigns an operand may stand for it, if the line's stays small then.
@@ -273,7 +269,7 @@ pub(crate) fn choose_all<'a>(
     let mut chosen = Vec::with_capacity(alloc, operands.len())?;
     for operand in operands {
         let choice = choose(line, known, operand, operations, &chosen);
-        chosen.push(choice)?;
+        chosen.push_reserved(choice);
     }
     Ok(chosen)
 }

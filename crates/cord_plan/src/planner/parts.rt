@@ -46,12 +46,7 @@ fn room_left_all(members: &[Rc<Expr>], room: u32) -> Option<u32>
 {
     let mut rest = room;
     for member in members {
-        let expression = member.as_ref();
-        let after = match expression {
-            Expr::Name(_) => rest.checked_sub(1),
-            _ => room_left(expression, rest),
-        };
-        match after {
+        match room_left(member.as_ref(), rest) {
             Some(less) => rest = less,
             None => return None,
         }

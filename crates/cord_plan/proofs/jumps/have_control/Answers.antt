@@ -1,6 +1,6 @@
 use Rattle.std.specs.Prelude.{◌≡◌}
 use Rattle.cord_plan.proofs.Common.{below_more, Some, false, inl, inr, length, map, refl, sym, ap, ◌∙◌, arith, option_map, slice_get}
-use Rattle.cord_plan.proofs.Common.{leb_tells, slice_get-map, slice_get_past, slice_get_read, operation_shape, operation_view}
+use Rattle.cord_plan.proofs.Common.{is_block, leb_tells, slice_get-map, slice_get_past, slice_get_read, operation_shape, operation_view}
 use Rattle.cord_plan.proofs.Nexts.{all_next, is_block_shape}
 use Rattle.cord_plan.proofs.jumps.have_control.Goals as goal
 
@@ -15,7 +15,7 @@ loop-operation-preserved c =
     slice_get-map operation_shape (map operation_view os) n
     ∙ ap (option_map operation_shape) (slice_get-map operation_view os n ∙ ap (option_map operation_view) there) in
     let here : is_block_shape (slice_get shapes n) ≡ false =
-    ap is_block_shape seen ∙ (sym c.is_control.ensures ∙ c.if-is_control.false) in
+    ap is_block_shape seen ∙ (ap is_block (sym c.operation_shape.ensures) ∙ (sym c.is_block.ensures ∙ c.if-is_block.false)) in
     below_more (λ p. is_block_shape (slice_get shapes p) ≡ false) n c.loop-operation.invariant here
 
 pub returns : goal.returns

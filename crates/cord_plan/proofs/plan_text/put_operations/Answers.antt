@@ -20,11 +20,11 @@ returns-in_err-put_operation g c = writes_failed c.from_residual.ensures.0
     (writes_broken text ended joined c.args.operations.now _ _ c.loop-operation-test.true c.loop-operation.invariant
     (writes_same (ap ended c.operation-item.is) (writes_stopped (10 ∷ []) c.in_err-put_operation.ensures)))
 
-pub returns-in_err-put_text : goal.returns-in_err-put_text
-returns-in_err-put_text g c = writes_failed c.from_residual-in_err-put_text.ensures.0
+pub returns-in_err-put_all : goal.returns-in_err-put_all
+returns-in_err-put_all g c = writes_failed c.from_residual-in_err-put_all.ensures.0
     (writes_broken text ended joined c.args.operations.now _ _ c.loop-operation-test.true c.loop-operation.invariant
-    (writes_same (ap ended c.operation-item.is) (writes_then c.in_ok-put_operation.ensures c.in_err-put_text.ensures)))
+    (writes_same (ap ended c.operation-item.is) (writes_then c.in_ok-put_operation.ensures c.in_err-put_all.ensures)))
 
 pub loop-operation-preserved : goal.loop-operation-preserved
 loop-operation-preserved g c = writes_next text ended joined c.args.operations.now _ _ c.loop-operation-test.true c.loop-operation.invariant
-    (writes_same (ap ended c.operation-item.is) (writes_then c.in_ok-put_operation.ensures c.in_ok-put_text.ensures))
+    (writes_same (ap ended c.operation-item.is) (writes_then c.in_ok-put_operation.ensures c.in_ok-put_all.ensures))

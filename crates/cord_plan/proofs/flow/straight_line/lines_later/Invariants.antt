@@ -6,6 +6,6 @@ use Rattle.cord_plan.proofs.flow.straight_line.lines_later.Given as goal
 abbrev pub invariant-loop-place : goal.invariant-loop-place
 invariant-loop-place l = record {
   size : length l.lines.items ≡ length l.statements;
-  next_reads : AreNextReads (drop l.place l.statements) l.numbering l.next_reads.read.items;
+  next_reads : AreNextReads (drop l.place l.statements) l.numbering l.next_reads.items;
   reported : AreReportedFrom l.statements l.place l.lines.items;
 }

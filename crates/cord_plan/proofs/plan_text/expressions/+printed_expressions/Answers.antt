@@ -29,43 +29,43 @@ sub_text : (e : Expr) (f : Rc Expr Global) (i n : Number) → e ≡ Sub f i n �
 sub_text e f i n is = sym (ap (λ g. expr (expr_view g)) is ∙ ap expr (view-Sub f i n)
     ∙ ap (λ (t : List ℕ). codes "sub(" ++ t) (three_words (expr (expr_view f.value)) (number i) (number n) (41 ∷ [])))
 
-pub put_expression-returns-in_err-put_text-in-Cat : goal.put_expression-returns-in_err-put_text-in-Cat
-put_expression-returns-in_err-put_text-in-Cat g t c =
+pub put_expression-returns-in_err-put_all-in-Cat : goal.put_expression-returns-in_err-put_all-in-Cat
+put_expression-returns-in_err-put_all-in-Cat g t c =
     let es = members_view c.in-Cat.members in
     writes_failed c.from_residual.ensures.0 (writes_same (cat_text c.args.expression.now c.in-Cat.members c.in-Cat.is)
-    (writes_stopped (exprs es ++ 41 ∷ []) c.in_err-put_text-in-Cat.ensures))
+    (writes_stopped (exprs es ++ 41 ∷ []) c.in_err-put_all-in-Cat.ensures))
 
 pub put_expression-returns-in_err-put_members-in-Cat : goal.put_expression-returns-in_err-put_members-in-Cat
 put_expression-returns-in_err-put_members-in-Cat g t c =
     writes_failed c.from_residual-in_err-put_members-in-Cat.ensures.0
     (writes_same (cat_text c.args.expression.now c.in-Cat.members c.in-Cat.is)
-    (writes_then c.in_ok-put_text-in-Cat.ensures (writes_stopped (41 ∷ []) c.in_err-put_members-in-Cat.ensures)))
+    (writes_then c.in_ok-put_all-in-Cat.ensures (writes_stopped (41 ∷ []) c.in_err-put_members-in-Cat.ensures)))
 
 pub put_expression-returns-in_ok-put_members-in-Cat : goal.put_expression-returns-in_ok-put_members-in-Cat
 put_expression-returns-in_ok-put_members-in-Cat g t c =
     writes_same (cat_text c.args.expression.now c.in-Cat.members c.in-Cat.is)
-    (writes_then c.in_ok-put_text-in-Cat.ensures (writes_then c.in_ok-put_members-in-Cat.ensures c.put_text-in-Cat-2.ensures))
+    (writes_then c.in_ok-put_all-in-Cat.ensures (writes_then c.in_ok-put_members-in-Cat.ensures c.put_all-in-Cat-2.ensures))
 
-pub put_expression-returns-in_err-put_text-in-Sub : goal.put_expression-returns-in_err-put_text-in-Sub
-put_expression-returns-in_err-put_text-in-Sub g t c =
+pub put_expression-returns-in_err-put_all-in-Sub : goal.put_expression-returns-in_err-put_all-in-Sub
+put_expression-returns-in_err-put_all-in-Sub g t c =
     let inner = expr_view c.in-Sub.expression.value in
-    writes_failed c.from_residual-in_err-put_text-in-Sub.ensures.0
+    writes_failed c.from_residual-in_err-put_all-in-Sub.ensures.0
     (writes_same (sub_text c.args.expression.now c.in-Sub.expression c.in-Sub.start c.in-Sub.count c.in-Sub.is)
-    (writes_stopped (expr inner ++ suffix c.in-Sub.start c.in-Sub.count) c.in_err-put_text-in-Sub.ensures))
+    (writes_stopped (expr inner ++ suffix c.in-Sub.start c.in-Sub.count) c.in_err-put_all-in-Sub.ensures))
 
 pub put_expression-returns-in_err-put_expression-in-Sub : goal.put_expression-returns-in_err-put_expression-in-Sub
 put_expression-returns-in_err-put_expression-in-Sub g t c =
     let same = ap (λ e. expr (expr_view e)) c.as_ref.ensures in
     writes_failed c.from_residual-in_err-put_expression-in-Sub.ensures.0
     (writes_same (sub_text c.args.expression.now c.in-Sub.expression c.in-Sub.start c.in-Sub.count c.in-Sub.is)
-    (writes_then c.in_ok-put_text-in-Sub.ensures
+    (writes_then c.in_ok-put_all-in-Sub.ensures
     (writes_stopped (suffix c.in-Sub.start c.in-Sub.count) (writes_same same c.in_err-put_expression-in-Sub.ensures))))
 
 pub put_expression-returns-in_ok-put_expression-in-Sub : goal.put_expression-returns-in_ok-put_expression-in-Sub
 put_expression-returns-in_ok-put_expression-in-Sub g t c =
     let same = ap (λ e. expr (expr_view e)) c.as_ref.ensures in
     writes_same (sub_text c.args.expression.now c.in-Sub.expression c.in-Sub.start c.in-Sub.count c.in-Sub.is)
-    (writes_then c.in_ok-put_text-in-Sub.ensures
+    (writes_then c.in_ok-put_all-in-Sub.ensures
     (writes_then (writes_same same c.in_ok-put_expression-in-Sub.ensures) c.put_numbers-in-Sub.ensures))
 
 pub put_expression-returns-in-Run : goal.put_expression-returns-in-Run
@@ -82,19 +82,19 @@ put_listed-put_expression-requires g t c κs within =
     subst (λ (e : Expr). weight (expr_view e) < weights (members_of (map shared_view ms))) (sym c.as_ref.ensures) there in
     search (rules, below)
 
-pub put_listed-returns-in_err-put_text : goal.put_listed-returns-in_err-put_text
-put_listed-returns-in_err-put_text g t c =
+pub put_listed-returns-in_err-put_all : goal.put_listed-returns-in_err-put_all
+put_listed-returns-in_err-put_all g t c =
     let first = c.args.first.now in
     writes_failed c.from_residual.ensures.0 (spaced_broken first (members_text first) more_text member_text (members_spaced first)
     c.args.members.now c.loop-member.member-index c.member-item.result c.loop-member-test.true c.member-item.is c.loop-member.invariant.taken
-    (writes_stopped (expr (shared_view c.member-item.result)) (writes_same c.loop-member.invariant.blank c.in_err-put_text.ensures)))
+    (writes_stopped (expr (shared_view c.member-item.result)) (writes_same c.loop-member.invariant.blank c.in_err-put_all.ensures)))
 
 pub put_listed-returns-in_err-put_expression : goal.put_listed-returns-in_err-put_expression
 put_listed-returns-in_err-put_expression g t c =
     let first = c.args.first.now in
     writes_failed c.from_residual-in_err-put_expression.ensures.0 (spaced_broken first (members_text first) more_text member_text (members_spaced first)
     c.args.members.now c.loop-member.member-index c.member-item.result c.loop-member-test.true c.member-item.is c.loop-member.invariant.taken
-    (writes_then (writes_same c.loop-member.invariant.blank c.in_ok-put_text.ensures)
+    (writes_then (writes_same c.loop-member.invariant.blank c.in_ok-put_all.ensures)
     (writes_same (ap (λ e. expr (expr_view e)) c.as_ref.ensures) c.in_err-put_expression.ensures)))
 
 pub put_listed-loop-member-preserved : goal.put_listed-loop-member-preserved
@@ -103,7 +103,7 @@ put_listed-loop-member-preserved g t c =
     record {
       taken = spaced_writes first (members_text first) more_text member_text (members_spaced first)
           c.args.members.now c.loop-member.member-index c.member-item.result c.loop-member-test.true c.member-item.is c.loop-member.invariant.taken
-          (writes_then (writes_same c.loop-member.invariant.blank c.in_ok-put_text.ensures)
+          (writes_then (writes_same c.loop-member.invariant.blank c.in_ok-put_all.ensures)
           (writes_same (ap (λ e. expr (expr_view e)) c.as_ref.ensures) c.in_ok-put_expression.ensures));
       blank = blank_later first c.loop-member.member-index;
     }

@@ -6,4 +6,4 @@ use Rattle.cord_plan.proofs.plan_text.fragments.put_numeral.Goals as goal
 pub returns : goal.returns
 returns g c =
     let fits : SFits w64 c.args.numeral = search rules in
-    writes_same (c.as_bytes.ensures.value ∙ c.format.ensures.text ∙ signed_decimal_is c.args.numeral fits) c.put_text.ensures
+    writes_same (c.as_bytes.ensures.value ∙ c.format.ensures.text ∙ signed_decimal_is c.args.numeral fits) c.put_all.ensures

@@ -10,21 +10,21 @@ text fs = spaced (map fragment_text fs)
 abbrev more : List Fragment → List ℕ
 more fs = after_words fragment_text fs
 
-pub returns-in_err-put_text : goal.returns-in_err-put_text
-returns-in_err-put_text g c = writes_failed c.from_residual.ensures.0 (spaced_broken [] text more fragment_text (words_spaced fragment_text)
+pub returns-in_err-put_all : goal.returns-in_err-put_all
+returns-in_err-put_all g c = writes_failed c.from_residual.ensures.0 (spaced_broken [] text more fragment_text (words_spaced fragment_text)
     c.args.words.now _ _ c.loop-word-test.true c.word-item.is c.loop-word.invariant.taken
-    (writes_stopped (fragment_text c.word-item.result) (writes_same c.loop-word.invariant.blank c.in_err-put_text.ensures)))
+    (writes_stopped (fragment_text c.word-item.result) (writes_same c.loop-word.invariant.blank c.in_err-put_all.ensures)))
 
 pub returns-in_err-put_fragment : goal.returns-in_err-put_fragment
 returns-in_err-put_fragment g c = writes_failed c.from_residual-in_err-put_fragment.ensures.0
     (spaced_broken [] text more fragment_text (words_spaced fragment_text) c.args.words.now _ _ c.loop-word-test.true c.word-item.is
     c.loop-word.invariant.taken
-    (writes_then (writes_same c.loop-word.invariant.blank c.in_ok-put_text.ensures) c.in_err-put_fragment.ensures))
+    (writes_then (writes_same c.loop-word.invariant.blank c.in_ok-put_all.ensures) c.in_err-put_fragment.ensures))
 
 pub loop-word-preserved : goal.loop-word-preserved
 loop-word-preserved g c = record {
   taken = spaced_writes [] text more fragment_text (words_spaced fragment_text) c.args.words.now _ _ c.loop-word-test.true c.word-item.is
       c.loop-word.invariant.taken
-      (writes_then (writes_same c.loop-word.invariant.blank c.in_ok-put_text.ensures) c.in_ok-put_fragment.ensures);
+      (writes_then (writes_same c.loop-word.invariant.blank c.in_ok-put_all.ensures) c.in_ok-put_fragment.ensures);
   blank = blank_later [] c.loop-word.word-index;
 }

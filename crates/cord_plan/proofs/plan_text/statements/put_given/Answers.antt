@@ -30,4 +30,4 @@ pub returns : goal.returns
 returns g c =
     let rest = spaced (map fragment_text c.args.operands.now) ++ 41 ∷ [] in
     writes_same (opened c.args.target.now c.args.word.now (spaced (map fragment_text c.args.operands.now)))
-    (writes_then c.in_ok-put_fragments.ensures (writes_then c.in_ok-put_words.ensures c.put_text.ensures))
+    (writes_then c.in_ok-put_fragments.ensures (writes_then c.in_ok-put_words.ensures c.put_all.ensures))

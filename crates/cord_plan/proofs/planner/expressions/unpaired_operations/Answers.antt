@@ -29,8 +29,8 @@ loop-place-preserved c =
     let numbered : IsNumbered c.args.later.now.numbering l c.line-numbers.result = c.line-numbers.ensures l (c.requires.numbered b l here) in
     let o = operation_view c.in-Ok.operation in
     let dead = c.is_dead-dead.ensures l numbered.target (c.requires.reported b l here) in
-    let is_made : o ≡ operation l (or_nothing (option_map expr_view entry.expression)) (is_dead later b (target_of l)) false =
-    c.in-Ok.ensures.made ∙ ap (λ v. operation l (or_nothing (option_map expr_view entry.expression)) v false) dead in
+    let is_made : o ≡ operation l (or_nothing (option_map expr_view entry.0)) (is_dead later b (target_of l)) false =
+    c.in-Ok.ensures.made ∙ ap (λ v. operation l (or_nothing (option_map expr_view entry.0)) v false) dead in
     let grown : map operation_view c.push_reserved.new.self.items ≡ made ++ o ∷ [] =
     ap (map operation_view) push.items ∙ map-append operation_view c.loop-place.operations.items (c.in-Ok.operation ∷ []) in
     record {

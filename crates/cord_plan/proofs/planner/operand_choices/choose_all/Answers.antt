@@ -26,12 +26,14 @@ loop-operand-preserved c =
     (table_view c.args.operations.now)
     (map choice_view cs) (choice_view c.choose-choice.result)) c.deref.ensures.value c.choose-choice.ensures) in
     let size : length done ≡ i = length-map c.loop-operand.chosen.items choice_view ∙ c.loop-operand.invariant.size in
-    let long : length c.push.new.self.items ≡ length c.loop-operand.chosen.items + 1 =
-    ap length c.in_ok-push.ensures.items ∙ length-append c.loop-operand.chosen.items (c.choose-choice.result ∷ []) in
+    let push = c.push_reserved.ensures in
+    let long : length c.push_reserved.new.self.items ≡ length c.loop-operand.chosen.items + 1 =
+    ap length push.items ∙ length-append c.loop-operand.chosen.items (c.choose-choice.result ∷ []) in
     record {
       size = omega arith;
+      room = omega (arith, c.loop-operand-test.true, c.loop-operand.invariant.room, push.len, push.capacity);
       so_far = λ t has.
-          ap (λ (cs : List Choice). plain.choices s later t b l (map choice_view cs) (drop (i + 1) xs)) c.in_ok-push.ensures.items
+          ap (λ (cs : List Choice). plain.choices s later t b l (map choice_view cs) (drop (i + 1) xs)) push.items
           ∙ (ap (λ (ds : List plain.Choice). plain.choices s later t b l ds (drop (i + 1) xs))
           (map-append choice_view c.loop-operand.chosen.items (c.choose-choice.result ∷ []))
           ∙ (more_chosen s later t b l xs done (choice_view c.choose-choice.result) i x c.loop-operand-test.true c.operand-item.is size

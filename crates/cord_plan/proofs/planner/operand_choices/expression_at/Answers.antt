@@ -12,15 +12,15 @@ there os p o is =
     ∙ sym (ap expression_of (slice_get-map operation_expression (map operation_view os) p
     ∙ ap (option_map operation_expression) (slice_get-map operation_view os p)))
 
-pub returns-in-Some : goal.returns-in-Some
-returns-in-Some c =
+pub returns : goal.returns
+returns c =
     let os = c.args.operations.now in
-    let o = c.in-Some.operation.now in
+    let o = c.in_ok-get.field-0.now in
     let found : slice_get os c.args.place ≡ Some o =
-    slice_get_read os (length os) c.args.place o refl c.in-Some.ensures.lookup.3.0 c.in-Some.ensures.lookup.1 in
+    slice_get_read os (length os) c.args.place o refl c.in_ok-get.ensures.lookup.3.0 c.in_ok-get.ensures.lookup.1 in
     c.expression_of.ensures ∙ there os c.args.place (Some o) (sym found)
 
-pub returns-in-None : goal.returns-in-None
-returns-in-None c =
+pub returns-in_err-get : goal.returns-in_err-get
+returns-in_err-get c =
     let os = c.args.operations.now in
-    there os c.args.place None (sym (slice_get_past os c.args.place c.in-None.ensures.lookup.3))
+    rw c.from_residual.ensures (there os c.args.place None (sym (slice_get_past os c.args.place c.in_err-get.ensures.lookup.3)))

@@ -1,32 +1,23 @@
-use Rattle.std.specs.Prelude.{◌≡◌, ◌<◌, ◌+◌}
+use Rattle.std.specs.Prelude.{◌<◌, ◌+◌}
 use Rattle.cord_plan.proofs.Common.{ℕ, map, drop, sym, ap, subst, ◌∙◌, rules, parts, parts_of, room_left, expr_view, members_of}
 use Rattle.cord_plan.proofs.Common.{members_view, shared_view}
 use Rattle.cord_plan.specs.Exprs as plain
 use Rattle.cord_plan.specs.declared.expressions.Expr.{Expr}
-use Rattle.cord_plan.proofs.ExprViews.{view-Name}
 use Rattle.cord_plan.proofs.Halves.{prefix_falls, halves_None, halves_Some, rest_falls}
 use Rattle.cord_plan.proofs.PartSums.{none_for_more, room_for_more, parts_both, parts_member}
 use Rattle.cord_plan.proofs.MemberTexts.{weight, weights, member_there}
 use Rattle.cord_plan.proofs.planner.parts.+room_left.Goals as goal
-use Rattle.cord_plan.proofs.planner.parts.+room_left.Goals.{room_left_all-in-Name, room_left_all-in_default}
 
-pub room_left_all-room_left-after-requires : goal.room_left_all-room_left-after-requires
-room_left_all-room_left-after-requires t c =
+pub room_left_all-room_left-requires : goal.room_left_all-room_left-requires
+room_left_all-room_left-requires t c =
     let there = member_there _ _ _ c.loop-member-test.true c.member-item.is in
-    let below : weight (expr_view c.as_ref-expression.result.now) < weights (members_of (map shared_view c.args.members.now)) =
-    subst (λ (e : Expr). weight (expr_view e) < weights (members_of (map shared_view c.args.members.now))) (sym c.as_ref-expression.ensures)
-    there in
+    let below : weight (expr_view c.as_ref.result.now) < weights (members_of (map shared_view c.args.members.now)) =
+    subst (λ (e : Expr). weight (expr_view e) < weights (members_of (map shared_view c.args.members.now))) (sym c.as_ref.ensures) there in
     search (rules, below)
 
 pub room_left_all-returns-in-None : goal.room_left_all-returns-in-None
 room_left_all-returns-in-None t c =
-    let reported : c.match-expression.after ≡ room_left (parts (shared_view c.member-item.result)) c.loop-member.rest =
-    elim c.match-expression.branch [
-      | room_left_all-in-Name w ↦ let view : shared_view c.member-item.result ≡ plain.name w.in-Name.field-0 =
-          ap expr_view (sym c.as_ref-expression.ensures ∙ w.in-Name.is) ∙ view-Name w.in-Name.field-0 in search (rules, view)
-      | room_left_all-in_default w ↦ w.after-is ∙ (w.room_left-after.ensures
-          ∙ ap (λ (e : Expr). room_left (parts (expr_view e)) c.loop-member.rest) c.as_ref-expression.ensures)
-    ] in
+    let reported = c.room_left.ensures ∙ ap (λ (e : Expr). room_left (parts (expr_view e)) c.loop-member.rest) c.as_ref.ensures in
     none_for_more _ (parts_of (members_of (map shared_view (drop (c.loop-member.member-index + 1) c.args.members.now)))) _
     (sym c.in-None.is ∙ reported)
     ∙ sym (c.loop-member.invariant
@@ -34,13 +25,7 @@ room_left_all-returns-in-None t c =
 
 pub room_left_all-loop-member-preserved : goal.room_left_all-loop-member-preserved
 room_left_all-loop-member-preserved t c =
-    let reported : c.match-expression.after ≡ room_left (parts (shared_view c.member-item.result)) c.loop-member.rest =
-    elim c.match-expression.branch [
-      | room_left_all-in-Name w ↦ let view : shared_view c.member-item.result ≡ plain.name w.in-Name.field-0 =
-          ap expr_view (sym c.as_ref-expression.ensures ∙ w.in-Name.is) ∙ view-Name w.in-Name.field-0 in search (rules, view)
-      | room_left_all-in_default w ↦ w.after-is ∙ (w.room_left-after.ensures
-          ∙ ap (λ (e : Expr). room_left (parts (expr_view e)) c.loop-member.rest) c.as_ref-expression.ensures)
-    ] in
+    let reported = c.room_left.ensures ∙ ap (λ (e : Expr). room_left (parts (expr_view e)) c.loop-member.rest) c.as_ref.ensures in
     c.loop-member.invariant
     ∙ (ap (λ (n : ℕ). room_left n c.loop-member.rest) (parts_member _ _ _ c.loop-member-test.true c.member-item.is)
     ∙ room_for_more _ (parts_of (members_of (map shared_view (drop (c.loop-member.member-index + 1) c.args.members.now)))) _ _

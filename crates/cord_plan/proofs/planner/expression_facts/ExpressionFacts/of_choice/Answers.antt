@@ -1,7 +1,7 @@
 use Rattle.std.specs.Prelude.{◌≡◌}
-use Rattle.cord_plan.proofs.Common.{Some, ap, subst, slice_get, reads_at, true, expr_view, choice_view, expression_in, IsChoiceOf}
+use Rattle.cord_plan.proofs.Common.{Some, refl, ap, subst, slice_get, reads_at, true, expr_view, choice_view, expression_in, IsChoiceOf}
 use Rattle.cord_plan.proofs.Common.{IfSome_then}
-use Rattle.cord_plan.proofs.ExpressionFacts.{facts_later}
+use Rattle.cord_plan.proofs.ExpressionFacts.{facts_later, name_read}
 use Rattle.cord_plan.specs.Inlined as plain
 use Rattle.cord_plan.proofs.planner.expression_facts.ExpressionFacts.of_choice.Goals as goal
 
@@ -10,7 +10,7 @@ returns-in-Named c = λ s table known from.
     let x = c.in-Named.field-0.now in
     let is : choice_view c.args.choice.now ≡ plain.named x = ap choice_view c.in-Named.is in
     let reads : reads_at (slice_get s c.args.place) x ≡ true = subst (λ (d : plain.Choice). IsChoiceOf s c.args.place table d) is from in
-    rw is (c.of_name.ensures s x reads)
+    rw is (record { counted = refl; read = name_read s c.args.place x reads })
 
 pub returns-in-Replaced : goal.returns-in-Replaced
 returns-in-Replaced c = λ s table known from.

@@ -1,6 +1,6 @@
 use Rattle.std.specs.Prelude.{◌≡◌, ◌||◌}
 use Rattle.cord_plan.proofs.Common.{false, or-false, rules}
-use Rattle.cord_plan.proofs.planner.lines.composed.Goals as goal
+use Rattle.cord_plan.proofs.planner.lines.of_composition.Goals as goal
 
 -- a must-fail edit breaks it
 pub returns : goal.returns
