@@ -6,9 +6,9 @@ pub use Rattle.std.proofs.lemmas.Bool.{leb-true, lt-leb, ltb-false, ltb-true, ne
 pub use Rattle.std.proofs.lemmas.List.{drop_all, drop_more, length-map, map-append, nil_from_length, take-append-drop, take-replicate, take_all, take_more}
 pub use Rattle.std.proofs.lemmas.List.Elements.{All-cons, All-head, All-nil, All-tail}
 pub use Rattle.std.proofs.lemmas.Option.{same_Some, slice_get_read}
-pub use Rattle.std.proofs.lemmas.Result.{IfErr-weaker, IfOk-at_ok, IfOk-weaker, err_from_is_err_and}
+pub use Rattle.std.proofs.lemmas.Result.{IfErr-weaker, err_from_is_err_and}
 pub use Rattle.std.proofs.lemmas.Str.{IsUtf8-from_is_utf8, IsUtf8-string_bytes, is_utf8-from_IsUtf8}
-pub use Rattle.std.specs.Prelude.{Err, IfErr, IfSome, MatchBool, MatchOption, MatchResult, Ok, Result, String, cond, drop, false, get_or}
+pub use Rattle.std.specs.Prelude.{Err, IfSome, MatchBool, MatchOption, MatchResult, Ok, Result, String, cond, drop, false, get_or}
 pub use Rattle.std.specs.Prelude.{is_some, nat_lt, pos, replicate, suc, take, zero, ℤ}
 pub use Rattle.std.specs.Str.{IsUtf8, bytes_eq, is_utf8}
 pub use Rattle.memchr.specs.Find.{IsFirstByte, Nowhere, Passes, is_byte}
@@ -56,10 +56,10 @@ pub use Rattle.cord_script.specs.declared.words.Word.TheVariants.{Plain, Quoted}
 pub use Rattle.cord_script.specs.inner.Common.{All, AreAllowed, AreTerms, Block, Bool, Effect, Form, HasBadBytes, HasWord, HasWords}
 pub use Rattle.cord_script.specs.inner.Common.{IsAllowed, IsBlank, IsIdle, IsSplit, IsTerm, Known, LinesSay, List, None, Option}
 pub use Rattle.cord_script.specs.inner.Common.{RefusalKind, Says, Scope, Some, Statement, Suits, Term, Verb, Want, Word, [], after}
-pub use Rattle.cord_script.specs.inner.Common.{after_all, blocks_after, codes, each, effect_of, filter, form_of, is_digit}
+pub use Rattle.cord_script.specs.inner.Common.{after_all, codes, each, effect_of, filter, form_of, is_digit}
 pub use Rattle.cord_script.specs.inner.Common.{is_letter, is_name, kind_of, length, map, names_after, nat_le, not, number_after, option_map}
 pub use Rattle.cord_script.specs.inner.Common.{option_to_list, paths_after, slice_get, start, terms_of, true, whole, word_of, ℕ}
-pub use Rattle.cord_script.specs.inner.LineReading.{GivesAll, GivesTerm, HasWrong, IsFresh, IsInnermostOpen, IsStatementBuilt, LineView}
+pub use Rattle.cord_script.specs.inner.LineReading.{GivesAll, GivesTerm, HasWrong, IsInnermostOpen, IsStatementBuilt, LineView}
 pub use Rattle.cord_script.specs.inner.LineReading.{PassesWord, TakesLine, left_after, names_with, paths_with, scope_of}
 pub use Rattle.cord_script.specs.inner.Reading.{byte_of, digit_of, escape_of, hex_of, magnitude_from, unit_of, AreFirst, AreNames, IsTable}
 pub use Rattle.cord_script.specs.inner.Reading.{HasNext, StartsNoBlank}

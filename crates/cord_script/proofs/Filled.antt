@@ -30,6 +30,7 @@ use Rattle.cord_script.proofs.Firsts.{same_bytes}
 use Rattle.cord_script.proofs.Terms.{want_of, either}
 use Rattle.cord_script.proofs.Tabled.{form_at, form_found}
 use Rattle.cord_script.proofs.Allowed.{all_allowed, block_right}
+use Rattle.cord_script.proofs.FormErrors.{cords_count}
 use Rattle.cord_script.proofs.OneStatement.{fixed_made}
 
 -- what a word says where this is wanted
@@ -169,10 +170,6 @@ cord_names [] h = ([], refl, refl)
 cord_names (w ∷ ws) h =
     let r = cord_names ws h.1 in
     (h.0 ∷ r.0, ap (λ k. Operand kinds.Cord h.0 ∷ k) r.1, omega (arith, r.2))
-
-pub cords_count : (ws : List Word) → length ws ≡ length (cords ws)
-cords_count [] = refl
-cords_count (w ∷ ws) = omega (arith, cords_count ws)
 
 -- a target and 2 to 16 cords
 abbrev joined_filled : (n : ℕ) (ws : List Word) (formats : Option (List Want)) → is_count Joined (length ws) ≡ true →

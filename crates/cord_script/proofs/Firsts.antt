@@ -3,6 +3,7 @@ use Rattle.std.specs.Prelude.{◌≡◌, ◌⊎◌, ◌<◌, ◌∷◌, ◌++◌
 use Rattle.cord_script.proofs.Common.{ℕ, zero, suc, List, [], Bool, true, false, Some, None, drop, length, get_or, inl, inr, refl, sym}
 use Rattle.cord_script.proofs.Common.{subst, ap, ◌∙◌, Option, slice_get, IfSome, MatchOption, bytes_eq, Kind, Known, kind_of, AreFirst}
 use Rattle.cord_script.proofs.Common.{AreNames, is_name}
+use Rattle.std.specs.Option.{option_or}
 use Rattle.std.proofs.Math.Seq.{drop-cons}
 use Rattle.std.proofs.lemmas.Slice.Eq.{bytes_eq-Decides}
 
@@ -24,18 +25,13 @@ pub kind_at : (names : List Known) (i : ℕ) (entry : Known) (name : List ℕ) �
     entry.name ≡ name → kind_of names name ≡ Some entry.kind
 kind_at names i entry name first at same = ap (kind_of names) (sym same) ∙ first i entry at
 
--- the first of two that is something
-abbrev or_else : Option Kind → Option Kind → Option Kind
-or_else None o = o
-or_else (Some k) o = Some k
-
 -- the kind of a name among names and more: the first that is one
-kind_among : (names more : List Known) (name : List ℕ) → kind_of (names ++ more) name ≡ or_else (kind_of names name) (kind_of more name)
+kind_among : (names more : List Known) (name : List ℕ) → kind_of (names ++ more) name ≡ option_or (kind_of names name) (kind_of more name)
 kind_among [] more name = refl
 kind_among (k ∷ ks) more name = by_name (bytes_eq k.name name) (kind_among ks more name)
   where
-    by_name : (b : Bool) → kind_of (ks ++ more) name ≡ or_else (kind_of ks name) (kind_of more name) →
-        (if b then Some k.kind else kind_of (ks ++ more) name) ≡ or_else (if b then Some k.kind else kind_of ks name) (kind_of more name)
+    by_name : (b : Bool) → kind_of (ks ++ more) name ≡ option_or (kind_of ks name) (kind_of more name) →
+        (if b then Some k.kind else kind_of (ks ++ more) name) ≡ option_or (if b then Some k.kind else kind_of ks name) (kind_of more name)
     by_name true h = refl
     by_name false h = h
 
@@ -56,8 +52,8 @@ first_push names last first new i entry e = by_place (at_push names last i entry
 
     by_place : (slice_get names i ≡ Some entry) ⊎ (last ≡ entry) → kind_of (names ++ last ∷ []) entry.name ≡ Some entry.kind
     by_place (inl at) =
-        kind_among names (last ∷ []) entry.name ∙ ap (λ o. or_else o (kind_of (last ∷ []) entry.name)) (first i entry at)
-    by_place (inr is) = rw (← is) (kind_among names (last ∷ []) last.name ∙ ap (λ o. or_else o (kind_of (last ∷ []) last.name)) new ∙ own)
+        kind_among names (last ∷ []) entry.name ∙ ap (λ o. option_or o (kind_of (last ∷ []) entry.name)) (first i entry at)
+    by_place (inr is) = rw (← is) (kind_among names (last ∷ []) last.name ∙ ap (λ o. option_or o (kind_of (last ∷ []) last.name)) new ∙ own)
 
 -- a name that is known is a name
 pub known_name : (names : List Known) (name : List ℕ) (kind : Kind) → AreNames names → kind_of names name ≡ Some kind →

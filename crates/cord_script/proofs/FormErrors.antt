@@ -4,6 +4,7 @@ use Rattle.cord_script.proofs.Common.{Some, None, ℕ, List, [], refl, sym, ◌�
 use Rattle.cord_script.proofs.Common.{nat_le, le-leb, take-replicate, MIN_PARTS, MAX_PARTS, Want, FixedVerb, Word, RefusalKind, WrongCount}
 use Rattle.cord_script.proofs.Common.{form_of, Words, Joined, Printed, Stays, Scope, first_of, unless, first_pair, first_misfit, cords}
 use Rattle.cord_script.proofs.Common.{joined, verb_word, verb_effect, HasFormat, HasFormError, arguments_error, argument_words, names_error, block_error}
+use Rattle.std.specs.Option.{option_or}
 use Rattle.cord_script.specs.declared.verbs.Verb.TheVariants as verbs
 use Rattle.cord_script.specs.declared.diagnosis.TheConstants.{JOINED, PRINTED}
 use Rattle.cord_script.specs.declared.kinds.Kind.TheVariants as kinds
@@ -11,22 +12,17 @@ use Rattle.cord_script.specs.declared.kinds.Want.TheVariants as wants
 use Rattle.cord_script.specs.inner.LineReading.{wanted_error}
 use Rattle.cord_script.proofs.Unique.{within}
 
--- a pair that is right is passed
-pub pair_passed : (test : Want → Word → Option RefusalKind) (all reported : Option RefusalKind) (xs more : List Want)
-    (ws suffix : List Word)
-    (x : Want) (w : Word) → all ≡ first_pair test xs ws → xs ≡ x ∷ more → ws ≡ w ∷ suffix → reported ≡ test x w → reported ≡ None →
-    all ≡ first_pair test more suffix
-pair_passed test all reported xs more ws suffix x w a e f t n =
-    a ∙ ap (λ k. first_pair test k ws) e ∙ ap (first_pair test (x ∷ more)) f
-    ∙ ap (λ k. first_of k (first_pair test more suffix)) (sym t ∙ n)
+-- the first of two that is wrong
+pub or_first : (a b : Option RefusalKind) → option_or a b ≡ first_of a b
+or_first None b = refl
+or_first (Some kind) b = refl
 
--- a pair that is wrong is the first
-pub pair_wrong : (test : Want → Word → Option RefusalKind) (all reported : Option RefusalKind) (xs more : List Want) (ws suffix : List Word)
-    (x : Want) (w : Word) (kind : RefusalKind) → all ≡ first_pair test xs ws → xs ≡ x ∷ more → ws ≡ w ∷ suffix → reported ≡ test x w →
-    reported ≡ Some kind → Some kind ≡ all
-pair_wrong test all reported xs more ws suffix x w kind a e f t n =
-    sym (a ∙ ap (λ k. first_pair test k ws) e ∙ ap (first_pair test (x ∷ more)) f
-    ∙ ap (λ k. first_of k (first_pair test more suffix)) (sym t ∙ n))
+-- the first that is wrong is what is reported of the first pair, or stands after it
+pub pair_step : (test : Want → Word → Option RefusalKind) (all reported : Option RefusalKind) (xs more : List Want) (ws suffix : List Word)
+    (x : Want) (w : Word) → all ≡ first_pair test xs ws → xs ≡ x ∷ more → ws ≡ w ∷ suffix → reported ≡ test x w →
+    all ≡ first_of reported (first_pair test more suffix)
+pair_step test all reported xs more ws suffix x w a e f t =
+    a ∙ ap (λ k. first_pair test k ws) e ∙ ap (first_pair test (x ∷ more)) f ∙ ap (λ k. first_of k (first_pair test more suffix)) (sym t)
 
 -- an error of words whose number is fixed
 pub words_error : (v : FixedVerb) (xs : List Want) (scope : Scope) (ws : List Word) (kind : RefusalKind) →
@@ -38,6 +34,10 @@ cords_are : (ws : List Word) → replicate (length ws) (wants.Operand kinds.Cord
 cords_are [] = refl
 cords_are (w ∷ ws) = ap (λ k. wants.Operand kinds.Cord ∷ k) (cords_are ws)
 
+pub cords_count : (ws : List Word) → length ws ≡ length (cords ws)
+cords_count [] = refl
+cords_count (w ∷ ws) = omega (arith, cords_count ws)
+
 joined_are : (ws : List Word) → length ws ≤ 1 + MAX_PARTS → take (length ws) JOINED ≡ joined ws
 joined_are [] few = refl
 joined_are (w ∷ ws) few = ap (λ k. wants.Target kinds.Cord ∷ k)
@@ -45,11 +45,7 @@ joined_are (w ∷ ws) few = ap (λ k. wants.Target kinds.Cord ∷ k)
 
 joined_count : (ws : List Word) → length (joined ws) ≡ length ws
 joined_count [] = refl
-joined_count (w ∷ ws) = let r = cords_count ws in omega arith
-  where
-    cords_count : (vs : List Word) → length (cords vs) ≡ length vs
-    cords_count [] = refl
-    cords_count (v ∷ vs) = let r = cords_count vs in omega arith
+joined_count (w ∷ ws) = omega (arith, cords_count ws)
 
 -- a target and 2 to 16 cords
 pub cords_error : (scope : Scope) (ws : List Word) (n : ℕ) (kind : RefusalKind) → n ≡ length ws → 1 + MIN_PARTS ≤ n → n ≤ 1 + MAX_PARTS →

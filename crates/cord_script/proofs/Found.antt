@@ -6,24 +6,16 @@ use Rattle.cord_script.proofs.Common.{BadEscape, LiteralTooLong, Word, Plain, Qu
 use Rattle.cord_script.proofs.Common.{SpellsText, HasWord, HasWords, IsBadText, BeginsBadText, HasBadBytes, unit_of}
 use Rattle.cord_script.proofs.Lines.{note_shows}
 use Rattle.cord_script.proofs.Spelled.{same_or_not, less_or_not, spells_push, unit_stands}
-use Rattle.cord_script.proofs.Unique.{Begins, one_beginning, no_beginning, stands_unit}
+use Rattle.cord_script.proofs.Unique.{Begins, one_beginning, no_beginning, no_some, stands_unit}
 
-pub no_blank : (c : ℕ) → c ≢ 32 → c ≢ 9 → c ≢ 13 → ¬ IsBlank c
-no_blank c space tab return (inl e) = space e
-no_blank c space tab return (inr (inl e)) = tab e
-no_blank c space tab return (inr (inr e)) = return e
+-- which of two holds, if one does
+abbrev one_or_not : {A B : Type 0} → A ⊎ (¬ A) → B ⊎ (¬ B) → (A ⊎ B) ⊎ (¬ (A ⊎ B))
+one_or_not (inl a) b = inl (inl a)
+one_or_not (inr na) (inl b) = inl (inr b)
+one_or_not (inr na) (inr nb) = inr (λ h. elim h [ inl a ↦ na a | inr b ↦ nb b ])
 
 abbrev blank_or_not : (c : ℕ) → IsBlank c ⊎ (¬ IsBlank c)
-blank_or_not c = elim (same_or_not c 32) [
-  | inl e ↦ inl (inl e)
-  | inr space ↦ elim (same_or_not c 9) [
-    | inl e ↦ inl (inr (inl e))
-    | inr tab ↦ elim (same_or_not c 13) [
-      | inl e ↦ inl (inr (inr e))
-      | inr return ↦ inr (no_blank c space tab return)
-    ]
-  ]
-]
+blank_or_not c = one_or_not (same_or_not c 32) (one_or_not (same_or_not c 9) (same_or_not c 13))
 
 abbrev plain_or_not : (c : ℕ) → IsPlainByte c ⊎ (¬ IsPlainByte c)
 plain_or_not c = elim (blank_or_not c) [
@@ -74,12 +66,8 @@ idle_or_not line = elim (shown line) [
 ]
 
 pub stands_some : (u : List ℕ) (b : ℕ) → Stands u b → 0 < length u
-stands_some u b (inl h) = omega (arith, ap length h.0)
-stands_some u b (inr (inl h)) = omega (arith, ap length h.0)
-stands_some u b (inr (inr (inl h))) = omega (arith, ap length h.0)
-stands_some u b (inr (inr (inr (inl h)))) = omega (arith, ap length h.0)
-stands_some u b (inr (inr (inr (inr (inl h))))) = omega (arith, ap length h.0)
-stands_some u b (inr (inr (inr (inr (inr h))))) = omega (arith, ap length h.4)
+stands_some [] b h = absurd (no_some (b, []) (stands_unit [] [] b h))
+stands_some (c ∷ cs) b h = omega arith
 
 -- a part that stands for a byte at the front, before fewer bytes
 pub record HasUnit (rest : List ℕ) : Type 0 where
@@ -102,9 +90,6 @@ unit_or_none rest (Some p) e =
       stands = s.2;
       shorter = omega (arith, ap length s.1, length-append s.0 p.1, stands_some s.0 p.0 s.2);
     })
-
-pub no_some : (p : ℕ × List ℕ) → None ≡ Some p → ⊥
-no_some p e = cc
 
 pub none_stands : (rest : List ℕ) → unit_of rest ≡ None → (u v : List ℕ) (b : ℕ) → rest ≡ u ++ v → ¬ Stands u b
 none_stands rest none u v b e s = no_some (b, v) (sym none ∙ ap unit_of e ∙ stands_unit u v b s)

@@ -1,9 +1,10 @@
 -- What the words of a line give.
 use Rattle.std.specs.Prelude.{◌≡◌, ◌∷◌, ◌++◌}
-use Rattle.cord_script.proofs.Common.{◌∙◌, ℕ, List, [], refl, sym, ap, subst, map, map-append, All, Known, FixedVerb, Verb, Word, Statement}
-use Rattle.cord_script.proofs.Common.{IsBlank, StartsWith, Term, terms_of, Target, FilePath, IsTerm, AreTerms, IsAllowed, AreAllowed}
-use Rattle.cord_script.proofs.Common.{names_after, paths_after, LineView, IsFresh, PassesWord, GivesTerm, IsStatementBuilt, Suits}
-use Rattle.cord_script.proofs.Common.{names_with, paths_with, verb_word, verb_effect, word_of, effect_of, line_of, HasWords}
+use Rattle.cord_script.proofs.Common.{◌∙◌, ℕ, List, [], refl, sym, ap, subst, map, map-append, Known, FixedVerb, Word}
+use Rattle.cord_script.proofs.Common.{StartsWith, Term, Target, FilePath, Literal, Applies, Compares, Function, Relation}
+use Rattle.cord_script.proofs.Common.{function_word, relation_word, Plain, Quoted, IsTerm, AreTerms, IsAllowed, AreAllowed}
+use Rattle.cord_script.proofs.Common.{names_after, paths_after, LineView, PassesWord, GivesTerm}
+use Rattle.cord_script.proofs.Common.{names_with, paths_with, verb_word}
 use Rattle.cord_script.specs.declared.verbs.Verb.TheVariants as verbs
 use Rattle.cord_script.specs.inner.LineReading.{GivesAll}
 
@@ -35,13 +36,6 @@ field_pushed f xs grown x a b c e h k =
 pub spelled : {V : Type 0} (of : V → FixedVerb) {a b : V} → a ≡ b → verb_word (verbs.Fixed (of b)) ≡ verb_word (verbs.Fixed (of a))
 spelled of e = ap (λ v. verb_word (verbs.Fixed (of v))) (sym e)
 
--- the names with what stays added
-same_names : (old new : LineView) → new.name ≡ old.name → names_with old.scope.names new.name ≡ names_with old.scope.names old.name
-same_names old new e = ap (names_with old.scope.names) e
-
-same_paths : (old new : LineView) → new.path ≡ old.path → paths_with old.scope.paths new.path ≡ paths_with old.scope.paths old.path
-same_paths old new e = ap (paths_with old.scope.paths) e
-
 -- a term that adds nothing
 pub word_given : (word : Word) (t : Term) (old mid : LineView) → PassesWord old word mid → IsTerm word t → IsAllowed old.scope t →
     ((names : List Known) → names_after (t ∷ []) names ≡ names) → ((paths : List (List ℕ)) → paths_after (t ∷ []) paths ≡ paths) →
@@ -52,9 +46,19 @@ word_given word t old mid p says allowed names paths = record {
   says = says;
   allowed = allowed;
   scope = p.scope;
-  names = same_names old mid p.name ∙ sym (names (names_with old.scope.names old.name));
-  paths = same_paths old mid p.path ∙ sym (paths (paths_with old.scope.paths old.path));
+  names = ap (names_with old.scope.names) p.name ∙ sym (names (names_with old.scope.names old.name));
+  paths = ap (paths_with old.scope.paths) p.path ∙ sym (paths (paths_with old.scope.paths old.path));
 }
+
+-- a text, a function and a relation as fields
+pub literal_given : {a b : LineView} (text : List ℕ) → PassesWord a (Quoted text) b → GivesAll a (Literal text ∷ []) b
+literal_given text h = one_field (word_given (Quoted text) (Literal text) _ _ h refl tt (λ names. refl) (λ paths. refl))
+
+pub applied_given : {a b : LineView} (p : List ℕ) (f : Function) → PassesWord a (Plain p) b → p ≡ function_word f → GivesAll a (Applies f ∷ []) b
+applied_given p f h e = one_field (word_given (Plain p) (Applies f) _ _ h (ap Plain e) tt (λ names. refl) (λ paths. refl))
+
+pub compared_given : {a b : LineView} (p : List ℕ) (r : Relation) → PassesWord a (Plain p) b → p ≡ relation_word r → GivesAll a (Compares r ∷ []) b
+compared_given p r h e = one_field (word_given (Plain p) (Compares r) _ _ h (ap Plain e) tt (λ names. refl) (λ paths. refl))
 
 -- the names after a term and others
 names_split : (t : Term) (ts : List Term) (names : List Known) → names_after (t ∷ ts) names ≡ names_after ts (names_after (t ∷ []) names)
@@ -66,7 +70,7 @@ paths_split (FilePath path) ts paths = refl
 paths_split _ ts paths = refl
 
 -- the words that say the terms that were given
-record HasGiven (old : LineView) (ts : List Term) (new : LineView) : Type 0 where
+pub record HasGiven (old : LineView) (ts : List Term) (new : LineView) : Type 0 where
   pub words : List Word
   pub starts : StartsWith old.rest words new.rest
   pub says : AreTerms words ts
@@ -74,7 +78,7 @@ record HasGiven (old : LineView) (ts : List Term) (new : LineView) : Type 0 wher
   pub names : names_with old.scope.names new.name ≡ names_after ts (names_with old.scope.names old.name)
   pub paths : paths_with old.scope.paths new.path ≡ paths_after ts (paths_with old.scope.paths old.path)
 
-words_given : (old new : LineView) (ts : List Term) → GivesAll old ts new → HasGiven old ts new
+pub words_given : (old new : LineView) (ts : List Term) → GivesAll old ts new → HasGiven old ts new
 unfolding GivesAll
 words_given old new [] h = record {
   words = [];
@@ -98,35 +102,4 @@ words_given old new (t ∷ ts) h =
       paths = ap (λ s. paths_with s.paths new.path) (sym g.scope) ∙ more.paths
           ∙ ap (λ s. paths_after ts (paths_with s.paths h.0.path)) g.scope ∙ ap (paths_after ts) g.paths
           ∙ sym (paths_split t ts (paths_with old.scope.paths old.path));
-    }
-
--- the words of the rest of a line say a statement of the verb, and what they add is what the statement adds
-pub record SaysLine (verb : Verb) (n : ℕ) (old new : LineView) (s : Statement) : Type 0 where
-  pub words : List Word
-  pub has : HasWords old.rest words
-  pub says : AreTerms words (terms_of s)
-  pub allowed : AreAllowed old.scope (terms_of s)
-  pub names : names_with old.scope.names new.name ≡ names_after (terms_of s) old.scope.names
-  pub paths : paths_with old.scope.paths new.path ≡ paths_after (terms_of s) old.scope.paths
-  pub word : word_of s ≡ verb_word verb
-  pub effect : effect_of s ≡ verb_effect verb
-  pub line : line_of s ≡ n
-  pub suits : Suits s
-
--- the statement of words of which none is left
-pub says_line : (v : Verb) (n : ℕ) (old new : LineView) (s : Statement) → IsFresh old → IsStatementBuilt v n old new s → All IsBlank new.rest →
-    SaysLine v n old new s
-says_line v n old new s fresh h blank =
-    let said = words_given old new (terms_of s) h.fields in
-    record {
-      words = said.words;
-      has = (new.rest, said.starts, blank);
-      says = said.says;
-      allowed = said.allowed;
-      names = said.names ∙ ap (λ k. names_after (terms_of s) (names_with old.scope.names k)) fresh.name;
-      paths = said.paths ∙ ap (λ k. paths_after (terms_of s) (paths_with old.scope.paths k)) fresh.path;
-      word = h.word;
-      effect = h.effect;
-      line = h.numbered;
-      suits = h.suits;
     }

@@ -82,22 +82,29 @@ split_last b lines some h s = (
 pub idle_note : (line inner : List ℕ) (b : ℕ) → drop b line ≡ 35 ∷ inner → All IsBlank (take b line) → IsIdle line
 idle_note line inner b e h = inr (take b line, inner, h, parts b line ∙ ap (λ x. take b line ++ x) e)
 
--- a byte that is no blank
-pub not_all_blank : (prefix rest : List ℕ) (c : ℕ) → All IsBlank (prefix ++ c ∷ rest) → ¬ IsBlank c → ⊥
-not_all_blank [] rest c h n = n (All-head IsBlank c rest h)
-not_all_blank (x ∷ xs) rest c h n = not_all_blank xs rest c (All-tail IsBlank x (xs ++ c ∷ rest) h) n
+-- a byte among such bytes is one
+pub among_all : (P : ℕ → Type 0) (prefix rest : List ℕ) (c : ℕ) → All P (prefix ++ c ∷ rest) → P c
+among_all P [] rest c h = All-head P c rest h
+among_all P (x ∷ xs) rest c h = among_all P xs rest c (All-tail P x (xs ++ c ∷ rest) h)
 
--- the blanks at the front end at one place
-pub one_prefix : (f g : List ℕ) (c d : ℕ) (r s : List ℕ) → All IsBlank f → ¬ IsBlank c → All IsBlank g → ¬ IsBlank d →
-    f ++ c ∷ r ≡ g ++ d ∷ s → (f ≡ g) × (c ≡ d) × (r ≡ s)
-one_prefix [] [] c d r s hf nc hg nd e = (refl, cc, cc)
-one_prefix [] (y ∷ g) c d r s hf nc hg nd e = let same : y ≡ c = cc in absurd (nc (subst IsBlank same (All-head IsBlank y g hg)))
-one_prefix (x ∷ f) [] c d r s hf nc hg nd e = let same : x ≡ d = cc in absurd (nd (subst IsBlank same (All-head IsBlank x f hf)))
-one_prefix (x ∷ f) (y ∷ g) c d r s hf nc hg nd e =
-    let rest : f ++ c ∷ r ≡ g ++ d ∷ s = cc in
-    let t = one_prefix f g c d r s (All-tail IsBlank x f hf) nc (All-tail IsBlank y g hg) nd rest in
+-- the bytes of a kind at the front end at one place, where what follows begins with none
+pub one_run : (P : ℕ → Type 0) (Ends : List ℕ → Type 0) → ((c : ℕ) (cs : List ℕ) → Ends (c ∷ cs) → ¬ P c) → (f g r s : List ℕ) → All P f → Ends r →
+    All P g → Ends s → f ++ r ≡ g ++ s → (f ≡ g) × (r ≡ s)
+one_run P Ends none [] [] r s hf nr hg ns e = (refl, e)
+one_run P Ends none [] (y ∷ g) r s hf nr hg ns e = absurd (none y (g ++ s) (subst Ends e nr) (All-head P y g hg))
+one_run P Ends none (x ∷ f) [] r s hf nr hg ns e = absurd (none x (f ++ r) (subst Ends (sym e) ns) (All-head P x f hf))
+one_run P Ends none (x ∷ f) (y ∷ g) r s hf nr hg ns e =
+    let rest : f ++ r ≡ g ++ s = cc in
+    let t = one_run P Ends none f g r s (All-tail P x f hf) nr (All-tail P y g hg) ns rest in
     let same : x ≡ y = cc in
-    (let fs = t.0 in cc, t.1, t.2)
+    (let fs = t.0 in cc, t.1)
+
+-- the first byte that is no blank is one, and so is what follows it
+pub one_shown : (f g : List ℕ) (c d : ℕ) (r s : List ℕ) → All IsBlank f → ¬ IsBlank c → All IsBlank g → ¬ IsBlank d → f ++ c ∷ r ≡ g ++ d ∷ s →
+    (c ≡ d) × (r ≡ s)
+one_shown f g c d r s hf nc hg nd e =
+    let same = (one_run IsBlank StartsNoBlank (λ _ _ h. h) f g (c ∷ r) (d ∷ s) hf nc hg nd e).1 in
+    (cc, cc)
 
 -- `#` is no blank
 pub note_shows : ¬ IsBlank 35
@@ -109,8 +116,8 @@ note_by line inner b c true t e h s = idle_note line inner b (e ∙ ap (λ k. k 
 note_by line inner b c false t e h s =
     let whole : line ≡ take b line ++ c ∷ inner = parts b line ∙ ap (λ k. take b line ++ k) e in
     λ idle. elim idle [
-      | inl all ↦ not_all_blank (take b line) inner c (subst (All IsBlank) whole all) s
-      | inr note ↦ eqb-false c 35 t ((one_prefix (take b line) note.0 c 35 inner note.1 h s note.2 note_shows (sym whole ∙ note.3)).1)
+      | inl all ↦ s (among_all IsBlank (take b line) inner c (subst (All IsBlank) whole all))
+      | inr note ↦ eqb-false c 35 t ((one_shown (take b line) note.0 c 35 inner note.1 h s note.2 note_shows (sym whole ∙ note.3)).0)
     ]
 
 -- a line whose first other byte isn't `#` says something

@@ -77,10 +77,11 @@ pub record HasReadLines (b rest : List ℕ) (n : ℕ) (scope : Scope) (statement
   pub leaves : after_all statements start ≡ scope
 
 -- a line that was read is one of the lines in front
-pub reads_line : (b rest suffix line : List ℕ) (n : ℕ) (old new : Scope) (ss grown : List Statement) → HasReadLines b rest n old ss →
+pub reads_line : {b rest : List ℕ} {n : ℕ} {old : Scope} {ss : List Statement} (suffix line : List ℕ) (new : Scope) (grown : List Statement) →
+    HasReadLines b rest n old ss →
     ((lines : List (List ℕ)) → IsSplit suffix lines → IsSplit rest (line ∷ lines)) → TakesLine n line old new ss grown →
     HasReadLines b suffix (n + 1) new grown
-reads_line b rest suffix line n old new ss grown r first (None, t, e) =
+reads_line {b = b} {ss = ss} suffix line new grown r first (None, t, e) =
     let same : grown ≡ ss = e ∙ append-nil ss in
     record {
       prefix = r.prefix ++ line ∷ [];
@@ -89,7 +90,7 @@ reads_line b rest suffix line n old new ss grown r first (None, t, e) =
       number = omega (arith, r.number, length-append r.prefix (line ∷ []));
       leaves = ap (λ x. after_all x start) same ∙ r.leaves ∙ sym t.1;
     }
-reads_line b rest suffix line n old new ss grown r first (Some s, t, e) =
+reads_line {b = b} {n = n} {ss = ss} suffix line new grown r first (Some s, t, e) =
     record {
       prefix = r.prefix ++ line ∷ [];
       split = λ later h. subst (IsSplit b) (sym (append_assoc r.prefix (line ∷ []) later)) (r.split (line ∷ later) (first later h));
@@ -101,9 +102,9 @@ reads_line b rest suffix line n old new ss grown r first (Some s, t, e) =
     }
 
 -- the line that is being read
-pub reached : (b rest suffix line : List ℕ) (n : ℕ) (scope : Scope) (ss : List Statement) → length b ≤ MAX_SCRIPT → n ≤ MAX_LINES →
+pub reached : {b rest : List ℕ} {n : ℕ} {scope : Scope} {ss : List Statement} (suffix line : List ℕ) → length b ≤ MAX_SCRIPT → n ≤ MAX_LINES →
     HasReadLines b rest n scope ss → ((lines : List (List ℕ)) → IsSplit suffix lines → IsSplit rest (line ∷ lines)) → ReadsUpTo b n
-reached b rest suffix line n scope ss small few r first =
+reached {ss = ss} suffix line small few r first =
     let later = some_lines suffix in
     record {
       size = small;
@@ -124,10 +125,10 @@ left_found (InRepeat line ∷ blocks) n kind h = λ e. cc
 left_found (_ ∷ blocks) n kind h = λ e. cc
 
 -- the first line that is wrong
-pub stops : (b rest suffix line : List ℕ) (n : ℕ) (scope : Scope) (ss : List Statement) (kind : RefusalKind) → length b ≤ MAX_SCRIPT →
+pub stops : {b rest : List ℕ} {n : ℕ} {scope : Scope} {ss : List Statement} (suffix line : List ℕ) (kind : RefusalKind) → length b ≤ MAX_SCRIPT →
     HasReadLines b rest n scope ss → ((lines : List (List ℕ)) → IsSplit suffix lines → IsSplit rest (line ∷ lines)) →
     HasBadLine whole n scope line kind → FirstErrorBy whole b n kind
-stops b rest suffix line n scope ss kind small r first wrong =
+stops {n = n} {ss = ss} suffix line kind small r first wrong =
     let later = some_lines suffix in
     inr (inl (record {
       size = small;
@@ -147,9 +148,9 @@ pub is_wrong : (n : ℕ) (line : List ℕ) (scope : Scope) (kind : RefusalKind) 
 is_wrong n line scope kind few h = inr (few, h.0, h.1)
 
 -- the bytes are these statements, where no line and no block is left
-pub read_whole : (b rest : List ℕ) (n : ℕ) (scope : Scope) (ss : List Statement) → length b ≤ MAX_SCRIPT → n ≤ MAX_LINES + 1 →
-    rest ≡ [] → HasReadLines b rest n scope ss → scope.blocks ≡ [] → ReadsBy whole b ss
-read_whole b rest n scope ss small few e r closed = record {
+pub read_whole : {b rest : List ℕ} {n : ℕ} {scope : Scope} {ss : List Statement} → length b ≤ MAX_SCRIPT → n ≤ MAX_LINES + 1 → rest ≡ [] →
+    HasReadLines b rest n scope ss → scope.blocks ≡ [] → ReadsBy whole b ss
+read_whole {b = b} small few e r closed = record {
   size = small;
   lines = r.prefix;
   split = subst (IsSplit b) (append-nil r.prefix) (r.split [] e);
@@ -158,11 +159,12 @@ read_whole b rest n scope ss small few e r closed = record {
   closed = ap (λ x. x.blocks) r.leaves ∙ closed;
 }
 
-open_by : (b rest : List ℕ) (n at : ℕ) (scope : Scope) (ss : List Statement) (kind : RefusalKind) (blocks : List Block) →
+-- a block that is open where no line is left
+pub leaves_open : {b rest : List ℕ} {n : ℕ} {scope : Scope} {ss : List Statement} (at : ℕ) (kind : RefusalKind) (blocks : List Block) →
     length b ≤ MAX_SCRIPT → n ≤ MAX_LINES + 1 → rest ≡ [] → HasReadLines b rest n scope ss → scope.blocks ≡ blocks →
     IsInnermostOpen blocks at kind → FirstErrorBy whole b at kind
-open_by b rest n at scope ss kind [] small few e r same h = absurd h
-open_by b rest n at scope ss kind (block ∷ others) small few e r same h =
+leaves_open at kind [] small few e r same h = absurd h
+leaves_open {b = b} {ss = ss} at kind (block ∷ others) small few e r same h =
     inr (inr (record {
       size = small;
       lines = r.prefix;
@@ -175,11 +177,6 @@ open_by b rest n at scope ss kind (block ∷ others) small few e r same h =
       blocks = ap (λ x. x.blocks) r.leaves ∙ same;
       left = h;
     }))
-
--- a block that is open where no line is left
-pub leaves_open : (b rest : List ℕ) (n at : ℕ) (scope : Scope) (ss : List Statement) (kind : RefusalKind) → length b ≤ MAX_SCRIPT →
-    n ≤ MAX_LINES + 1 → rest ≡ [] → HasReadLines b rest n scope ss → IsInnermostOpen scope.blocks at kind → FirstErrorBy whole b at kind
-leaves_open b rest n at scope ss kind small few e r h = open_by b rest n at scope ss kind scope.blocks small few e r refl h
 
 -- one more statement with a number
 pub numbered_push : (ss : List Statement) (s : Statement) → All (λ x. 1 ≤ line_of x) ss → 1 ≤ line_of s →

@@ -70,25 +70,24 @@ hex_stands (c ∷ d ∷ rest) v b h =
     let r = byte_stands (digit_of c) (digit_of d) c d rest v b refl refl h in
     (c, d, r.0, r.1, ap (λ z. c ∷ d ∷ z) r.2, r.3, r.4, r.5)
 
--- the escape of a byte for itself
-one_escape : (c d : ℕ) (rest v : List ℕ) → c ≡ d → rest ≡ v → 92 ∷ c ∷ rest ≡ (92 ∷ d ∷ []) ++ v
-one_escape c d rest v e r = ap (λ z. 92 ∷ z ∷ rest) e ∙ ap (λ z. 92 ∷ d ∷ z) r
+-- the escape of a byte by a letter
+one_escape : (c letter byte : ℕ) (rest v : List ℕ) (b : ℕ) → (c == letter) ≡ true →
+    ◌≡◌ {A = Option (ℕ × List ℕ)} (Some (byte, rest)) (Some (b, v)) → (92 ∷ c ∷ rest ≡ (92 ∷ letter ∷ []) ++ v) × (b ≡ byte)
+one_escape c letter byte rest v b same read =
+    let p = same_pair (byte, rest) (b, v) read in
+    (ap (λ z. 92 ∷ z ∷ rest) (eqb-true c letter same) ∙ ap (λ z. 92 ∷ letter ∷ z) p.1, sym p.0)
 
 -- an escape is read as what it stands for
 pub escape_stands : (rest v : List ℕ) (b : ℕ) → escape_of rest ≡ Some (b, v) → (u : List ℕ) × (92 ∷ rest ≡ u ++ v) × Stands u b
 escape_stands [] v b h = cc
 escape_stands (c ∷ rest) v b h = elim (chosen (c == 92) (Some (92, rest)) _ (Some (b, v)) h) [
-  | inl x ↦ let p = same_pair (92, rest) (b, v) x.1 in
-      (92 ∷ 92 ∷ [], one_escape c 92 rest v (eqb-true c 92 x.0) p.1, inr (inl (refl, sym p.0)))
+  | inl x ↦ let p = one_escape c 92 92 rest v b x.0 x.1 in (92 ∷ 92 ∷ [], p.0, inr (inl (refl, p.1)))
   | inr x ↦ elim (chosen (c == 34) (Some (34, rest)) _ (Some (b, v)) x.1) [
-    | inl y ↦ let p = same_pair (34, rest) (b, v) y.1 in
-        (92 ∷ 34 ∷ [], one_escape c 34 rest v (eqb-true c 34 y.0) p.1, inr (inr (inl (refl, sym p.0))))
+    | inl y ↦ let p = one_escape c 34 34 rest v b y.0 y.1 in (92 ∷ 34 ∷ [], p.0, inr (inr (inl (refl, p.1))))
     | inr y ↦ elim (chosen (c == 110) (Some (10, rest)) _ (Some (b, v)) y.1) [
-      | inl z ↦ let p = same_pair (10, rest) (b, v) z.1 in
-          (92 ∷ 110 ∷ [], one_escape c 110 rest v (eqb-true c 110 z.0) p.1, inr (inr (inr (inl (refl, sym p.0)))))
+      | inl z ↦ let p = one_escape c 110 10 rest v b z.0 z.1 in (92 ∷ 110 ∷ [], p.0, inr (inr (inr (inl (refl, p.1)))))
       | inr z ↦ elim (chosen (c == 116) (Some (9, rest)) _ (Some (b, v)) z.1) [
-        | inl q ↦ let p = same_pair (9, rest) (b, v) q.1 in
-            (92 ∷ 116 ∷ [], one_escape c 116 rest v (eqb-true c 116 q.0) p.1, inr (inr (inr (inr (inl (refl, sym p.0))))))
+        | inl q ↦ let p = one_escape c 116 9 rest v b q.0 q.1 in (92 ∷ 116 ∷ [], p.0, inr (inr (inr (inr (inl (refl, p.1))))))
         | inr q ↦ elim (chosen (c == 120) (hex_of rest) None (Some (b, v)) q.1) [
           | inl r ↦ let s = hex_stands rest v b r.1 in (
             92 ∷ 120 ∷ s.0 ∷ s.1 ∷ [],

@@ -1,8 +1,10 @@
 -- The table of statements, as the code looks a word up in it.
-use Rattle.std.specs.Prelude.{◌≡◌, ◌∷◌, if◌then◌else◌}
+use Rattle.std.specs.Prelude.{◌≡◌, ◌≤◌, ◌<◌, ◌+◌, ◌∷◌, if◌then◌else◌}
 use Rattle.cord_script.proofs.Common.{Some, None, ℕ, List, [], length, Bool, true, false, sym, ◌∙◌, ap, Option, MatchOption, refl}
-use Rattle.cord_script.proofs.Common.{filter, cond, bytes_eq, Form, Verb, verb_word, find_verb, all_verbs, verbs_of, false_from_ne_true}
+use Rattle.cord_script.proofs.Common.{filter, cond, bytes_eq, Form, Verb, verb_word, find_verb, all_verbs, false_from_ne_true}
+use Rattle.cord_script.proofs.Common.{arith, drop, drop_all, drop_more}
 use Rattle.cord_script.specs.Forms.{form_of}
+use Rattle.cord_script.specs.inner.Verbal.{FindsVerb, Spells}
 use Rattle.cord_script.proofs.Firsts.{same_bytes}
 
 -- the form of a verb's word
@@ -40,8 +42,19 @@ by_length test (v ∷ vs) w passes = among (test (length (verb_word v))) refl (b
     among true e h = ap (λ o. if bytes_eq w (verb_word v) then Some v else o) h
     among false e h = h ∙ sym (ap (λ b. if b then Some v else find_verb vs w) (other_word test w v passes e))
 
+-- a word that spells a text from its front is the text
+spells_within : (w : List ℕ) (i : ℕ) (xs : List ℕ) → Spells w i xs → i ≤ length w
+spells_within w i [] h = omega (arith, h)
+spells_within w i (c ∷ cs) h = omega (arith, spells_within w (i + 1) cs h.1)
+
+spells_rest : (w : List ℕ) (i : ℕ) (xs : List ℕ) → Spells w i xs → drop i w ≡ xs
+spells_rest w i [] h = drop_all i w (omega (arith, h))
+spells_rest w i (c ∷ cs) h =
+    let within : i < length w = omega (arith, spells_within w (i + 1) cs h.1) in
+    drop_more w i 0 within ∙ ap (λ d. d ∷ drop (i + 1) w) h.0 ∙ ap (λ r. c ∷ r) (spells_rest w (i + 1) cs h.1)
+
 -- a word that is that of no verb whose word's length passes is no statement's word, where its length passes
-pub found : (test : ℕ → Bool) (w : List ℕ) (r : Option Verb) → test (length w) ≡ true →
-    MatchOption r (find_verb (verbs_of test) w ≡ None) (λ v. w ≡ verb_word v) → MatchOption r (form_of w ≡ None) (λ v. w ≡ verb_word v)
+pub found : (test : ℕ → Bool) (w : List ℕ) (r : Option Verb) → test (length w) ≡ true → FindsVerb test w r →
+    MatchOption r (form_of w ≡ None) (λ v. w ≡ verb_word v)
 found test w None passes h = sym (form_found w) ∙ ap form_at (sym (by_length test all_verbs w passes) ∙ h)
-found test w (Some v) passes h = h
+found test w (Some v) passes h = spells_rest w 0 (verb_word v) h

@@ -1,13 +1,14 @@
 -- What a word says, and what it has to be: one term for each want, and no misfit.
 use Rattle.std.specs.Prelude.{◌≡◌, ◌≢◌, ◌<◌, ◌∷◌, ◌⊎◌, ◌==◌, ◌&&◌, ◌||◌, if◌then◌else◌, ◌^◌}
-use Rattle.cord_script.proofs.Common.{inl, inr, Some, None, ℕ, List, [], Bool, true, false, refl, sym, ◌∙◌, ap, length, arith, eqb-true}
-use Rattle.cord_script.proofs.Common.{nat_le, nat_lt, is_some, map, ℤ, pos, leb-true, ne_eqb, Kind, Number, Numeral, Named, Function}
+use Rattle.cord_script.proofs.Common.{inl, inr, Some, None, ℕ, List, [], Bool, true, false, refl, sym, ◌∙◌, ap, length, arith}
+use Rattle.cord_script.proofs.Common.{nat_lt, is_some, map, ℤ, pos, ne_eqb, Kind, Number, Numeral, Named, Function}
 use Rattle.cord_script.proofs.Common.{Digits, Bytes, Relation, Less, Equal, Greater, Known, Word, Plain, BadName, BadNumber, is_digit}
 use Rattle.cord_script.proofs.Common.{is_letter, is_name, each, are_digits, number_after, begins_numeral, numeral_of, function_word}
 use Rattle.cord_script.proofs.Common.{relation_word, Term, Target, Operand, Value, Literal, FilePath, Applies, Compares, Formats, kind_of}
 use Rattle.cord_script.proofs.Common.{IsTerm, AreTerms, first_of, unless, misfit, first_misfit, kind_error, same_kind, number_error}
 use Rattle.cord_script.proofs.Common.{plain_number_misfit, function_misfit, relation_misfit, name_misfit, number_misfit, text_misfit}
 use Rattle.cord_script.proofs.Common.{path_misfit, Want, and_parts, or_from, or_left, or_right}
+use Rattle.std.proofs.lemmas.Bool.Decides.{nat_tests}
 use Rattle.cord_script.specs.declared.kinds.Kind.TheVariants as kinds
 use Rattle.cord_script.specs.declared.kinds.Want.TheVariants as wants
 use Rattle.cord_script.proofs.Spelled.{chosen}
@@ -31,13 +32,7 @@ either false y h = inr h
 
 -- each letter stands after the digits
 letter_above : (c : ℕ) → is_letter c ≡ true → 57 < c
-letter_above c h = elim (either ((nat_le 97 c && nat_le c 122) || (nat_le 65 c && nat_le c 90)) (c == 95) h) [
-  | inl p ↦ elim (either (nat_le 97 c && nat_le c 122) (nat_le 65 c && nat_le c 90) p) [
-    | inl q ↦ let low = leb-true 97 c (and_parts (nat_le 97 c) (nat_le c 122) q).0 in omega arith
-    | inr q ↦ let low = leb-true 65 c (and_parts (nat_le 65 c) (nat_le c 90) q).0 in omega arith
-  ]
-  | inr p ↦ let same = eqb-true c 95 p in omega arith
-]
+letter_above c h = grind (arith, nat_tests)
 
 -- a name doesn't begin as a numeral
 pub name_begins : (p : List ℕ) → is_name p ≡ true → begins_numeral p ≡ false
@@ -119,12 +114,7 @@ one_relation : (r s : Relation) → relation_word r ≡ relation_word s → r �
 one_relation Less Less h = refl
 one_relation Equal Equal h = refl
 one_relation Greater Greater h = refl
-one_relation Less Equal h = absurd (let clash : 108 ≡ 101 = ap head_or h in omega arith)
-one_relation Less Greater h = absurd (let clash : 108 ≡ 103 = ap head_or h in omega arith)
-one_relation Equal Less h = absurd (let clash : 101 ≡ 108 = ap head_or h in omega arith)
-one_relation Equal Greater h = absurd (let clash : 101 ≡ 103 = ap head_or h in omega arith)
-one_relation Greater Less h = absurd (let clash : 103 ≡ 108 = ap head_or h in omega arith)
-one_relation Greater Equal h = absurd (let clash : 103 ≡ 101 = ap head_or h in omega arith)
+one_relation _ _ h = absurd (omega (arith, ap head_or h))
 
 numeral_or_name : (p name : List ℕ) (v : ℤ) → p ≡ name → numeral_of p ≡ Some v → is_name name ≡ true → ⊥
 numeral_or_name p name v e h n =

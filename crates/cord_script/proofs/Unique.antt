@@ -1,43 +1,28 @@
 -- A script has one list of lines, and a line one list of words or one first error of its bytes.
-use Rattle.std.specs.Prelude.{◌≡◌, ◌≢◌, ◌≤◌, ◌<◌, ◌+◌, ◌-◌, ◌*◌, ◌∷◌, ◌++◌, ◌==◌, ◌&&◌, if◌then◌else◌}
+use Rattle.std.specs.Prelude.{◌≡◌, ◌≢◌, ◌≤◌, ◌<◌, ◌+◌, ◌*◌, ◌⊎◌, ◌∷◌, ◌++◌, ◌==◌, ◌&&◌, if◌then◌else◌}
 use Rattle.cord_script.proofs.Common.{inl, inr, Some, None, ℕ, List, [], Bool, true, false, refl, sym, ◌∙◌, ap, subst, append_assoc, length}
-use Rattle.cord_script.proofs.Common.{arith, Option, All, All-head, All-tail, nat_le, leb-true, le-leb, ne_eqb, MAX_TEXT, RefusalKind, Word, Plain, Quoted}
+use Rattle.cord_script.proofs.Common.{arith, Option, All, All-head, nat_le, le-leb, ne_eqb, MAX_TEXT, RefusalKind, Word, Plain, Quoted}
 use Rattle.cord_script.proofs.Common.{IsSplit, IsBlank, IsPlainByte, EndsPlain, Stands, SpellsText, HexDigit, HasWord, HasWords, StartsWith}
-use Rattle.cord_script.proofs.Common.{IsBadText, BeginsBadText, HasBadBytes, digit_of, byte_of, escape_of, unit_of}
-use Rattle.cord_script.proofs.Common.{and_from, and_parts, cond-false, cond-true, false_from_ne_true}
-use Rattle.cord_script.proofs.Lines.{split_nil, not_all_blank, one_prefix}
+use Rattle.cord_script.proofs.Common.{IsBadEnd, IsBadText, BeginsBadText, HasBadBytes, Unterminated, BadEscape, LiteralTooLong, digit_of, byte_of, escape_of, unit_of}
+use Rattle.cord_script.proofs.Common.{and_from}
+use Rattle.std.proofs.lemmas.Bool.Decides.{nat_tests}
+use Rattle.cord_script.proofs.Lines.{split_nil, among_all, one_run, one_shown}
 use Rattle.cord_script.proofs.Spelled.{same_pair, unit_stands}
 
 pub within : (low high c : ℕ) → low ≤ c → c ≤ high → (nat_le low c && nat_le c high) ≡ true
 within low high c l h = and_from (nat_le low c) (nat_le c high) (le-leb low c l) (le-leb c high h)
 
 pub above : (low high c : ℕ) → high < c → (nat_le low c && nat_le c high) ≡ false
-above low high c h = false_from_ne_true (nat_le low c && nat_le c high) (λ t.
-    let q = leb-true c high (and_parts (nat_le low c) (nat_le c high) t).1 in
-    omega arith)
+above low high c h = grind (arith, nat_tests)
 
 pub below : (low high c : ℕ) → c < low → (nat_le low c && nat_le c high) ≡ false
-below low high c h = false_from_ne_true (nat_le low c && nat_le c high) (λ t.
-    let q = leb-true low c (and_parts (nat_le low c) (nat_le c high) t).0 in
-    omega arith)
+below low high c h = grind (arith, nat_tests)
 
 -- the value of a digit is computed
 digit_read : (c v : ℕ) → HexDigit c v → digit_of c ≡ Some v
-digit_read c v (inl h) =
-    let e : c - 48 ≡ v = omega (arith, h.0, h.2) in
-    cond-true (nat_le 48 c && nat_le c 57) (Some (c - 48)) _ (within 48 57 c h.0 h.1) ∙ ap Some e
-digit_read c v (inr (inl h)) =
-    let e : c - 87 ≡ v = omega (arith, h.0, h.2) in
-    let high : 57 < c = omega (arith, h.0) in
-    cond-false (nat_le 48 c && nat_le c 57) (Some (c - 48)) _ (above 48 57 c high)
-    ∙ cond-true (nat_le 97 c && nat_le c 102) (Some (c - 87)) _ (within 97 102 c h.0 h.1) ∙ ap Some e
-digit_read c v (inr (inr h)) =
-    let e : c - 55 ≡ v = omega (arith, h.0, h.2) in
-    let high : 57 < c = omega (arith, h.0) in
-    let low : c < 97 = omega (arith, h.1) in
-    cond-false (nat_le 48 c && nat_le c 57) (Some (c - 48)) _ (above 48 57 c high)
-    ∙ cond-false (nat_le 97 c && nat_le c 102) (Some (c - 87)) _ (below 97 102 c low)
-    ∙ cond-true (nat_le 65 c && nat_le c 70) (Some (c - 55)) _ (within 65 70 c h.0 h.1) ∙ ap Some e
+digit_read c v (inl h) = grind (arith, nat_tests)
+digit_read c v (inr (inl h)) = grind (arith, nat_tests)
+digit_read c v (inr (inr h)) = grind (arith, nat_tests)
 
 self_by : (b : ℕ) (v : List ℕ) (x y : Bool) → x ≡ false → y ≡ false → (if x then escape_of v else (if y then None else Some (b, v)))
     ≡ Some (b, v)
@@ -62,42 +47,39 @@ stands_unit u v b (inr (inr (inr (inr (inr h))))) =
 whole_unit : (w u v rest : List ℕ) (b : ℕ) → w ≡ u ++ v → Stands u b → unit_of (w ++ rest) ≡ Some (b, v ++ rest)
 whole_unit w u v rest b e s = ap (λ x. unit_of (x ++ rest)) e ∙ ap unit_of (append_assoc u v rest) ∙ stands_unit u (v ++ rest) b s
 
+-- A text that ends, with so many bytes of it in front: nothing is read of the rest, or the text is as long as it may be.
+abbrev Ends : ℕ → List ℕ → List ℕ → Type 0
+Ends k t rest = ((unit_of rest ≡ None) × (k + length t ≤ MAX_TEXT)) ⊎ (k + length t ≡ MAX_TEXT)
+
+pub no_some : (p : ℕ × List ℕ) → None ≡ Some p → ⊥
+no_some p e = cc
+
+ends_next : (k b : ℕ) (t rest : List ℕ) → Ends k (b ∷ t) rest → Ends (k + 1) t rest
+ends_next k b t rest (inl h) = inl (h.0, omega (arith, h.1))
+ends_next k b t rest (inr h) = inr (omega (arith, h))
+
+-- a text that goes on doesn't end before another that ends
+no_sooner : (k b : ℕ) (t rest rest' : List ℕ) (p : ℕ × List ℕ) → unit_of rest ≡ Some p → Ends k [] rest → Ends k (b ∷ t) rest' → ⊥
+no_sooner k b t rest rest' p read (inl h) longer = no_some p (sym h.0 ∙ read)
+no_sooner k b t rest rest' p read (inr h) (inl longer) = omega (arith, h, longer.1)
+no_sooner k b t rest rest' p read (inr h) (inr longer) = omega (arith, h, longer)
+
 -- a text ends at one place
-pub one_text : (w w' rest rest' t t' : List ℕ) → SpellsText w t → SpellsText w' t' → w ++ rest ≡ w' ++ rest' → unit_of rest ≡ None →
-    unit_of rest' ≡ None → (t ≡ t') × (rest ≡ rest')
-one_text w w' rest rest' [] [] s s' e n n' = (refl, sym (ap (λ x. x ++ rest) s) ∙ e ∙ ap (λ x. x ++ rest') s')
-one_text w w' rest rest' [] (b ∷ t') s s' e n n' =
-    let read = whole_unit w' s'.0 s'.1 rest' b s'.2 s'.3 in
+pub one_text : (k : ℕ) (w w' rest rest' t t' : List ℕ) → SpellsText w t → SpellsText w' t' → w ++ rest ≡ w' ++ rest' → Ends k t rest → Ends k t' rest' →
+    (t ≡ t') × (rest ≡ rest')
+one_text k w w' rest rest' [] [] s s' e n n' = (refl, sym (ap (λ x. x ++ rest) s) ∙ e ∙ ap (λ x. x ++ rest') s')
+one_text k w w' rest rest' [] (b ∷ t') s s' e n n' =
     let same = ap unit_of (sym (ap (λ x. x ++ rest) s) ∙ e) in
-    absurd (let clash : None ≡ Some (b, s'.1 ++ rest') = sym n ∙ same ∙ read in cc)
-one_text w w' rest rest' (b ∷ t) [] s s' e n n' =
-    let read = whole_unit w s.0 s.1 rest b s.2 s.3 in
-    let same = ap unit_of (e ∙ ap (λ x. x ++ rest') s') in
-    absurd (let clash : None ≡ Some (b, s.1 ++ rest) = sym n' ∙ sym same ∙ read in cc)
-one_text w w' rest rest' (b ∷ t) (b' ∷ t') s s' e n n' =
+    absurd (no_sooner k b t' rest rest' _ (same ∙ whole_unit w' s'.0 s'.1 rest' b s'.2 s'.3) n n')
+one_text k w w' rest rest' (b ∷ t) [] s s' e n n' =
+    let same = ap unit_of (sym (ap (λ x. x ++ rest') s') ∙ sym e) in
+    absurd (no_sooner k b t rest' rest _ (same ∙ whole_unit w s.0 s.1 rest b s.2 s.3) n' n)
+one_text k w w' rest rest' (b ∷ t) (b' ∷ t') s s' e n n' =
     let read = whole_unit w s.0 s.1 rest b s.2 s.3 in
     let read' = whole_unit w' s'.0 s'.1 rest' b' s'.2 s'.3 in
     let p = same_pair (b, s.1 ++ rest) (b', s'.1 ++ rest') (sym read ∙ ap unit_of e ∙ read') in
-    let r = one_text s.1 s'.1 rest rest' t t' s.4 s'.4 p.1 n n' in
+    let r = one_text (k + 1) s.1 s'.1 rest rest' t t' s.4 s'.4 p.1 (ends_next k b t rest n) (ends_next k b' t' rest' n') in
     (ap (λ k. k ∷ t) p.0 ∙ ap (λ k. b' ∷ k) r.0, r.1)
-
--- a text that goes on is shorter than the one that ends
-longer : (w w' rest rest' t t' : List ℕ) (p : ℕ × List ℕ) → SpellsText w t → SpellsText w' t' → w ++ rest ≡ w' ++ rest' → unit_of rest ≡ Some p →
-    unit_of rest' ≡ None → length t < length t'
-longer w w' rest rest' [] [] p s s' e n n' =
-    let same = ap unit_of (sym (ap (λ x. x ++ rest) s) ∙ e ∙ ap (λ x. x ++ rest') s') in
-    absurd (let clash : None ≡ Some p = sym n' ∙ sym same ∙ n in cc)
-longer w w' rest rest' [] (b ∷ t') p s s' e n n' = omega arith
-longer w w' rest rest' (b ∷ t) [] p s s' e n n' =
-    let read = whole_unit w s.0 s.1 rest b s.2 s.3 in
-    let same = ap unit_of (e ∙ ap (λ x. x ++ rest') s') in
-    absurd (let clash : None ≡ Some (b, s.1 ++ rest) = sym n' ∙ sym same ∙ read in cc)
-longer w w' rest rest' (b ∷ t) (b' ∷ t') p s s' e n n' =
-    let read = whole_unit w s.0 s.1 rest b s.2 s.3 in
-    let read' = whole_unit w' s'.0 s'.1 rest' b' s'.2 s'.3 in
-    let q = same_pair (b, s.1 ++ rest) (b', s'.1 ++ rest') (sym read ∙ ap unit_of e ∙ read') in
-    let r = longer s.1 s'.1 rest rest' t t' p s.4 s'.4 q.1 n n' in
-    omega arith
 
 none_of : (o : Option (ℕ × List ℕ)) → ((p : ℕ × List ℕ) → o ≡ Some p → ⊥) → o ≡ None
 none_of None h = refl
@@ -107,53 +89,47 @@ none_of (Some p) h = absurd (h p refl)
 stuck : (rest : List ℕ) → ((u v : List ℕ) (b : ℕ) → rest ≡ u ++ v → ¬ Stands u b) → unit_of rest ≡ None
 stuck rest h = none_of (unit_of rest) (λ p e. let s = unit_stands rest p.1 p.0 e in h s.0 p.1 p.0 s.1 s.2)
 
--- a text that can't go on doesn't end too late
-not_long : (inner w w' rest rest' t t' : List ℕ) → inner ≡ w ++ rest → SpellsText w t → length t ≡ MAX_TEXT →
-    ((u v : List ℕ) × (b : ℕ) × (rest ≡ u ++ v) × Stands u b) → inner ≡ w' ++ rest' → SpellsText w' t' → length t' ≤ MAX_TEXT →
-    unit_of rest' ≡ None → ⊥
-not_long inner w w' rest rest' t t' e s full more e' s' few n =
-    let read = ap unit_of more.3 ∙ stands_unit more.0 more.1 more.2 more.4 in
-    let q = longer w w' rest rest' t t' (more.2, more.1) s s' (sym e ∙ e') read n in
-    omega arith
+-- a text with an error ends
+bad_ends : (t rest : List ℕ) (kind : RefusalKind) → length t ≤ MAX_TEXT → IsBadEnd t rest kind → Ends 0 t rest
+bad_ends t rest kind few (inl h) = inl (stuck rest h.2, omega (arith, few))
+bad_ends t rest kind few (inr (inl h)) = inr (omega (arith, h.1))
+bad_ends t rest kind few (inr (inr h)) = inl (ap unit_of h.1, omega (arith, few))
+
+-- the error is that of what is read of the rest
+abbrev end_error : Option (ℕ × List ℕ) → List ℕ → RefusalKind
+end_error (Some p) rest = LiteralTooLong
+end_error None [] = Unterminated
+end_error None (c ∷ cs) = BadEscape
+
+bad_is : (t rest : List ℕ) (kind : RefusalKind) → IsBadEnd t rest kind → kind ≡ end_error (unit_of rest) rest
+bad_is t rest kind (inl h) = h.0 ∙ sym (ap (λ o. end_error o rest) (stuck rest h.2) ∙ ap (end_error None) h.1.1)
+bad_is t rest kind (inr (inl h)) =
+    h.0 ∙ sym (ap (λ o. end_error o rest) (ap unit_of h.2.3 ∙ stands_unit h.2.0 h.2.1 h.2.2 h.2.4))
+bad_is t rest kind (inr (inr h)) = h.0 ∙ sym (ap (λ r. end_error (unit_of r) r) h.1)
 
 -- the first byte, or 0
 abbrev pub head_or : List ℕ → ℕ
 head_or [] = 0
 head_or (c ∷ cs) = c
 
+-- a quote is no error
+quote_ends : (t r : List ℕ) (kind : RefusalKind) → IsBadEnd t (34 ∷ r) kind → ⊥
+quote_ends t r kind (inl h) = let clash : 34 ≡ 92 = ap head_or h.1.1 in omega (arith, clash)
+quote_ends t r kind (inr (inl h)) = no_some (h.2.2, h.2.1) (ap unit_of h.2.3 ∙ stands_unit h.2.0 h.2.1 h.2.2 h.2.4)
+quote_ends t r kind (inr (inr h)) = cc
+
 -- a closed text has no error
 closed_good : (inner w r t : List ℕ) (kind : RefusalKind) → inner ≡ w ++ 34 ∷ r → SpellsText w t → length t ≤ MAX_TEXT → IsBadText inner kind →
     ⊥
-closed_good inner w r t kind e s few (w', rest, t', e', s', few', inl h) =
-    let q = one_text w w' (34 ∷ r) rest t t' s s' (sym e ∙ e') refl (stuck rest h.2) in
-    let clash : 34 ≡ 92 = ap head_or (q.1 ∙ h.1.1) in
-    omega (arith, clash)
-closed_good inner w r t kind e s few (w', rest, t', e', s', few', inr (inl h)) =
-    not_long inner w' w rest (34 ∷ r) t' t e' s' h.1 h.2 e s few refl
-closed_good inner w r t kind e s few (w', rest, t', e', s', few', inr (inr h)) =
-    let q = one_text w w' (34 ∷ r) rest t t' s s' (sym e ∙ e') refl (ap unit_of h.1) in
-    let same : 34 ∷ r ≡ [] = q.1 ∙ h.1 in
-    cc
+closed_good inner w r t kind e s few (w', rest, t', e', s', few', h) =
+    let q = one_text 0 w w' (34 ∷ r) rest t t' s s' (sym e ∙ e') (inl (refl, omega (arith, few))) (bad_ends t' rest kind few' h) in
+    quote_ends t' r kind (subst (λ x. IsBadEnd t' x kind) (sym q.1) h)
 
 -- a text has one error
 pub one_bad_text : (inner : List ℕ) (kind kind' : RefusalKind) → IsBadText inner kind → IsBadText inner kind' → kind ≡ kind'
-one_bad_text inner kind kind' (w, rest, t, e, s, few, inl h) (w', rest', t', e', s', few', inl h') = h.0 ∙ sym h'.0
-one_bad_text inner kind kind' (w, rest, t, e, s, few, inl h) (w', rest', t', e', s', few', inr (inl h')) =
-    absurd (not_long inner w' w rest' rest t' t e' s' h'.1 h'.2 e s few (stuck rest h.2))
-one_bad_text inner kind kind' (w, rest, t, e, s, few, inl h) (w', rest', t', e', s', few', inr (inr h')) =
-    let q = one_text w w' rest rest' t t' s s' (sym e ∙ e') (stuck rest h.2) (ap unit_of h'.1) in
-    absurd (let same : 92 ∷ h.1.0 ≡ [] = sym h.1.1 ∙ q.1 ∙ h'.1 in cc)
-one_bad_text inner kind kind' (w, rest, t, e, s, few, inr (inl h)) (w', rest', t', e', s', few', inl h') =
-    absurd (not_long inner w w' rest rest' t t' e s h.1 h.2 e' s' few' (stuck rest' h'.2))
-one_bad_text inner kind kind' (w, rest, t, e, s, few, inr (inl h)) (w', rest', t', e', s', few', inr (inl h')) = h.0 ∙ sym h'.0
-one_bad_text inner kind kind' (w, rest, t, e, s, few, inr (inl h)) (w', rest', t', e', s', few', inr (inr h')) =
-    absurd (not_long inner w w' rest rest' t t' e s h.1 h.2 e' s' few' (ap unit_of h'.1))
-one_bad_text inner kind kind' (w, rest, t, e, s, few, inr (inr h)) (w', rest', t', e', s', few', inl h') =
-    let q = one_text w w' rest rest' t t' s s' (sym e ∙ e') (ap unit_of h.1) (stuck rest' h'.2) in
-    absurd (let same : 92 ∷ h'.1.0 ≡ [] = sym h'.1.1 ∙ sym q.1 ∙ h.1 in cc)
-one_bad_text inner kind kind' (w, rest, t, e, s, few, inr (inr h)) (w', rest', t', e', s', few', inr (inl h')) =
-    absurd (not_long inner w' w rest' rest t' t e' s' h'.1 h'.2 e s few (ap unit_of h.1))
-one_bad_text inner kind kind' (w, rest, t, e, s, few, inr (inr h)) (w', rest', t', e', s', few', inr (inr h')) = h.0 ∙ sym h'.0
+one_bad_text inner kind kind' (w, rest, t, e, s, few, h) (w', rest', t', e', s', few', h') =
+    let q = one_text 0 w w' rest rest' t t' s s' (sym e ∙ e') (bad_ends t rest kind few h) (bad_ends t' rest' kind' few' h') in
+    bad_is t rest kind h ∙ ap (λ r. end_error (unit_of r) r) q.1 ∙ sym (bad_is t' rest' kind' h')
 
 -- the first byte that is no blank, and what follows it
 pub record Begins (line : List ℕ) (c : ℕ) (rest : List ℕ) : Type 0 where
@@ -167,11 +143,10 @@ quote_shows = λ h. elim h [ inl e ↦ omega arith | inr k ↦ elim k [ inl e �
 
 pub one_beginning : (line rest rest' : List ℕ) (c c' : ℕ) → Begins line c rest → Begins line c' rest' → (c ≡ c') × (rest ≡ rest')
 one_beginning line rest rest' c c' b b' =
-    let r = one_prefix b.prefix b'.prefix c c' rest rest' b.blank b.shows b'.blank b'.shows (sym b.whole ∙ b'.whole) in
-    (r.1, r.2)
+    one_shown b.prefix b'.prefix c c' rest rest' b.blank b.shows b'.blank b'.shows (sym b.whole ∙ b'.whole)
 
 pub no_beginning : (line rest : List ℕ) (c : ℕ) → Begins line c rest → All IsBlank line → ⊥
-no_beginning line rest c b all = not_all_blank b.prefix rest c (subst (All IsBlank) b.whole all) b.shows
+no_beginning line rest c b all = b.shows (among_all IsBlank b.prefix rest c (subst (All IsBlank) b.whole all))
 
 -- how a plain word begins
 pub record BeginsPlain (line p rest : List ℕ) : Type 0 where
@@ -181,7 +156,7 @@ pub record BeginsPlain (line p rest : List ℕ) : Type 0 where
   pub no_quote : first ≢ 34
   pub begins : Begins line first (others ++ rest)
 
-plain_begins : (line p rest : List ℕ) → HasWord line (Plain p) rest → BeginsPlain line p rest
+pub plain_begins : (line p rest : List ℕ) → HasWord line (Plain p) rest → BeginsPlain line p rest
 plain_begins line [] rest h = absurd (h.3 refl)
 plain_begins line (c ∷ cs) rest h =
     let plain = All-head IsPlainByte c cs h.4 in
@@ -204,17 +179,11 @@ quoted_begins line text rest h = record {
 bad_begins : (line : List ℕ) (kind : RefusalKind) (h : BeginsBadText line kind) → Begins line 34 h.1
 bad_begins line kind h = record { prefix = h.0; blank = h.2; shows = quote_shows; whole = h.3 }
 
--- a plain word ends at one place
-one_run : (p p' rest rest' : List ℕ) → All IsPlainByte p → EndsPlain rest → All IsPlainByte p' → EndsPlain rest' → p ++ rest ≡ p' ++ rest' →
-    (p ≡ p') × (rest ≡ rest')
-one_run [] [] rest rest' a n a' n' e = (refl, e)
-one_run [] (y ∷ ys) rest rest' a n a' n' e = absurd (subst EndsPlain e n (All-head IsPlainByte y ys a'))
-one_run (x ∷ xs) [] rest rest' a n a' n' e = absurd (subst EndsPlain (sym e) n' (All-head IsPlainByte x xs a))
-one_run (x ∷ xs) (y ∷ ys) rest rest' a n a' n' e =
-    let suffix : xs ++ rest ≡ ys ++ rest' = cc in
-    let r = one_run xs ys rest rest' (All-tail IsPlainByte x xs a) n (All-tail IsPlainByte y ys a') n' suffix in
-    let same : x ≡ y = cc in
-    (ap (λ k. k ∷ xs) same ∙ ap (λ k. y ∷ k) r.0, r.1)
+-- a plain word begins with no quote
+no_quote : (line p rest inner : List ℕ) → HasWord line (Plain p) rest → Begins line 34 inner → ⊥
+no_quote line p rest inner h q =
+    let b = plain_begins line p rest h in
+    b.no_quote ((one_beginning line (b.others ++ rest) inner b.first 34 b.begins q).0)
 
 -- a line has one first word
 one_word : (line rest rest' : List ℕ) (w w' : Word) → HasWord line w rest → HasWord line w' rest' → (w ≡ w') × (rest ≡ rest')
@@ -224,20 +193,14 @@ one_word line rest rest' (Plain p) (Plain p') h h' =
     let r = one_beginning line (b.others ++ rest) (b'.others ++ rest') b.first b'.first b.begins b'.begins in
     let whole : p ++ rest ≡ p' ++ rest' = ap (λ x. x ++ rest) b.is ∙ ap (λ x. x ∷ b.others ++ rest) r.0 ∙ ap (λ x. b'.first ∷ x) r.1
     ∙ sym (ap (λ x. x ++ rest') b'.is) in
-    let q = one_run p p' rest rest' h.4 h.5 h'.4 h'.5 whole in
+    let q = one_run IsPlainByte EndsPlain (λ _ _ ends. ends) p p' rest rest' h.4 h.5 h'.4 h'.5 whole in
     (ap Plain q.0, q.1)
-one_word line rest rest' (Plain p) (Quoted t') h h' =
-    let b = plain_begins line p rest h in
-    let r = one_beginning line (b.others ++ rest) (h'.1 ++ 34 ∷ rest') b.first 34 b.begins (quoted_begins line t' rest' h') in
-    absurd (b.no_quote r.0)
-one_word line rest rest' (Quoted t) (Plain p') h h' =
-    let b = plain_begins line p' rest' h' in
-    let r = one_beginning line (b.others ++ rest') (h.1 ++ 34 ∷ rest) b.first 34 b.begins (quoted_begins line t rest h) in
-    absurd (b.no_quote r.0)
+one_word line rest rest' (Plain p) (Quoted t') h h' = absurd (no_quote line p rest (h'.1 ++ 34 ∷ rest') h (quoted_begins line t' rest' h'))
+one_word line rest rest' (Quoted t) (Plain p') h h' = absurd (no_quote line p' rest' (h.1 ++ 34 ∷ rest) h' (quoted_begins line t rest h))
 one_word line rest rest' (Quoted t) (Quoted t') h h' =
     let r = one_beginning line (h.1 ++ 34 ∷ rest) (h'.1 ++ 34 ∷ rest') 34 34 (quoted_begins line t rest h)
     (quoted_begins line t' rest' h') in
-    let q = one_text h.1 h'.1 (34 ∷ rest) (34 ∷ rest') t t' h.4 h'.4 r.1 refl refl in
+    let q = one_text 0 h.1 h'.1 (34 ∷ rest) (34 ∷ rest') t t' h.4 h'.4 r.1 (inl (refl, omega (arith, h.5))) (inl (refl, omega (arith, h'.5))) in
     let suffix : rest ≡ rest' = let e = q.1 in cc in
     (ap Quoted q.0, suffix)
 
@@ -246,9 +209,7 @@ no_word line rest (Plain p) h all = let b = plain_begins line p rest h in no_beg
 no_word line rest (Quoted t) h all = no_beginning line (h.1 ++ 34 ∷ rest) 34 (quoted_begins line t rest h) all
 
 good_word : (line rest : List ℕ) (w : Word) (kind : RefusalKind) → HasWord line w rest → BeginsBadText line kind → ⊥
-good_word line rest (Plain p) kind h bad =
-    let b = plain_begins line p rest h in
-    b.no_quote ((one_beginning line (b.others ++ rest) bad.1 b.first 34 b.begins (bad_begins line kind bad)).0)
+good_word line rest (Plain p) kind h bad = no_quote line p rest bad.1 h (bad_begins line kind bad)
 good_word line rest (Quoted t) kind h bad =
     let r = one_beginning line (h.1 ++ 34 ∷ rest) bad.1 34 34 (quoted_begins line t rest h) (bad_begins line kind bad) in
     closed_good bad.1 h.1 rest t kind (sym r.1) h.4 h.5 bad.4
@@ -303,20 +264,12 @@ one_bad_bytes line kind kind' h h' = starts_bad line h.1 h'.1 h.0 h'.0 kind kind
 
 -- a line ends at its first byte 10
 one_end : (l l' r r' : List ℕ) → All (λ c. c ≢ 10) l → All (λ c. c ≢ 10) l' → l ++ 10 ∷ r ≡ l' ++ 10 ∷ r' → (l ≡ l') × (r ≡ r')
-one_end [] [] r r' a a' e = (refl, cc)
-one_end [] (y ∷ ys) r r' a a' e = let same : y ≡ 10 = cc in absurd (All-head (λ c. c ≢ 10) y ys a' same)
-one_end (x ∷ xs) [] r r' a a' e = let same : x ≡ 10 = cc in absurd (All-head (λ c. c ≢ 10) x xs a same)
-one_end (x ∷ xs) (y ∷ ys) r r' a a' e =
-    let suffix : xs ++ 10 ∷ r ≡ ys ++ 10 ∷ r' = cc in
-    let q = one_end xs ys r r' (All-tail (λ c. c ≢ 10) x xs a) (All-tail (λ c. c ≢ 10) y ys a') suffix in
-    let same : x ≡ y = cc in
-    (ap (λ k. k ∷ xs) same ∙ ap (λ k. y ∷ k) q.0, q.1)
+one_end l l' r r' a a' e =
+    let q = one_run (λ c. c ≢ 10) (λ s. head_or s ≡ 10) (λ _ _ is other. other is) l l' (10 ∷ r) (10 ∷ r') a refl a' refl e in
+    (q.0, let same = q.1 in cc)
 
 no_end : (l prefix r : List ℕ) → All (λ c. c ≢ 10) l → l ≡ prefix ++ 10 ∷ r → ⊥
-no_end [] [] r a e = cc
-no_end [] (y ∷ ys) r a e = cc
-no_end (x ∷ xs) [] r a e = let same : x ≡ 10 = cc in All-head (λ c. c ≢ 10) x xs a same
-no_end (x ∷ xs) (y ∷ ys) r a e = let suffix : xs ≡ ys ++ 10 ∷ r = cc in no_end xs ys r (All-tail (λ c. c ≢ 10) x xs a) suffix
+no_end l prefix r a e = among_all (λ c. c ≢ 10) prefix r 10 (subst (All (λ c. c ≢ 10)) e a) refl
 
 -- a script has one list of lines
 pub one_split : (b : List ℕ) (ls ls' : List (List ℕ)) → IsSplit b ls → IsSplit b ls' → ls ≡ ls'

@@ -1,7 +1,7 @@
 // The open blocks.
 ghost use Rattle.std.specs.Prelude.{◌≡◌, ◌∷◌, [], map, OnOk, MatchOption};
 ghost use Rattle.cord_script.specs.Script.{blocks_after, turned};
-ghost use Rattle.cord_script.specs.FirstErrors.{block_error, else_error};
+ghost use Rattle.cord_script.specs.FirstErrors.{block_error};
 ghost use Rattle.cord_script.specs.inner.LineReading.{block_of, IsInnermostOpen};
 ghost use Rattle.cord_script.specs.inner.Verbal.{verb_effect};
 
@@ -19,16 +19,6 @@ pub enum Open {
     Else(u32),
 }
 
-// What is wrong with an `else`.
-fn else_error(blocks: &VecDeque<Open>) -> Option<RefusalKind>
-    ensures { result ≡ else_error (map block_of blocks.now.items) }
-{
-    match blocks.front() {
-        Some(Open::If(_)) => None,
-        _ => Some(RefusalKind::ElseAlone),
-    }
-}
-
 /// What is wrong with a statement after these open blocks.
 pub fn block_error(verb: Verb, blocks: &VecDeque<Open>) -> Option<RefusalKind>
     ensures { result ≡ block_error (verb_effect verb) (map block_of blocks.now.items) }
@@ -39,7 +29,10 @@ pub fn block_error(verb: Verb, blocks: &VecDeque<Open>) -> Option<RefusalKind>
     match control {
         Control::Repeat | Control::If if blocks.len() >= MAX_BLOCKS => Some(RefusalKind::TooDeep),
         Control::Repeat | Control::If => None,
-        Control::Else => else_error(blocks),
+        Control::Else => match blocks.front() {
+            Some(Open::If(_)) => None,
+            _ => Some(RefusalKind::ElseAlone),
+        },
         Control::End if blocks.is_empty() => Some(RefusalKind::EndAlone),
         Control::End => None,
     }

@@ -1,14 +1,14 @@
 // What the lines before a line leave, and what a line adds to it.
-ghost use Rattle.std.specs.Prelude.{◌≡◌, true, ◌<◌, nat_lt, option_map, OnOk, length};
+ghost use Rattle.std.specs.Prelude.{◌≡◌, option_map, OnOk};
 ghost use Rattle.cord_script.specs.Script.{start, is_among, with_path};
 ghost use Rattle.cord_script.specs.inner.LineReading.{scope_of, left_after};
 ghost use Rattle.cord_script.specs.inner.Verbal.{verb_effect};
 
+use crate::Path;
 use crate::added::Added;
 use crate::blocks::{Open, set_blocks};
 use crate::table::Table;
 use crate::verbs::Verb;
-use crate::{MAX_PATHS, Path};
 use std::alloc::{AllocError, Global};
 use std::collections::VecDeque;
 
@@ -23,8 +23,8 @@ pub struct Context {
     pub blocks: VecDeque<Open>,
 }
 
-// Whether a path stands among these.
-fn is_among(paths: &[Path], path: &[u8]) -> bool
+/// Whether a path stands among these.
+pub fn is_among(paths: &[Path], path: &[u8]) -> bool
     ensures { result ≡ is_among paths.now path.now }
 {
     for known in paths {
@@ -56,21 +56,6 @@ impl Context {
             paths: Vec::new(alloc),
             blocks: VecDeque::new(alloc),
         }
-    }
-
-    /// Whether a line before has this path.
-    pub fn has_path(&self, path: &[u8]) -> bool
-        ensures { result ≡ is_among self.now.paths.items path.now }
-    {
-        is_among(&self.paths, path)
-    }
-
-    /// Whether a further path may be new.
-    pub fn has_room(&self) -> bool
-        ensures value { result ≡ nat_lt (length self.now.paths.items) MAX_PATHS }
-        ensures within { result ≡ true → length self.now.paths.items < MAX_PATHS }
-    {
-        self.paths.len() < MAX_PATHS
     }
 
     /// Adds what a statement of the verb leaves at a line, with what its words add.

@@ -143,24 +143,14 @@ fn words_error(alloc: Global, context: &Context, words: &[Word]) -> Result<(), R
     form_error(alloc, context, verb, others)
 }
 
-// What is wrong with a line: its bytes, or its words.
-fn first_wrong(alloc: Global, context: &Context, line: &[u8]) -> Result<(), RefusalKind>
+/// What is wrong first with a line for which no statement was built: its bytes, or its words. Where nothing is, memory
+/// was refused for the statement.
+#[cold]
+#[inline(never)]
+pub fn first_wrong(alloc: Global, context: &Context, line: &[u8]) -> Result<(), RefusalKind>
     requires { ¬ IsIdle line.now }
     ensures { IfErr result (λ kind. kind ≢ RefusalKind.NoMemory → HasWrong line.now (scope_of context.now) kind) }
 {
     let words = words_of(alloc, line)?;
     words_error(alloc, context, &words)
-}
-
-/// What is wrong first with a line for which no statement was built. Where nothing is wrong with it, memory was refused.
-#[cold]
-#[inline(never)]
-pub fn refusal_of(alloc: Global, context: &Context, line: &[u8]) -> RefusalKind
-    requires { ¬ IsIdle line.now }
-    ensures { result ≢ RefusalKind.NoMemory → HasWrong line.now (scope_of context.now) result }
-{
-    match first_wrong(alloc, context, line) {
-        Ok(()) => RefusalKind::NoMemory,
-        Err(kind) => kind,
-    }
 }

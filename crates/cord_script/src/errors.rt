@@ -1,20 +1,18 @@
 // What is wrong first with words where something is wanted of each, by the order of the refusals.
 ghost use Rattle.std.specs.Prelude.{◌≡◌};
-ghost use Rattle.cord_script.specs.FirstErrors.{unless, misfit, first_pair, number_error, operand_error};
-ghost use Rattle.cord_script.specs.FirstErrors.{word_target_error, word_path_error, plain_number_misfit, names_error};
+ghost use Rattle.cord_script.specs.FirstErrors.{unless, misfit, first_pair};
 ghost use Rattle.cord_script.specs.inner.LineReading.{scope_of, pair_error, wanted_error};
 ghost use Rattle.cord_script.specs.inner.Verbal.{verb_effect};
 
-use crate::RefusalKind;
 use crate::blocks::block_error;
-use crate::context::Context;
+use crate::context::{Context, is_among};
 use crate::fields::{begins_numeral, function_of, is_path, relation_of};
 use crate::kinds::{Kind, Want};
 use crate::names::{assigned_error, is_name, kind_error};
 use crate::numerals::numeral_of;
-use crate::table::Table;
 use crate::verbs::Verb;
 use crate::words::Word;
+use crate::{MAX_PATHS, RefusalKind};
 
 /// A pass over the words of a statement, from left to right.
 #[derive(Clone, Copy)]
@@ -36,96 +34,34 @@ fn unless(test: bool, kind: RefusalKind) -> Option<RefusalKind>
     if test { None } else { Some(kind) }
 }
 
-// What is wrong with a plain word where a number operand is wanted.
-fn plain_number_misfit(word: &[u8]) -> Option<RefusalKind>
-    ensures { result ≡ plain_number_misfit word.now }
-{
-    if begins_numeral(word) {
-        return unless(numeral_of(word).is_some(), RefusalKind::BadNumber);
-    }
-    unless(is_name(word), RefusalKind::BadName)
-}
-
-// What is wrong with a plain word by itself, where this is wanted.
-fn plain_misfit(want: Want, word: &[u8]) -> Option<RefusalKind>
-    ensures { result ≡ misfit want (Word.Plain word.now) }
-{
-    match want {
-        Want::Target(_) | Want::Operand(_) => unless(is_name(word), RefusalKind::BadName),
-        Want::Number => plain_number_misfit(word),
-        Want::Text | Want::Path | Want::Format => Some(RefusalKind::WrongKind),
-        Want::Function => unless(function_of(word).is_some(), RefusalKind::BadName),
-        Want::Relation => unless(relation_of(word).is_some(), RefusalKind::BadName),
-    }
-}
-
-// What is wrong with a quoted word by itself, where this is wanted.
-fn quoted_misfit(want: Want, text: &[u8]) -> Option<RefusalKind>
-    ensures { result ≡ misfit want (Word.Quoted text.now) }
-{
-    match want {
-        Want::Number => Some(RefusalKind::BadNumber),
-        Want::Text | Want::Format => None,
-        Want::Path => unless(is_path(text), RefusalKind::BadName),
-        _ => Some(RefusalKind::BadName),
-    }
-}
-
 // What is wrong with a word by itself, where this is wanted.
 fn misfit(want: Want, word: &Word) -> Option<RefusalKind>
     ensures { result ≡ misfit want word.now }
 {
-    match word {
-        Word::Plain(word) => plain_misfit(want, word.as_slice()),
-        Word::Quoted(text) => quoted_misfit(want, text.as_slice()),
-    }
-}
-
-// What is wrong with a plain word as a number operand that is a name.
-fn number_error(names: &Table, word: &[u8]) -> Option<RefusalKind>
-    ensures { result ≡ number_error names.now word.now }
-{
-    if begins_numeral(word) {
-        return None;
-    }
-    kind_error(names.kind_of(word), Kind::Number)
-}
-
-// What is wrong with an operand that is a name.
-fn operand_error(names: &Table, want: Want, word: &Word) -> Option<RefusalKind>
-    ensures { result ≡ operand_error names.now want word.now }
-{
     match (want, word) {
-        (Want::Operand(kind), Word::Plain(name)) => {
-            kind_error(names.kind_of(name.as_slice()), kind)
+        (Want::Target(_) | Want::Operand(_), Word::Plain(name)) => {
+            unless(is_name(name.as_slice()), RefusalKind::BadName)
         }
-        (Want::Number, Word::Plain(word)) => number_error(names, word.as_slice()),
-        _ => None,
-    }
-}
-
-// What is wrong with the target.
-fn target_error(names: &Table, want: Want, word: &Word) -> Option<RefusalKind>
-    ensures { result ≡ word_target_error names.now want word.now }
-{
-    match (want, word) {
-        (Want::Target(kind), Word::Plain(name)) => {
-            assigned_error(names.kind_of(name.as_slice()), kind, names.len())
+        (Want::Number, Word::Plain(word)) => {
+            if begins_numeral(word.as_slice()) {
+                return unless(
+                    numeral_of(word.as_slice()).is_some(),
+                    RefusalKind::BadNumber,
+                );
+            }
+            unless(is_name(word.as_slice()), RefusalKind::BadName)
         }
-        _ => None,
-    }
-}
-
-// What is wrong with the path.
-fn path_error(context: &Context, want: Want, word: &Word) -> Option<RefusalKind>
-    ensures { result ≡ word_path_error (scope_of context.now).paths want word.now }
-{
-    match (want, word) {
-        (Want::Path, Word::Quoted(path)) => {
-            let fits = context.has_path(path.as_slice()) || context.has_room();
-            unless(fits, RefusalKind::TooMany)
+        (Want::Number, Word::Quoted(_)) => Some(RefusalKind::BadNumber),
+        (Want::Text | Want::Path | Want::Format, Word::Plain(_)) => Some(RefusalKind::WrongKind),
+        (Want::Text | Want::Format, Word::Quoted(_)) => None,
+        (Want::Path, Word::Quoted(path)) => unless(is_path(path.as_slice()), RefusalKind::BadName),
+        (Want::Function, Word::Plain(word)) => {
+            unless(function_of(word.as_slice()).is_some(), RefusalKind::BadName)
         }
-        _ => None,
+        (Want::Relation, Word::Plain(word)) => {
+            unless(relation_of(word.as_slice()).is_some(), RefusalKind::BadName)
+        }
+        _ => Some(RefusalKind::BadName),
     }
 }
 
@@ -133,16 +69,34 @@ fn path_error(context: &Context, want: Want, word: &Word) -> Option<RefusalKind>
 fn pair_error(pass: Pass, context: &Context, want: Want, word: &Word) -> Option<RefusalKind>
     ensures { result ≡ pair_error pass (scope_of context.now) want word.now }
 {
-    match pass {
-        Pass::Words => misfit(want, word),
-        Pass::Operands => operand_error(&context.names, want, word),
-        Pass::Target => target_error(&context.names, want, word),
-        Pass::Path => path_error(context, want, word),
+    let names = &context.names;
+    match (pass, want, word) {
+        (Pass::Words, _, _) => misfit(want, word),
+        (Pass::Operands, Want::Operand(kind), Word::Plain(name)) => {
+            kind_error(names.kind_of(name.as_slice()), kind)
+        }
+        (Pass::Operands, Want::Number, Word::Plain(word)) => {
+            if begins_numeral(word.as_slice()) {
+                return None;
+            }
+            kind_error(names.kind_of(word.as_slice()), Kind::Number)
+        }
+        (Pass::Target, Want::Target(kind), Word::Plain(name)) => {
+            assigned_error(names.kind_of(name.as_slice()), kind, names.len())
+        }
+        (Pass::Path, Want::Path, Word::Quoted(path)) => {
+            let is_known = is_among(&context.paths, path.as_slice());
+            unless(
+                is_known || context.paths.len() < MAX_PATHS,
+                RefusalKind::TooMany,
+            )
+        }
+        _ => None,
     }
 }
 
 /// The first that is wrong in a pass.
-#[tactic(auto, using(crate::proofs::FormErrors::pair_passed, crate::proofs::FormErrors::pair_wrong))]
+#[tactic(auto, using(crate::proofs::FormErrors::pair_step))]
 pub fn earliest_error(
     pass: Pass,
     context: &Context,
@@ -166,21 +120,9 @@ pub fn earliest_error(
     None
 }
 
-// What is wrong with the names of a line: the operands, the target, the path.
-fn names_error(context: &Context, wants: &[Want], words: &[Word]) -> Option<RefusalKind>
-    ensures { result ≡ names_error (scope_of context.now) wants.now words.now }
-{
-    if let Some(kind) = earliest_error(Pass::Operands, context, wants, words) {
-        return Some(kind);
-    }
-    if let Some(kind) = earliest_error(Pass::Target, context, wants, words) {
-        return Some(kind);
-    }
-    earliest_error(Pass::Path, context, wants, words)
-}
-
 /// What is wrong with the words after a verb, where this is wanted of them: their number, the words by themselves, the
 /// names, the blocks.
+#[tactic(auto, using(crate::proofs::FormErrors::or_first))]
 pub fn wanted_error(
     context: &Context,
     verb: Verb,
@@ -192,11 +134,9 @@ pub fn wanted_error(
     if words.len() != wants.len() {
         return Some(RefusalKind::WrongCount);
     }
-    if let Some(kind) = earliest_error(Pass::Words, context, wants, words) {
-        return Some(kind);
-    }
-    if let Some(kind) = names_error(context, wants, words) {
-        return Some(kind);
-    }
-    block_error(verb, &context.blocks)
+    let of_blocks = block_error(verb, &context.blocks);
+    let of_path = earliest_error(Pass::Path, context, wants, words);
+    let of_target = earliest_error(Pass::Target, context, wants, words);
+    let of_names = earliest_error(Pass::Operands, context, wants, words).or(of_target.or(of_path));
+    earliest_error(Pass::Words, context, wants, words).or(of_names.or(of_blocks))
 }

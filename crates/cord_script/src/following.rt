@@ -5,6 +5,7 @@ ghost use Rattle.std.specs.Prelude.{◌≡◌, [], ◌∷◌, ◌++◌, IfOk};
 ghost use Rattle.cord_script.specs.Forms.Term.{Target, Operand, Value, Literal, FilePath, Applies, Compares};
 ghost use Rattle.cord_script.specs.inner.LineReading.{IsFresh, GivesAll};
 
+use crate::fields::{function_of, relation_of};
 use crate::kinds::Kind;
 use crate::no_statement::NoStatement;
 use crate::remaining_words::LineWords;
@@ -89,8 +90,9 @@ impl Fields for Literal {
     ghost terms = { λ _ text. Literal text ∷ [] };
 
     #[inline(always)]
+    #[tactic(auto, using(crate::proofs::LineReading::literal_given))]
     fn read(self, words: &mut LineWords) -> Result<Text, NoStatement> {
-        words.text()
+        words.quoted()
     }
 }
 
@@ -100,8 +102,9 @@ impl Fields for Applied {
     ghost terms = { λ _ function. Applies function ∷ [] };
 
     #[inline(always)]
+    #[tactic(auto, using(crate::proofs::LineReading::applied_given))]
     fn read(self, words: &mut LineWords) -> Result<Function, NoStatement> {
-        words.function()
+        function_of(words.plain()?).ok_or(NoStatement)
     }
 }
 
@@ -111,8 +114,9 @@ impl Fields for Compared {
     ghost terms = { λ _ relation. Compares relation ∷ [] };
 
     #[inline(always)]
+    #[tactic(auto, using(crate::proofs::LineReading::compared_given))]
     fn read(self, words: &mut LineWords) -> Result<Relation, NoStatement> {
-        words.relation()
+        relation_of(words.plain()?).ok_or(NoStatement)
     }
 }
 

@@ -2,7 +2,7 @@
 ghost use Rattle.std.specs.Prelude.{◌≡◌, nat_eq, nat_le, MatchOption, Some, None};
 ghost use Rattle.cord_script.specs.Forms.{form_of};
 ghost use Rattle.cord_script.specs.Forms.Shape.{Words};
-ghost use Rattle.cord_script.specs.inner.Verbal.{verb_word, verb_effect, find_verb, verbs_of};
+ghost use Rattle.cord_script.specs.inner.Verbal.{verb_word, verb_effect, FindsVerb};
 
 use crate::kinds::Kind::{self, Cord, Extensible};
 use crate::kinds::Want::{self, Function, Number, Operand, Path, Relation, Target, Text};
@@ -11,7 +11,7 @@ use crate::verbs::{Composition, Computation, Control, FixedVerb, Growth, Look, O
 // The verb of a word of two letters.
 #[inline(always)]
 fn verb_of_two(word: &[u8]) -> Option<Verb>
-    ensures { MatchOption result (find_verb (verbs_of (nat_eq 2)) word.now ≡ None) (λ verb. word.now ≡ verb_word verb) }
+    ensures { FindsVerb (nat_eq 2) word.now result }
 {
     match word {
         b"fn" => Some(Verb::Fixed(FixedVerb::Origin(Origin::FromFn))),
@@ -23,7 +23,7 @@ fn verb_of_two(word: &[u8]) -> Option<Verb>
 // The verb of a word of three letters.
 #[inline(always)]
 fn verb_of_three(word: &[u8]) -> Option<Verb>
-    ensures { MatchOption result (find_verb (verbs_of (nat_eq 3)) word.now ≡ None) (λ verb. word.now ≡ verb_word verb) }
+    ensures { FindsVerb (nat_eq 3) word.now result }
 {
     match word {
         b"add" => Some(Verb::Fixed(FixedVerb::Computation(Computation::Add))),
@@ -45,7 +45,7 @@ fn verb_of_three(word: &[u8]) -> Option<Verb>
 // The verb of a word of four letters.
 #[inline(always)]
 fn verb_of_four(word: &[u8]) -> Option<Verb>
-    ensures { MatchOption result (find_verb (verbs_of (nat_eq 4)) word.now ≡ None) (λ verb. word.now ≡ verb_word verb) }
+    ensures { FindsVerb (nat_eq 4) word.now result }
 {
     match word {
         b"catc" => Some(Verb::Fixed(FixedVerb::Composition(Composition::Catc))),
@@ -62,7 +62,7 @@ fn verb_of_four(word: &[u8]) -> Option<Verb>
 // The verb of a word of five letters.
 #[inline(always)]
 fn verb_of_five(word: &[u8]) -> Option<Verb>
-    ensures { MatchOption result (find_verb (verbs_of (nat_eq 5)) word.now ≡ None) (λ verb. word.now ≡ verb_word verb) }
+    ensures { FindsVerb (nat_eq 5) word.now result }
 {
     match word {
         b"chars" => Some(Verb::Fixed(FixedVerb::Composition(Composition::Chars))),
@@ -78,7 +78,7 @@ fn verb_of_five(word: &[u8]) -> Option<Verb>
 // The verb of a word of six letters or more.
 #[inline(always)]
 fn verb_of_long(word: &[u8]) -> Option<Verb>
-    ensures { MatchOption result (find_verb (verbs_of (nat_le 6)) word.now ≡ None) (λ verb. word.now ≡ verb_word verb) }
+    ensures { FindsVerb (nat_le 6) word.now result }
 {
     match word {
         b"ecinit" => Some(Verb::Fixed(FixedVerb::Growth(Growth::EcInit))),

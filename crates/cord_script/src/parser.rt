@@ -11,7 +11,7 @@ ghost use Rattle.cord_script.specs.declared.TheConstants.{MAX_LINES};
 
 use crate::blocks::open_error;
 use crate::context::Context;
-use crate::diagnosis::refusal_of;
+use crate::diagnosis::first_wrong;
 use crate::line::take_statement;
 use crate::words::{blanks, head, tail, uncons};
 use crate::{MAX_LINES, MAX_SCRIPT, Refusal, RefusalKind, Script, Statement};
@@ -74,7 +74,10 @@ fn take_line(
     if is_idle(line) {
         return Ok(());
     }
-    Err(refusal_of(alloc, context, line))
+    match first_wrong(alloc, context, line) {
+        Ok(()) => Err(RefusalKind::NoMemory),
+        Err(kind) => Err(kind),
+    }
 }
 
 /// Reads a script: lines that end with byte 10, or with the script, and on each one statement, a comment or nothing.

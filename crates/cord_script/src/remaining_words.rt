@@ -8,13 +8,13 @@ ghost use Rattle.cord_script.specs.Words.{IsBlank};
 ghost use Rattle.cord_script.specs.Tests.{is_name};
 ghost use Rattle.cord_script.specs.Formats.{wants_of_pieces};
 ghost use Rattle.cord_script.specs.Forms.{argument_term, argument_want};
-ghost use Rattle.cord_script.specs.Forms.Term.{Target, Operand, Value, Literal, FilePath, Applies, Compares, Formats};
+ghost use Rattle.cord_script.specs.Forms.Term.{Target, Operand, Value, FilePath, Formats};
 ghost use Rattle.cord_script.specs.Script.{kind_of};
 ghost use Rattle.cord_script.specs.inner.LineReading.{scope_of, IsFresh, PassesWord, GivesTerm, GivesAll};
 
 use crate::added::{Added, NewName};
-use crate::context::Context;
-use crate::fields::{begins_numeral, function_of, path_of, relation_of};
+use crate::context::{Context, is_among};
+use crate::fields::{begins_numeral, path_of};
 use crate::formats::wants_of_pieces;
 use crate::kinds::{Kind, Want};
 use crate::no_statement::NoStatement;
@@ -22,8 +22,7 @@ use crate::numerals::numeral_of;
 use crate::table::Known;
 use crate::words::{Word, blanks, next_word, plain_word};
 use crate::{
-    Argument, Arguments, Function, MAX_PARTS, MIN_PARTS, Name, Names, Number, Path, Relation,
-    Shared, Text,
+    Argument, Arguments, MAX_PARTS, MAX_PATHS, MIN_PARTS, Name, Names, Number, Path, Shared, Text,
 };
 use cord_printf::Format;
 use std::alloc::Global;
@@ -86,24 +85,14 @@ impl<'a> LineWords<'a> {
         blanks(self.rest) == self.rest.len()
     }
 
-    // The bytes of the next word, which is a plain one and is read.
+    /// The bytes of the next word, which is a plain one and is read.
     #[inline(always)]
-    fn plain(&mut self) -> Result<&'a [u8], NoStatement>
+    pub fn plain(&mut self) -> Result<&'a [u8], NoStatement>
         ensures { IfOk result (λ word. PassesWord self.old (Plain word.now) self.new) }
     {
         let (word, rest) = plain_word(self.rest).ok_or(NoStatement)?;
         self.rest = rest;
         Ok(word)
-    }
-
-    // The name that a word is, if it is known and of this kind.
-    #[inline(always)]
-    fn named(&self, word: &[u8], kind: Kind) -> Result<Name, NoStatement>
-        ensures word { IfOk result (λ name. name ≡ word.now) }
-        ensures is_name { IfOk result (λ name. is_name name ≡ true) }
-        ensures kind { IfOk result (λ name. kind_of self.now.scope.names name ≡ Some kind) }
-    {
-        self.context.names.known_name(word, kind).ok_or(NoStatement)
     }
 
     // The name that a word is, which the line assigns first, as of this kind.
@@ -152,7 +141,7 @@ impl<'a> LineWords<'a> {
         ensures { IfOk result (λ name. GivesTerm self.old (Operand kind name) self.new) }
     {
         let word = self.plain()?;
-        self.named(word, kind)
+        self.context.names.known_name(word, kind).ok_or(NoStatement)
     }
 
     /// A number operand.
@@ -164,7 +153,11 @@ impl<'a> LineWords<'a> {
         if begins_numeral(word) {
             return Ok(Number::Numeral(numeral_of(word).ok_or(NoStatement)?));
         }
-        let name = self.named(word, Kind::Number)?;
+        let name = self
+            .context
+            .names
+            .known_name(word, Kind::Number)
+            .ok_or(NoStatement)?;
         Ok(Number::Named(name))
     }
 
@@ -176,8 +169,8 @@ impl<'a> LineWords<'a> {
         Ok(Shared::new(self.alloc, number)?)
     }
 
-    // A quoted word.
-    fn quoted(&mut self) -> Result<Text, NoStatement>
+    /// A quoted word.
+    pub fn quoted(&mut self) -> Result<Text, NoStatement>
         ensures { IfOk result (λ text. PassesWord self.old (Word.Quoted text) self.new) }
     {
         let Ok(Some((word, rest))) = next_word(self.alloc, self.rest) else {
@@ -190,41 +183,20 @@ impl<'a> LineWords<'a> {
         Ok(text)
     }
 
-    /// A text.
-    pub fn text(&mut self) -> Result<Text, NoStatement>
-        ensures { IfOk result (λ text. GivesTerm self.old (Literal text) self.new) }
-    {
-        self.quoted()
-    }
-
     /// A path.
     pub fn path(&mut self) -> Result<Path, NoStatement>
         requires { self.old.path ≡ None }
         ensures { IfOk result (λ path. GivesTerm self.old (FilePath path) self.new) }
     {
         let path = path_of(self.quoted()?).ok_or(NoStatement)?;
-        if self.context.has_path(path.as_str().as_bytes()) {
+        if is_among(&self.context.paths, path.as_str().as_bytes()) {
             return Ok(path);
         }
-        if !self.context.has_room() {
+        if self.context.paths.len() >= MAX_PATHS {
             return Err(NoStatement);
         }
         self.new_path = Some(path.clone()?);
         Ok(path)
-    }
-
-    /// A function.
-    pub fn function(&mut self) -> Result<Function, NoStatement>
-        ensures { IfOk result (λ function. GivesTerm self.old (Applies function) self.new) }
-    {
-        function_of(self.plain()?).ok_or(NoStatement)
-    }
-
-    /// A relation.
-    pub fn relation(&mut self) -> Result<Relation, NoStatement>
-        ensures { IfOk result (λ relation. GivesTerm self.old (Compares relation) self.new) }
-    {
-        relation_of(self.plain()?).ok_or(NoStatement)
     }
 
     /// The text of a format, and what it is read as, on the heap.

@@ -82,11 +82,6 @@ impl Table {
         self.known.len()
     }
 
-    // The place of the next name, as a hint: of 256 names the last has the greatest hint.
-    fn next_hint(&self) -> u8 {
-        u8::try_from(self.known.len()).unwrap_or(u8::MAX)
-    }
-
     // The entry at a place, if it has the name, which has this key.
     fn at(&self, place: usize, key: u64, name: &[u8]) -> Option<&Known>
         requires { key ≡ key_of name.now }
@@ -149,7 +144,9 @@ impl Table {
         if self.known.len() >= MAX_NAMES || !is_name(bytes) || self.kind_of(bytes).is_some() {
             return Err(NoStatement);
         }
-        Ok(Name::of(alloc, bytes, self.next_hint())?)
+        // Of 256 names the last has the greatest hint.
+        let hint = u8::try_from(self.known.len()).unwrap_or(u8::MAX);
+        Ok(Name::of(alloc, bytes, hint)?)
     }
 
     /// The name of these bytes, which it shares with the table, where it is known and of this kind.

@@ -1,5 +1,5 @@
 -- The statements' words, and what statements do to the open blocks, as the code has them.
-use Rattle.std.specs.Prelude.{◌∷◌, if◌then◌else◌}
+use Rattle.std.specs.Prelude.{◌≡◌, ◌+◌, ◌∷◌, MatchOption, get_or, if◌then◌else◌}
 use Rattle.cord_script.specs.inner.Common.{ℕ, List, [], length, filter, Bool, Option, Some, None, codes, Verb, Effect}
 use Rattle.std.specs.Str.{bytes_eq}
 use Rattle.cord_script.specs.declared.verbs.Verb.TheVariants.{Fixed, Catn, Sprintf}
@@ -68,6 +68,15 @@ verbs_of test = filter (λ verb. test (length (verb_word verb))) all_verbs
 abbrev pub find_verb : List Verb → List ℕ → Option Verb
 find_verb [] w = None
 find_verb (v ∷ vs) w = if bytes_eq w (verb_word v) then Some v else find_verb vs w
+
+-- these are the bytes from a place on, to the end
+abbrev pub Spells : List ℕ → ℕ → List ℕ → Type 0
+Spells w i [] = length w ≡ i
+Spells w i (c ∷ cs) = (get_or w i 0 ≡ c) × Spells w (i + 1) cs
+
+-- the verb whose word this is, of those whose words have a length that passes the test, if it is one's
+abbrev pub FindsVerb : (ℕ → Bool) → List ℕ → Option Verb → Type 0
+FindsVerb test w found = MatchOption found (find_verb (verbs_of test) w ≡ None) (λ verb. Spells w 0 (verb_word verb))
 
 -- what a statement of the verb does to the open blocks
 abbrev pub verb_effect : Verb → Effect

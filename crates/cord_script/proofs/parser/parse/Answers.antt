@@ -7,33 +7,30 @@ returns-then-size-gt-MAX_SCRIPT-clause-first_error c = λ n. inl (record { size 
 
 pub returns-in-Err-clause-first_error : goal.returns-in-Err-clause-first_error
 returns-in-Err-clause-first_error c = λ n.
-    stops c.args.script.now c.lines.rest.now c.first_line.result.1.now c.first_line.result.0.now c.lines.number
-    (scope_of c.lines.context) c.lines.statements.items c.in-Err.kind (omega arith) c.lines.invariant.read c.first_line.ensures.first
+    stops c.first_line.result.1.now c.first_line.result.0.now c.in-Err.kind (omega arith) c.lines.invariant.read c.first_line.ensures.first
     (c.in-Err.ensures.first_error n)
 
 pub returns-in-Err-clause-no_memory : goal.returns-in-Err-clause-no_memory
 returns-in-Err-clause-no_memory c = λ n.
-    reached c.args.script.now c.lines.rest.now c.first_line.result.1.now c.first_line.result.0.now c.lines.number
-    (scope_of c.lines.context) c.lines.statements.items (omega arith) (c.in-Err.ensures.no_memory n) c.lines.invariant.read
+    reached c.first_line.result.1.now c.first_line.result.0.now (omega arith) (c.in-Err.ensures.no_memory n) c.lines.invariant.read
     c.first_line.ensures.first
 
 pub lines-preserved : goal.lines-preserved
-lines-preserved c = record {
-  few = omega (arith, c.in_default.ensures.few);
-  read = reads_line c.args.script.now c.lines.rest.now c.first_line.result.1.now c.first_line.result.0.now c.lines.number
-      (scope_of c.lines.context) (scope_of c.take_line.new.context) c.lines.statements.items c.take_line.new.statements.items
-      c.lines.invariant.read c.first_line.ensures.first c.in_default.ensures.takes;
-  numbered = numbered_line c.lines.number c.first_line.result.0.now (scope_of c.lines.context)
-      (scope_of c.take_line.new.context) c.lines.statements.items c.take_line.new.statements.items
-      (omega (arith, c.lines.invariant.read.number)) c.lines.invariant.numbered c.in_default.ensures.takes;
-}
+lines-preserved c =
+    let new = scope_of c.take_line.new.context in
+    record {
+      few = omega (arith, c.in_default.ensures.few);
+      read = reads_line c.first_line.result.1.now c.first_line.result.0.now new c.take_line.new.statements.items
+          c.lines.invariant.read c.first_line.ensures.first c.in_default.ensures.takes;
+      numbered = numbered_line c.lines.number c.first_line.result.0.now (scope_of c.lines.context) new c.lines.statements.items
+          c.take_line.new.statements.items (omega (arith, c.lines.invariant.read.number)) c.lines.invariant.numbered
+          c.in_default.ensures.takes;
+    }
 
 pub returns-in-Some-clause-first_error : goal.returns-in-Some-clause-first_error
 returns-in-Some-clause-first_error c = λ n.
-    leaves_open c.args.script.now c.lines.rest.now c.lines.number c.in-Some.refusal.line (scope_of c.lines.context)
-    c.lines.statements.items
-    c.in-Some.refusal.kind (omega arith) c.lines.invariant.few
-    (nil_from_length c.lines.rest.now (eqb-true (length c.lines.rest.now) 0 (sym c.lines-test.ensures))) c.lines.invariant.read
+    leaves_open c.in-Some.refusal.line c.in-Some.refusal.kind _ (omega arith) c.lines.invariant.few
+    (nil_from_length c.lines.rest.now (eqb-true (length c.lines.rest.now) 0 (sym c.lines-test.ensures))) c.lines.invariant.read refl
     c.in-Some.ensures
 
 pub returns-in-Some-clause-no_memory : goal.returns-in-Some-clause-no_memory
@@ -42,6 +39,6 @@ returns-in-Some-clause-no_memory c = λ n. absurd (left_found _ c.in-Some.refusa
 pub returns-clause-reads : goal.returns-clause-reads
 returns-clause-reads c =
     subst (Reads c.args.script.now) (sym c.of.ensures)
-    (read_whole c.args.script.now c.lines.rest.now c.lines.number (scope_of c.lines.context) c.lines.statements.items (omega arith)
-    c.lines.invariant.few (nil_from_length c.lines.rest.now (eqb-true (length c.lines.rest.now) 0 (sym c.lines-test.ensures)))
-    c.lines.invariant.read c.in_default-open_error.ensures)
+    (read_whole (omega arith) c.lines.invariant.few
+    (nil_from_length c.lines.rest.now (eqb-true (length c.lines.rest.now) 0 (sym c.lines-test.ensures))) c.lines.invariant.read
+    c.in_default-open_error.ensures)

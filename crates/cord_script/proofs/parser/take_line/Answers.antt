@@ -10,8 +10,8 @@ returns-then-is_idle-clause-takes c =
     let kept = c.in_ok-take_statement.ensures.keeps c.if-branch.false in
     (None, (c.if-is_idle.ensures, kept.0), kept.1 ∙ sym (append-nil c.args.statements.now.items))
 
-pub returns-clause-first_error : goal.returns-clause-first_error
-returns-clause-first_error c = λ n.
-    is_wrong c.args.number c.args.line.now (scope_of c.args.context.now) c.refusal_of.result (omega arith)
-    (subst (λ scope. HasWrong c.args.line.now scope c.refusal_of.result) (c.in_ok-take_statement.ensures.keeps c.if-branch.false).0
-    (c.refusal_of.ensures n))
+pub returns-in-Err-clause-first_error : goal.returns-in-Err-clause-first_error
+returns-in-Err-clause-first_error c = λ n.
+    is_wrong c.args.number c.args.line.now (scope_of c.args.context.now) c.in-Err.kind (omega arith)
+    (subst (λ scope. HasWrong c.args.line.now scope c.in-Err.kind) (c.in_ok-take_statement.ensures.keeps c.if-branch.false).0
+    (c.in-Err.ensures n))
