@@ -89,9 +89,9 @@ impl TextEditor {
         Ok(())
     }
 
-    /// Puts the bytes of `text`, whose tree is shared, in the place of at most `count` bytes from `start` on: at the end
-    /// where `start` is at or past the end.
-    /// `TooLong` where the bytes would be more than `MAX_LEN`, `NoMemory` where memory was refused.
+    /// Puts the bytes of `text`, whose tree is shared, in the place of at most `count` bytes from `start` on: at the
+    /// end where `start` is at or past the end. `TooLong` where the bytes would be more than `MAX_LEN`, `NoMemory`
+    /// where memory was refused.
     pub fn replace_range(
         &mut self,
         alloc: Global,

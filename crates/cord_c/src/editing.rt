@@ -113,7 +113,8 @@ pub extern "C" fn zc_edit_cord(
 ) -> i32
     requires places { Testable (as_mut_ptr edit) × Testable (as_mut_ptr y) }
     ensures text { result ≡ OK →
-        edited_of edit.new ≡ take start (edited_of edit.old) ++ y.old.text ++ drop (start + count) (edited_of edit.old) }
+        edited_of edit.new ≡ take start (edited_of edit.old) ++ y.old.text ++ drop (start + count)
+        (edited_of edit.old) }
     ensures kept { (result ≡ OK) ⊎ (edited_of edit.new ≡ edited_of edit.old) }
     ensures too_long { result ≡ TOO_LONG → MAX_LEN
         < length (take start (edited_of edit.old) ++ y.old.text ++ drop (start + count) (edited_of edit.old)) }

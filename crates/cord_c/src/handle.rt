@@ -18,9 +18,9 @@ use cord_raw::Raw;
 use std::alloc::{AllocError, Global};
 use std::marker::Model;
 
-/// Owns what lies at the pointer, where it isn't null: a text, a cord if it is a `LazyHandle`'s, or a text that is edited
-/// if it is an `Editor`'s. In C it is a struct of one pointer, which doesn't say to what. Its `text` is that of the text,
-/// and has no bytes where there is none.
+/// Owns what lies at the pointer, where it isn't null: a text, a cord if it is a `LazyHandle`'s, or a text that is
+/// edited if it is an `Editor`'s. In C it is a struct of one pointer, which doesn't say to what. Its `text` is that of
+/// the text, and has no bytes where there is none.
 #[repr(C)]
 pub struct Handle {
     pub(crate) at: *mut u8,

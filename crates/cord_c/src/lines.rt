@@ -201,8 +201,8 @@ pub extern "C" fn zc_lines_edited(
     }
 }
 
-/// `index` is that of `after` from now on, where it was that of `before`, in which `removed` others stand from `start` on
-/// in the place of `inserted` bytes of `after`.
+/// `index` is that of `after` from now on, where it was that of `before`, in which `removed` others stand from `start`
+/// on in the place of `inserted` bytes of `after`.
 #[unsafe(no_mangle)]
 pub extern "C" fn zc_lines_edited_from(
     alloc: Global,

@@ -75,7 +75,8 @@ pub extern "C" fn zc_chunks_next(alloc: Global, chunks: &mut Chunks) -> usize
     count
 }
 
-/// Goes to the chunk before the one that is looked at, and answers how many bytes it has: 0 where no bytes are before it.
+/// Goes to the chunk before the one that is looked at, and answers how many bytes it has: 0 where no bytes are before
+/// it.
 #[unsafe(no_mangle)]
 pub extern "C" fn zc_chunks_prev(alloc: Global, chunks: &mut Chunks) -> usize
     requires places { Testable (as_mut_ptr chunks) }
@@ -100,7 +101,8 @@ pub extern "C" fn zc_chunks_prev(alloc: Global, chunks: &mut Chunks) -> usize
 #[unsafe(no_mangle)]
 pub extern "C" fn zc_chunks_move(chunks: &mut Chunks, place: u64)
     requires places { Testable (as_mut_ptr chunks) }
-    ensures before { before_of chunks.new ≡ take place (before_of chunks.old ++ chunk_of chunks.old ++ left_of chunks.old) }
+    ensures before { before_of chunks.new ≡ take place (before_of chunks.old ++ chunk_of chunks.old
+        ++ left_of chunks.old) }
     ensures left { left_of chunks.new ≡ drop place (before_of chunks.old ++ chunk_of chunks.old ++ left_of chunks.old) }
     ensures none { chunk_of chunks.new ≡ [] }
 {

@@ -155,8 +155,8 @@ impl EditBuffer {
         Ok(())
     }
 
-    /// Puts the text of `middle`, whose tree is shared, in the place of the `count` bytes from `start` on, of those that
-    /// there are: from past the end on there are none, and `middle` comes last. The gap is then after it.
+    /// Puts the text of `middle`, whose tree is shared, in the place of the `count` bytes from `start` on, of those
+    /// that there are: from past the end on there are none, and `middle` comes last. The gap is then after it.
     /// `TooLong` where the text would be longer than `MAX_LEN`, `NoMemory` where memory was refused. After either the
     /// text is as before.
     pub fn splice(
@@ -336,7 +336,8 @@ fn put_bytes(
 // Puts bytes in front of the byte `at`, as leaves of at most `RawBuf::CAP` bytes.
 fn put_leaves(alloc: Global, cords: &mut Parted, at: u64, bytes: &[u8]) -> Result<(), CordError>
     requires { CanSplice cords.old.text at at (length bytes.now) }
-    ensures text { IfOk result (λ _. cords.new.text ≡ take at cords.old.text ++ map known bytes.now ++ drop at cords.old.text) }
+    ensures text { IfOk result (λ _. cords.new.text
+        ≡ take at cords.old.text ++ map known bytes.now ++ drop at cords.old.text) }
     ensures len { IfOk result (λ _. length cords.new.text ≡ length cords.old.text + length bytes.now) }
     ensures gathered { IfOk result (λ _. (k : ℕ) → length bytes.now ≤ leaf_bytes k →
         Gathered (1 + k) cords.old.parts cords.new.parts) }

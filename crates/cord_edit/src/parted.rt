@@ -119,8 +119,8 @@ impl Parted {
         Ok(())
     }
 
-    // The text with `middle` in the place of the bytes from `from` up to `until`, as a cord. The text itself loses these
-    // bytes, and is parted there.
+    // The text with `middle` in the place of the bytes from `from` up to `until`, as a cord. The text itself loses
+    // these bytes, and is parted there.
     pub(crate) fn with(
         &mut self,
         alloc: Global,

@@ -38,7 +38,8 @@ impl<F: Files> Sources<F> {
         ensures cord { IfOk result (IsLeafOver len) }
         ensures text { (file_system : FileSystem) → F.consistent (device_in self.new) file_system →
             IfOk result (λ cord.
-            bytes_of (table_in (opened_in self.old) file_system) cord ≡ table_in (opened_in self.old) file_system id.0) }
+            bytes_of (table_in (opened_in self.old) file_system) cord
+            ≡ table_in (opened_in self.old) file_system id.0) }
         ensures refused { IfErr result IsReadRefusal }
     {
         let bytes = self.read_file_whole(alloc, id.0 as usize - 2, len)?;
@@ -63,7 +64,8 @@ impl<F: Files> Sources<F> {
         ensures cord { IfOk result (IsFuncOver (opened_in self.now) id.0 len) }
         ensures text { (file_system : FileSystem) → F.consistent (device_in self.now) file_system →
             IfOk result (λ cord.
-            bytes_of (table_in (opened_in self.now) file_system) cord ≡ table_in (opened_in self.now) file_system id.0) }
+            bytes_of (table_in (opened_in self.now) file_system) cord
+            ≡ table_in (opened_in self.now) file_system id.0) }
         ensures refused { IsOkUnless result FileError.NoMemory }
     {
         Ok(Cord::from_fn(alloc, id, 0, len)?)

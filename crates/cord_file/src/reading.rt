@@ -187,8 +187,8 @@ impl<F: Files> Sources<F> {
     }
 
     // Fills `out` with an opened file's bytes from a place on, block by block. Where they are more than all kept blocks
-    // hold, the whole blocks among them go at once past those that are kept, which stay. It stands apart, so that a read
-    // inside one block needs nothing of it.
+    // hold, the whole blocks among them go at once past those that are kept, which stay. It stands apart, so that a
+    // read inside one block needs nothing of it.
     #[inline(never)]
     fn read_blocks(&mut self, place: usize, start: u64, out: &mut [u8]) -> Result<(), ReadFault>
         requires inside { IsInsideFile (slice_get self.old.open_files.items place) start (length out.old) }

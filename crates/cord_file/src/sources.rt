@@ -104,7 +104,8 @@ impl<F: Files> Source for Sources<F> {
 
     ghost failures = { λ s. F.failures (device_in s) };
 
-    ghost lengths_of_table = { λ s. as_long_as_reported (F.consistent (device_in s)) s.open_files.items s.sound.as_long };
+    ghost lengths_of_table = { λ s.
+        as_long_as_reported (F.consistent (device_in s)) s.open_files.items s.sound.as_long };
 
     fn failures(&self) -> u64 {
         self.files.failures()

@@ -191,7 +191,8 @@ where
 
         // Each answer is reported once, and nothing else is.
         ensures reported { reported_by self.new
-            ≡ after_reading (⟦<DiskFiles<R> as Files>⟧.opened self.old no.0) start out.new result (reported_by self.old) }
+            ≡ after_reading (⟦<DiskFiles<R> as Files>⟧.opened self.old no.0) start out.new result
+            (reported_by self.old) }
 
         // The bytes are those that the machine gave of the file, now or ahead.
         ensures machine_earlier { (file_system : FileSystem) → AgreesWithMachine file_system self.new →

@@ -26,7 +26,8 @@ impl<S: Sink> FuseSink<S> {
         ensures passes { passes_left result ≡ k }
         ensures most { most_offered result ≡ most }
         ensures taken { ⟦<FuseSink<S> as Sink>⟧.taken result ≡ S.taken inner }
-        ensures finished { ⟦<FuseSink<S> as Sink>⟧.finished result ≡ (record { ended = (S.finished inner).ended; failed = 0 }) }
+        ensures finished { ⟦<FuseSink<S> as Sink>⟧.finished result
+            ≡ (record { ended = (S.finished inner).ended; failed = 0 }) }
         ensures failed { ⟦<FuseSink<S> as Sink>⟧.failed_puts result ≡ 0 }
         ensures count { ⟦<FuseSink<S> as Sink>⟧.failures result ≡ 0 }
     {

@@ -46,7 +46,8 @@ impl Sink for MemSink {
 
     ghost failed_puts = { λ s. s.failures.puts };
 
-    ghost failures = { λ s. failed_calls s.failures.puts (record { ended = s.tally.ends.ended; failed = s.failures.finishes }) };
+    ghost failures = { λ s. failed_calls s.failures.puts
+        (record { ended = s.tally.ends.ended; failed = s.failures.finishes }) };
 
     ghost failures_are = { λ s. refl };
 

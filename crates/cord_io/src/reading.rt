@@ -32,7 +32,8 @@ pub trait Files {
     /// Opens the file at a path, and answers its number and its length in bytes. A fault is `NotFound`, where there is
     /// no such file, or `Failed`, which reports nothing and raises the count.
     fn open(&mut self, path: &str) -> Result<(FileNo, u64), OpenFault>
-        ensures earlier { (file_system : FileSystem) → consistent self.new file_system → consistent self.old file_system }
+        ensures earlier { (file_system : FileSystem) → consistent self.new file_system →
+            consistent self.old file_system }
         ensures later { steady → (file_system : FileSystem) → consistent self.old file_system → consistent self.new
             file_system }
         ensures count { failures self.new ≡ count_after (open_failed result) (failures self.old) }
@@ -49,7 +50,8 @@ pub trait Files {
     fn read_at(&mut self, no: FileNo, start: u64, out: &mut [u8]) -> Result<usize, ReadFault>
         requires inside { IsSomeAnd (opened self.old no.0) (λ reported. start < reported.1) }
         requires room { 0 < length out.old }
-        ensures earlier { (file_system : FileSystem) → consistent self.new file_system → consistent self.old file_system }
+        ensures earlier { (file_system : FileSystem) → consistent self.new file_system →
+            consistent self.old file_system }
         ensures later { steady → (file_system : FileSystem) → consistent self.old file_system → consistent self.new
             file_system }
         ensures count { failures self.new ≡ count_after (is_err result) (failures self.old) }

@@ -201,8 +201,8 @@ impl Blocks {
         }
     }
 
-    /// Puts blocks into the place of `count` others: of as many without a pass over the rest. After a refusal all is as it
-    /// was.
+    /// Puts blocks into the place of `count` others: of as many without a pass over the rest. After a refusal all is as
+    /// it was.
     pub(crate) fn replace(
         &mut self,
         alloc: Global,

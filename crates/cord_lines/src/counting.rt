@@ -1,5 +1,6 @@
 // What is counted in some bytes.
-ghost use Rattle.std.specs.Prelude.{◌≡◌, ◌↔◌, ◌+◌, ◌<◌, ◌≤◌, ◌^◌, IsTrue, length, true, if◌then◌else◌, ◌||◌, nat_lt, nat_le};
+ghost use Rattle.std.specs.Prelude.{◌≡◌, ◌↔◌, ◌+◌, ◌<◌, ◌≤◌, ◌^◌, IsTrue, length, true, if◌then◌else◌, ◌||◌, nat_lt};
+ghost use Rattle.std.specs.Prelude.{nat_le};
 ghost use Rattle.cord.specs.Chunks.{chunk_bytes};
 ghost use Rattle.cord_lines.specs.Counts.{begins_char, chars_in, counts_of, ends_in, plus, AreFew};
 ghost use Rattle.cord_lines.specs.inner.Blocks.{exchanged, without, AreWithin, CanExchange};

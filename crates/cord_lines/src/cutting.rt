@@ -15,8 +15,8 @@ pub(crate) const BLOCK: u64 = 8_192;
 /// Blocks have less than twice as many bytes.
 pub(crate) const LARGEST: u64 = 32_767;
 
-/// The blocks of what a text has from one place up to another, of so many bytes each or up to a fifth fewer, if a part of
-/// the text ends there: the last one of less than twice as many.
+/// The blocks of what a text has from one place up to another, of so many bytes each or up to a fifth fewer, if a part
+/// of the text ends there: the last one of less than twice as many.
 pub(crate) fn cut(
     alloc: Global,
     text: &Text,

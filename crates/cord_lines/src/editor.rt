@@ -91,10 +91,10 @@ impl LineEditor {
         self.index.line(alloc, &self.text, n)
     }
 
-    /// Puts the bytes of `text`, whose tree is shared, in the place of at most `count` bytes from `start` on: at the end
-    /// where `start` is at or past the end. It costs what `Text::replace_range` does and then, within one block, a count
-    /// of what is removed and what is new, or else what `LineIndex::edited` does.
-    /// `TooLong` where the bytes would be more than `MAX_LEN`, `NoMemory` where memory was refused.
+    /// Puts the bytes of `text`, whose tree is shared, in the place of at most `count` bytes from `start` on: at the
+    /// end where `start` is at or past the end. It costs what `Text::replace_range` does and then, within one block, a
+    /// count of what is removed and what is new, or else what `LineIndex::edited` does. `TooLong` where the bytes would
+    /// be more than `MAX_LEN`, `NoMemory` where memory was refused.
     pub fn replace_range(
         &mut self,
         alloc: Global,

@@ -28,8 +28,8 @@ const MARGIN: u64 = 256;
 ///
 /// A line ends with the byte 10, which the last one may lack. Blocks have some 6,550 to 8,192 bytes at first, and end
 /// where a part of the text does, if one ends there, so the index takes less than a thousandth of the text's memory. A
-/// look-up passes the sums of 4,096 blocks each, 64 sums of 64 blocks each and 64 blocks, and reads a part of one block:
-/// near the place of the last `edited_from` only what lies between.
+/// look-up passes the sums of 4,096 blocks each, 64 sums of 64 blocks each and 64 blocks, and reads a part of one
+/// block: near the place of the last `edited_from` only what lies between.
 #[derive(Drop)]
 pub struct LineIndex {
     blocks: Blocks,
@@ -193,8 +193,9 @@ impl LineIndex {
         self.follow(alloc, None, after, edit)
     }
 
-    /// As `edited`, but of an edit of the text `before` within one block only what is removed and what is new is counted,
-    /// and what is between its place, from which the look-ups of its line begin, and the nearer end of the block.
+    /// As `edited`, but of an edit of the text `before` within one block only what is removed and what is new is
+    /// counted, and what is between its place, from which the look-ups of its line begin, and the nearer end of the
+    /// block.
     pub fn edited_from(
         &mut self,
         alloc: Global,
@@ -255,8 +256,8 @@ impl LineIndex {
     }
 }
 
-// The counts of the bytes before a place that fewer than `n` ends of lines precede: near the `n`th one, where that stands
-// in the second half of its block, as far as its lines are of one length, and else where the block begins.
+// The counts of the bytes before a place that fewer than `n` ends of lines precede: near the `n`th one, where that
+// stands in the second half of its block, as far as its lines are of one length, and else where the block begins.
 fn before_line(blocks: &Blocks, text: &Text, n: u64) -> Counts
     requires modest { AreModest blocks.now }
     requires some { 0 < n }
@@ -279,8 +280,8 @@ fn before_line(blocks: &Blocks, text: &Text, n: u64) -> Counts
     found.before
 }
 
-// How far behind the beginning of a block so many of its ends of lines are passed, if in its second half and lines are of
-// one length, less a margin: else 0.
+// How far behind the beginning of a block so many of its ends of lines are passed, if in its second half and lines are
+// of one length, less a margin: else 0.
 fn offset_of(block: Counts, passed: u64) -> u64 {
     if passed < block.ends && block.ends - passed < passed {
         (block.bytes.saturating_mul(passed) / block.ends).saturating_sub(MARGIN)

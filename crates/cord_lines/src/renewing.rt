@@ -63,8 +63,8 @@ struct Span {
     bytes: u64,
 }
 
-/// The blocks of the text after an edit: those that the edit meets are counted once more, but within one block only what
-/// is new, where the counts of what was removed are known. After a refusal all is as it was.
+/// The blocks of the text after an edit: those that the edit meets are counted once more, but within one block only
+/// what is new, where the counts of what was removed are known. After a refusal all is as it was.
 pub(crate) fn renew(
     blocks: &mut Blocks,
     alloc: Global,

@@ -68,9 +68,10 @@ pub fn right_ends_are_faithful()
 pub fn wrong_ends_are_not_faithful()
     ensures too_little_put { (n : Counts) → EndsFaithfully Examples.hello [] [] (codes "hell") n Done → ⊥ }
     ensures put_too_early { (n : Counts) → EndsFaithfully Examples.hello [] [] (codes "h") n (NoMemory 1) → ⊥ }
-    ensures later_line { (n : Counts) → EndsFaithfully Examples.fetch_past_end [] [] (codes "ab") n (Fault 4 OutOfRange) → ⊥ }
-    ensures another_fault { (n : Counts) → EndsFaithfully Examples.fetch_past_end [] [] (codes "ab") n (Fault 3 Negative) →
-        ⊥ }
+    ensures later_line { (n : Counts) → EndsFaithfully Examples.fetch_past_end [] [] (codes "ab") n
+        (Fault 4 OutOfRange) → ⊥ }
+    ensures another_fault { (n : Counts) → EndsFaithfully Examples.fetch_past_end [] [] (codes "ab") n
+        (Fault 3 Negative) → ⊥ }
     ensures done_without_finish { (n : Counts) → n.sink_after ≡ n.sink_before + 1 →
         EndsFaithfully Examples.hello [] [] (codes "hello") n Done → ⊥ }
     ensures fault_without_finish { (n : Counts) → n.finished_after ≡ n.finished_before →

@@ -231,8 +231,8 @@ pub fn splice(
     Ok(())
 }
 
-// The same, where the node stays as it was if memory was refused. A level goes on in one side alone, as a rule; all else
-// stands in functions that aren't inlined, so that a level keeps few values over the call.
+// The same, where the node stays as it was if memory was refused. A level goes on in one side alone, as a rule; all
+// else stands in functions that aren't inlined, so that a level keeps few values over the call.
 #[cycle(splice_node)]
 fn splice_node(
     alloc: Global,
@@ -415,7 +415,8 @@ fn splice_seam(
     splice_node(alloc, right, from - seam, until - seam, middle)
 }
 
-// The same over the seam of two sides: the left one loses its end and takes `middle`, the right one loses its beginning.
+// The same over the seam of two sides: the left one loses its end and takes `middle`, the right one loses its
+// beginning.
 #[inline(never)]
 #[cycle(splice_node)]
 fn splice_both(

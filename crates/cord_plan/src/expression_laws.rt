@@ -16,7 +16,8 @@ ghost use Rattle.cord_plan.specs.Resolved.{resolved, HaveLengths};
 /// meets its fault.
 pub fn defining_expressions_mean_their_lines()
     ensures gives { (limit : ℕ) (files : FileSystem) (l : Statement) (s : State) (e : Expr) (target : List ℕ) →
-        defining l ≡ Some e → target_of l ≡ Some target → act limit files l s ≡ gives_text s target (text_in limit s e) }
+        defining l ≡ Some e → target_of l ≡ Some target →
+        act limit files l s ≡ gives_text s target (text_in limit s e) }
     ensures puts { (limit : ℕ) (files : FileSystem) (l : Statement) (s : State) (e : Expr) → defining l ≡ Some e →
         target_of l ≡ None → act limit files l s ≡ puts_text s (text_in limit s e) }
 {}

@@ -3,7 +3,8 @@ ghost use Rattle.std.specs.Prelude.{◌≡◌, ◌+◌, ◌<◌, ◌≤◌, [], 
 ghost use Rattle.arrayvec.specs.ArrayVec.{array_vec_len};
 ghost use Rattle.cord_node.specs.Tree.{len_of};
 ghost use Rattle.cord_core.specs.Cord.{text_len};
-ghost use Rattle.cord_pos.specs.inner.Path.{node_of, places, CanDescend, IsDescent, IsClimb, EndsIn, IsOnWay, IsTakenTo};
+ghost use Rattle.cord_pos.specs.inner.Path.{node_of, places, CanDescend, IsDescent, IsClimb, EndsIn, IsOnWay};
+ghost use Rattle.cord_pos.specs.inner.Path.{IsTakenTo};
 ghost use Rattle.cord_pos.specs.Position.{set_visits};
 ghost use Rattle.cord_pos.specs.inner.Invariant.{IsOnCord};
 

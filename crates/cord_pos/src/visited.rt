@@ -1,7 +1,8 @@
 // Nodes that were visited. Elsewhere in the crate a node is a `Visited`, and a cord that is gone into a `Tree`;
 // `span.rt` alone is given a node, a part whose bytes it lends, and gives none out. The fields of the two are
-// private to this file, and so is what makes a `Visited`, which counts it. So the one way to a root, or from a `Visited`
-// to its child, is a step that is counted. `side_of` counts none: other crates call it, with nodes of their own.
+// private to this file, and so is what makes a `Visited`, which counts it. So the one way to a root, or from a
+// `Visited` to its child, is a step that is counted. `side_of` counts none: other crates call it, with nodes of their
+// own.
 ghost use Rattle.std.specs.Prelude.{◌≡◌, ◌+◌, ◌-◌, ◌<◌, min, is_err, IfOk, IfSome, Some, None};
 ghost use Rattle.std.specs.Prelude.{MatchOption};
 ghost use Rattle.cord_io.specs.Device.{FileSystem, count_after};

@@ -9,7 +9,8 @@ ghost use Rattle.cord_core.specs.Cord.{text_len};
 ghost use Rattle.cord_run.specs.inner.Contents.{HasSplice, IsWholeAt, Splices, spliced_len};
 ghost use Rattle.cord_run.specs.inner.Contents.Entries.{are_distinct, cells_in, cells_or_none, content_in};
 ghost use Rattle.cord_run.specs.inner.Contents.Entries.{content_length, cord_in, extensible_in, length_in, names_in};
-ghost use Rattle.cord_run.specs.inner.Contents.Entries.{number_in, operand_in, Appends, Grew, HasContent, HasExtensible};
+ghost use Rattle.cord_run.specs.inner.Contents.Entries.{number_in, operand_in, Appends, Grew, HasContent};
+ghost use Rattle.cord_run.specs.inner.Contents.Entries.{HasExtensible};
 ghost use Rattle.cord_run.specs.inner.Contents.Entries.{HasNoEntry, HasNumber, IsEntryAt, IsFirstEntry, IsSlotOf};
 
 use crate::store::appends::append_at;

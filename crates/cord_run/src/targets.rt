@@ -31,8 +31,8 @@ use cord_plan::{Expr, Made};
 use cord_script::Name;
 use std::alloc::Global;
 
-/// Gives a name the cord of what it is made of. Refused with the fault that this means, with `ReadFailed` where the files
-/// failed, or with `NoMemory`.
+/// Gives a name the cord of what it is made of. Refused with the fault that this means, with `ReadFailed` where the
+/// files failed, or with `NoMemory`.
 pub(crate) fn give_cord<F: Files>(
     alloc: Global,
     store: &mut Store,

@@ -62,7 +62,8 @@ impl Context {
     #[inline(always)]
     pub fn leave(&mut self, verb: Verb, line: u32, added: Added) -> Result<(), AllocError>
         ensures left { OnOk result (scope_of self.new
-            ≡ left_after (verb_effect verb) line (option_map (λ n. n.known) added.name) added.path (scope_of self.old)) }
+            ≡ left_after (verb_effect verb) line (option_map (λ n. n.known) added.name) added.path
+            (scope_of self.old)) }
     {
         let Added { name, path } = added;
         if let Some(new) = name {

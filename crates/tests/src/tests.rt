@@ -1,4 +1,5 @@
-//! What each call answers, case by case; what is read, planned and run; and calls of all crates that are refused memory.
+//! What each call answers, case by case; what is read, planned and run; and calls of all crates that are refused
+//! memory.
 
 // The value of a call, which is made again where it was refused memory.
 macro_rules! again {

@@ -4,7 +4,8 @@ ghost use Rattle.std.specs.Option.{ForSome};
 ghost use Rattle.cord_node.specs.Tree.{cells, len_of, depth_of, count_of, IsSound};
 ghost use Rattle.cord_node.specs.PartsFrom.{parts, PartsFrom};
 ghost use Rattle.cord_balance.specs.Fib.{fib_of, IsSlotOf};
-ghost use Rattle.cord_balance.specs.inner.Forest.{IsPieceInSlot, AllFrom, IsForest, forest_cells, forest_parts, forest_len};
+ghost use Rattle.cord_balance.specs.inner.Forest.{IsPieceInSlot, AllFrom, IsForest, forest_cells, forest_parts};
+ghost use Rattle.cord_balance.specs.inner.Forest.{forest_len};
 ghost use Rattle.cord_balance.specs.inner.Forest.{piece_cells, piece_parts, piece_len, IsGatheredBelow};
 
 use super::Piece;

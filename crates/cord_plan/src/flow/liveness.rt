@@ -32,8 +32,8 @@ pub(crate) struct Later<'a> {
 enum Found {
     /// In a script without blocks, what is asked of each line.
     ByLines(Vec<LineLater>),
-    /// In others the places that may come next after each place, and for each group of names and each place those that a
-    /// path from there reads before a line assigns them.
+    /// In others the places that may come next after each place, and for each group of names and each place those that
+    /// a path from there reads before a line assigns them.
     ByGroups(Vec<Successors>, Vec<Vec<u128>>),
 }
 
@@ -97,8 +97,8 @@ impl Flow<'_> {
         }
     }
 
-    // What the flow back over the line at a place makes of its word: what the places after it have, but for what the line
-    // assigns, is added.
+    // What the flow back over the line at a place makes of its word: what the places after it have, but for what the
+    // line assigns, is added.
     fn flow_at(&self, assigned: &[u128], words: &[u128], place: usize) -> u128
         requires paths { ArePaths (map shape_of self.now.statements.now) self.now.successors.now }
         requires assigned { AreAssigned self.now.statements.now self.now.numbering.now self.now.group assigned.now }

@@ -5,7 +5,8 @@ ghost use Rattle.std.specs.Str.{bytes_eq};
 ghost use Rattle.std.proofs.Props.{props};
 ghost use Rattle.cord_syntax.specs.declared.statements.Statement.{Statement};
 ghost use Rattle.cord_plan.specs.Operands.{read_by};
-ghost use Rattle.cord_plan.specs.inner.Places.{AddsPlaces, AddsLine, AreLines, HasNumbers, IsLineIn, TakesNumber, place_of};
+ghost use Rattle.cord_plan.specs.inner.Places.{AddsPlaces, AddsLine, AreLines, HasNumbers, IsLineIn, TakesNumber};
+ghost use Rattle.cord_plan.specs.inner.Places.{place_of};
 
 use crate::flow::readings::first_read;
 use cord_script::{Name, Statement};
@@ -20,8 +21,8 @@ pub(crate) struct Numbering {
     ghost distinct: { IsDistinct bytes_eq names.items } by { Prim.hlevel props },
 }
 
-/// The number of the name that a line assigns, and where in the list of all the numbers of those stand that it reads: in
-/// 32 bits, since each line of a script keeps one.
+/// The number of the name that a line assigns, and where in the list of all the numbers of those stand that it reads:
+/// in 32 bits, since each line of a script keeps one.
 #[derive(Clone, Copy)]
 struct NumberedLine {
     target: Option<u32>,

@@ -7,7 +7,8 @@ ghost use Rattle.cord_plan.specs.Operands.{has, is_this_name};
 ghost use Rattle.cord_plan.specs.declared.flow.numbering.Numbering.{Numbering};
 ghost use Rattle.cord_plan.specs.inner.Numbering.{IsNumbered, IsNumberIn, IsNumbering, names_of};
 ghost use Rattle.cord_plan.specs.inner.Places.{AreNumbers};
-ghost use Rattle.cord_plan.specs.inner.Liveness.{AreFor, IsRecent, PutsPlaces, entry_at, is_before, is_after, unless_after};
+ghost use Rattle.cord_plan.specs.inner.Liveness.{AreFor, IsRecent, PutsPlaces, entry_at, is_before, is_after};
+ghost use Rattle.cord_plan.specs.inner.Liveness.{unless_after};
 
 use crate::flow::liveness::Later;
 use crate::flow::numbering::LineNumbers;

@@ -122,8 +122,8 @@ impl ExpressionFacts {
     fn of_line(&self, line: &Line, choices: &[Choice]) -> Option<Facts>
         ensures { (s : List Statement) (table : List (Option plain.Expr)) → AreFactsOf s line.now.place table self.now →
             All (IsChoiceOf s line.now.place table) (map choice_view choices.now) → IfSome result (λ f.
-            HasFacts s (line.now.place + 1) (expr_with line.now.statement.now (map expr_of (map choice_view choices.now)))
-            f) }
+            HasFacts s (line.now.place + 1) (expr_with line.now.statement.now
+            (map expr_of (map choice_view choices.now))) f) }
     {
         match line.statement {
             Statement::Cat { .. } => self.of_members(line, choices),

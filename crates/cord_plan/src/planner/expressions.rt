@@ -67,8 +67,8 @@ fn note_choices(taken: &mut [bool], choices: &[Choice])
     }
 }
 
-// The expression of a simple line with these choices, which are noted, and whether it is reported to extend the one before
-// it.
+// The expression of a simple line with these choices, which are noted, and whether it is reported to extend the one
+// before it.
 #[inline(always)]
 fn taking(
     alloc: Global,
@@ -167,7 +167,8 @@ pub(crate) fn unpaired_operations(
 ) -> Result<Unpaired, AllocError>
     requires reported { AllReported statements.now later.now }
     requires numbered { IsNumbering statements.now later.now.numbering }
-    ensures made { IfOk result (λ u. AreUnpaired statements.now (reports later.now) (map operation_view u.operations.items)
+    ensures made { IfOk result (λ u. AreUnpaired statements.now (reports later.now)
+        (map operation_view u.operations.items)
         u.taken.items) }
     ensures extending { IfOk result (λ u. AreLonger statements.now (reports later.now) u.extending.items) }
 {

@@ -11,8 +11,8 @@ use cord_script::{Arguments, Name, Shared, Statement, Text};
 use cord_syntax::{Composition, Derivation, Family, Origin};
 use std::alloc::AllocError;
 
-/// The operation of a line whose expression is this one, which it takes, as if no later line took it. A line whose target
-/// is dead computes the length alone.
+/// The operation of a line whose expression is this one, which it takes, as if no later line took it. A line whose
+/// target is dead computes the length alone.
 pub(crate) fn operation_of(
     statement: &Statement,
     expression: &mut Option<Expr>,

@@ -142,7 +142,8 @@ fn nearest<R: Source>(
     requires inside { index < text_len cord.now }
     requires fits { CordFitsIn (R.lengths source.old) cord.now }
     ensures nearest { (file_system : FileSystem) → R.consistent source.new file_system →
-        IfOk result (λ place. place ≡ nearest direction (bytes_of (R.table source.old file_system) cord.now) index byte) }
+        IfOk result (λ place. place ≡ nearest direction (bytes_of
+        (R.table source.old file_system) cord.now) index byte) }
     ensures count { R.failures source.new ≡ count_after (is_err result) (R.failures source.old) }
     ensures same { LeavesSource ⟦<R as Source>⟧ source.old source.new }
 {

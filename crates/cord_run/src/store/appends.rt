@@ -1,6 +1,7 @@
 // The growth of the extensible cord of an entry.
 ghost use Rattle.std.specs.Prelude.{◌<◌, [], length};
-ghost use Rattle.cord_run.specs.inner.{IsGrownBy, cells_or_none, Appends, Grew, GrewTo, cells_in, extensible_in, IsSetAt};
+ghost use Rattle.cord_run.specs.inner.{IsGrownBy, cells_or_none, Appends, Grew, GrewTo, cells_in, extensible_in};
+ghost use Rattle.cord_run.specs.inner.{IsSetAt};
 
 use crate::store::Entry;
 use cord_ec::ExtCord;

@@ -1,6 +1,7 @@
 // What the entry of a name gets.
 ghost use Rattle.std.specs.Prelude.{◌≡◌, ◌<◌, ℕ, List, length};
-ghost use Rattle.cord_run.specs.inner.{text_len, HasSplice, IsContentSpliced, IsWholeContent, IsWholeAt, IsSetAt, Splices};
+ghost use Rattle.cord_run.specs.inner.{text_len, HasSplice, IsContentSpliced, IsWholeContent, IsWholeAt, IsSetAt};
+ghost use Rattle.cord_run.specs.inner.{Splices};
 ghost use Rattle.cord_run.specs.inner.{spliced_len, cells_in, content_in, cord_in, extensible_in};
 ghost use Rattle.cord_run.specs.inner.{HasContent, HasExtensible, HasNumber, IsEntryAt};
 
@@ -24,7 +25,8 @@ pub(crate) fn set_content(entries: &mut [Entry], place: usize, content: Content)
 #[inline(always)]
 pub(crate) fn set_length(entries: &mut [Entry], place: usize, len: u64)
     requires { place < length entries.old }
-    ensures { IsSetAt place (λ name. HasContent name (Content.Long len) entries.old entries.new) entries.old entries.new }
+    ensures { IsSetAt place (λ name. HasContent name
+        (Content.Long len) entries.old entries.new) entries.old entries.new }
 {
     let entry = &mut entries[place];
     become_length(&mut entry.content, len);

@@ -38,7 +38,8 @@ pub(crate) fn print_length(
 ) -> Result<u64, Stop>
     ensures reported { IfOk result (λ len. (len ≤ MAX_LEN) × ((t : Table) →
         IsOver (lengths_of t) store.now.entries.items → length_of (and_then
-        (format_text (plain_of t store.now.entries.items) format.now arguments.now) (λ x. within MAX_LEN x)) ≡ Ok len)) }
+        (format_text (plain_of t store.now.entries.items) format.now arguments.now) (λ x. within MAX_LEN x))
+        ≡ Ok len)) }
     ensures refused { IfErr result (IsFaultOver store.now.entries.items
         (λ s. and_then (format_text s format.now arguments.now) (λ t. within MAX_LEN t))) }
 {

@@ -17,8 +17,8 @@ enum Order {
     Doubled,
 }
 
-// In which order leaves of 65 bytes are joined, in how many steps, the depth then, and the depth after `balance`. A model
-// of the rules in another language gave the depths.
+// In which order leaves of 65 bytes are joined, in how many steps, the depth then, and the depth after `balance`. A
+// model of the rules in another language gave the depths.
 const ORDERS: &[(Order, u64, u32, u32)] = &[
     (Order::Append, 1_000, 26, 15),
     (Order::Append, 3_000, 40, 17),

@@ -1,7 +1,7 @@
 //! Scripts of which it is known what each line puts, for runs that stop on their way.
 
-/// A script in which no loop puts, how many lines it has, the line and the bytes of each `put`, and the bytes of the file
-/// beside it.
+/// A script in which no loop puts, how many lines it has, the line and the bytes of each `put`, and the bytes of the
+/// file beside it.
 #[derive(Drop)]
 pub struct Run<'a> {
     pub script: &'a str,

@@ -101,8 +101,8 @@ fn names(rt: &(impl AllocGlobal + Abort), count: u16) -> Vec<u8> {
     script
 }
 
-// A name, a script, the calls of at most 3 bytes that its sink passes, the end, and what is written. Where the finish fails after a fault,
-// that is the end.
+// A name, a script, the calls of at most 3 bytes that its sink passes, the end, and what is written. Where the finish
+// fails after a fault, that is the end.
 const FUSED: &[(&str, &[u8], u64, End, &[u8])] = &[
     ("fuse-sink-no-put", HELLO, 0, End::WriteFailed(2), b""),
     ("fuse-sink-short-put", HELLO, 1, End::WriteFailed(2), b"hel"),

@@ -42,8 +42,8 @@ fn words_of(rt: &(impl AllocGlobal + Abort), words: &[&str]) -> Vec<String> {
     all
 }
 
-// Drives words over the script at "s", of less than ten lines, and the file at "p", which pass so many calls, and an output that passes so many
-// of at most so many bytes.
+// Drives words over the script at "s", of less than ten lines, and the file at "p", which pass so many calls, and an
+// output that passes so many of at most so many bytes.
 fn come_of(
     rt: &(impl AllocGlobal + Abort),
     run: &Run,

@@ -28,8 +28,8 @@ pub(super) enum Trouble {
     Full,
 }
 
-// A machine that has ten digits at each path, and each of its files: it can be sought in or not, and fails after so many
-// calls that move bytes. A write takes at most two.
+// A machine that has ten digits at each path, and each of its files: it can be sought in or not, and fails after so
+// many calls that move bytes. A write takes at most two.
 #[derive(Drop)]
 pub(super) struct Machine {
     trouble: Trouble,

@@ -50,8 +50,8 @@ pub fn expect_printed(rt: &impl Abort, alloc: Global, name: &str, plan: &Plan, t
     );
 }
 
-// That the plan of a case, or its trivial plan, shows a text, to another sink where the first one found no memory and has
-// taken a prefix of it.
+// That the plan of a case, or its trivial plan, shows a text, to another sink where the first one found no memory and
+// has taken a prefix of it.
 fn expect_shows(rt: &impl Abort, alloc: Global, case: &Planned, plan: &Plan, text: &[u8]) {
     let mut sink = MemSink::new(alloc);
     let answer = plan.show(&mut sink);

@@ -142,8 +142,8 @@ fn put_file(
     Ok(())
 }
 
-// Puts the file "f" of these bytes. No read is refused: where there was no memory for its cord nothing is put, and a sink
-// that found none has taken a prefix; another sink then takes all.
+// Puts the file "f" of these bytes. No read is refused: where there was no memory for its cord nothing is put, and a
+// sink that found none has taken a prefix; another sink then takes all.
 fn expect_put(rt: &impl Abort, alloc: Global, sources: &mut Sources<MemFiles>, bytes: &[u8]) {
     let mut sink = MemSink::new(alloc);
     if let Err(error) = put_file(alloc, sources, &mut sink) {

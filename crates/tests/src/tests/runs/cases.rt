@@ -496,8 +496,8 @@ const EDITS: &[Case] = &[
     ),
 ];
 
-// Each kind of definition for its length alone: its length, or why there is none. The plan doesn't build it; without one
-// it is built.
+// Each kind of definition for its length alone: its length, or why there is none. The plan doesn't build it; without
+// one it is built.
 const DEFINITIONS: &[Case] = &[
     (
         "length-of-cat",

@@ -10,8 +10,8 @@ use cord_io::{FuseSink, MemSink, Sink};
 use cord_run::End;
 use std::process::Abort;
 
-// Runs a script; where it is refused nothing is written, and over a sink that fails at each call no finish is called; else
-// it is done or has a fault.
+// Runs a script; where it is refused nothing is written, and over a sink that fails at each call no finish is called;
+// else it is done or has a fault.
 fn run_any(rt: &(impl AllocGlobal + Abort), script: &[u8], big: &[u8]) {
     let mut sink = MemSink::new(rt.alloc());
     match run_way(rt, script, line_and(rt, "big", big), &mut sink, true).0 {
