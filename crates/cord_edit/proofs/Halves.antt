@@ -44,6 +44,13 @@ halves_few from until count old all prefix back order p f b =
     let g : length prefix ≤ touched 0 from all = rw z at f in
     omega (arith, g, b, p.no_more, touched_around from until (until + count) all order)
 
+-- the cells on both sides of a seam
+before_seam : (first last : List Cell) (n : ℕ) → length first ≡ n → first ≡ take n (first ++ last)
+before_seam first last n e = sym (take-append_seam first last) ∙ ap (λ (k : ℕ). take k (first ++ last)) e
+
+after_seam : (first last : List Cell) (n : ℕ) → length first ≡ n → last ≡ drop n (first ++ last)
+after_seam first last n e = sym (drop-append_seam first last) ∙ ap (λ (k : ℕ). drop k (first ++ last)) e
+
 -- two cords that are parted at their seam
 pub at_seam : (prefix back first last : Option Node) (from until : ℕ) → first ≡ prefix → last ≡ back → IsCord prefix → IsCord back →
     from ≡ until → from ≡ text_len prefix → AreHalves from until (text_len prefix + text_len back) (both_of prefix back) first last
@@ -51,8 +58,8 @@ at_seam prefix back first last from until e f s t same here =
     let k : length (text prefix) ≡ from = omega (arith, length-text prefix s) in
     let l : length (text prefix) ≡ until = omega (arith, k) in
     rw (e, f) (record {
-      prefix = sym (take-append_seam (text prefix) (text back)) ∙ ap (λ (n : ℕ). take n (text prefix ++ text back)) k;
-      back = sym (drop-append_seam (text prefix) (text back)) ∙ ap (λ (n : ℕ). drop n (text prefix ++ text back)) l;
+      prefix = before_seam (text prefix) (text back) from k;
+      back = after_seam (text prefix) (text back) until l;
       prefix_sound = s;
       back_sound = t;
       prefix_len = sym here;
@@ -67,6 +74,21 @@ between : (old middle prefix back all : List Part) → length prefix + length ba
     length all ≤ length prefix + length middle + length back → AreFrom all (prefix ++ middle ++ back) → Gathered 1 (old ++ middle) all
 between old middle prefix back all few f b least from = spliced old middle all (omega (arith, few, least))
     (cut_parts old middle prefix back all f b from)
+
+-- a text that is put between two cords at their seam
+pub put_at_seam : (prefix middle back new : Option Node) (from until : ℕ) → IsCord prefix → from ≡ until → from ≡ text_len prefix →
+    IsJoined prefix middle back new → IsCordWith 1 (spliced_text from until (growth_of middle) (both_of prefix back)) new
+put_at_seam prefix middle back new from until s same here j =
+    let k : length (text prefix) ≡ from = omega (arith, length-text prefix s, here) in
+    let l : length (text prefix) ≡ until = omega (arith, k, same) in
+    record {
+      text = j.text ∙ ap (λ (xs : List Cell). xs ++ text middle ++ text back) (before_seam (text prefix) (text back) from k)
+          ∙ ap (λ (xs : List Cell). take from (text prefix ++ text back) ++ text middle ++ xs) (after_seam (text prefix) (text back) until l);
+      sound = j.sound;
+      gathered = between (parts_of prefix ++ parts_of back) (parts_of middle) (parts_of prefix) (parts_of back) (parts_of new)
+          (omega (arith, length-append (parts_of prefix) (parts_of back))) (old_parts (parts_of prefix) (parts_of back))
+          (new_parts (parts_of prefix) (parts_of back)) j.few j.from_there;
+    }
 
 -- a text is as long as it is seen to be
 pub as_long : {old all : Growth} → old ≡ all → length old.text ≡ length all.text

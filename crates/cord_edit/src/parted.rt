@@ -3,12 +3,16 @@ ghost use Rattle.std.specs.Prelude.{◌≡◌, ◌+◌, ◌-◌, ◌≤◌, ◌+
 ghost use Rattle.cord_core.specs.Cord.{text, text_len, parts_of, IsCord};
 ghost use Rattle.cord_ec.specs.Gathered.{Gathered};
 ghost use Rattle.cord_edit.specs.inner.Splices.{growth_of, both_of, spliced, CanSplice, IsCordWith, IsSpliced};
-ghost use Rattle.cord_edit.specs.inner.Splices.{AreHalves, IsJoined};
+ghost use Rattle.cord_edit.specs.inner.Splices.{AreHalves, IsLengthened, IsJoined};
 
 use cord_core::Cord;
 use cord_io::{CordError, MAX_DEPTH, MAX_LEN};
 use std::alloc::Global;
 use std::marker::Model;
+
+// The levels that are left free above a text that is asked for again and again: two for the joins that make one cord of
+// it, and two for joins of that cord, which else would be balanced each time.
+const ROOM: u32 = 4;
 
 // A text in one cord, or in two where it is asked for again and again while it is edited at one place: there it is
 // parted, and the cord with what was put in is made of both by joins alone.
@@ -59,9 +63,9 @@ impl Parted {
         self.prefix.len() + self.back.len()
     }
 
-    // Whether two joins of it leave it no deeper than a tree may be.
+    // Whether it can be joined, and joined again, and leaves room.
     pub(crate) fn has_room(&self) -> bool {
-        self.prefix.depth().max(self.back.depth()) + 2 <= MAX_DEPTH
+        self.prefix.depth().max(self.back.depth()) + ROOM <= MAX_DEPTH
     }
 
     // The text as one cord.
@@ -113,7 +117,7 @@ impl Parted {
         ensures refused { IsOkUnless result CordError.NoMemory }
     {
         let (prefix, back) = halves(alloc, &self.prefix, &self.back, from, until)?;
-        let longer = Cord::cat(alloc, &prefix, middle)?;
+        let longer = lengthened(alloc, &prefix, middle)?;
         self.prefix = longer;
         self.back = back;
         Ok(())
@@ -136,6 +140,10 @@ impl Parted {
         ensures unchanged { IsErr result → self.new ≡ self.old }
         ensures refused { IsOkUnless result CordError.NoMemory }
     {
+        if from == until && from == self.prefix.len() {
+            let all = joined(alloc, &self.prefix, middle, &self.back)?;
+            return Ok(all);
+        }
         let (prefix, back) = halves(alloc, &self.prefix, &self.back, from, until)?;
         let all = joined(alloc, &prefix, middle, &back)?;
         self.prefix = prefix;
@@ -168,6 +176,20 @@ fn halves(
     let prefix = all.substr(alloc, 0, from)?;
     let back = all.substr(alloc, until, all.len())?;
     Ok((prefix, back))
+}
+
+// The text of `prefix` and then that of `middle`, balanced where it leaves too little room above it.
+fn lengthened(alloc: Global, prefix: &Cord, middle: &Cord) -> Result<Cord, CordError>
+    requires { text_len prefix.now + text_len middle.now ≤ MAX_LEN }
+    ensures made { IfOk result (IsLengthened prefix.now middle.now) }
+    ensures refused { IsOkUnless result CordError.NoMemory }
+{
+    let longer = Cord::cat(alloc, prefix, middle)?;
+    if longer.depth() + ROOM <= MAX_DEPTH {
+        return Ok(longer);
+    }
+    let balanced = longer.balance(alloc)?;
+    Ok(balanced)
 }
 
 // Three texts, one after the other.

@@ -3,7 +3,7 @@ use Rattle.std.specs.Prelude.{◌≡◌, ℕ, ◌+◌, ◌-◌, ◌≤◌, List,
 use Rattle.cord_io.specs.declared.TheConstants.{MAX_LEN}
 use Rattle.cord_node.specs.declared.Node.{Node}
 use Rattle.cord_node.specs.Tree.{Cell, known}
-use Rattle.cord_node.specs.PartsFrom.{AreFrom}
+use Rattle.cord_node.specs.PartsFrom.{AreFrom, PartsFrom}
 use Rattle.cord_core.specs.Cord.{text, text_len, parts_of, IsCord}
 use Rattle.cord_ec.specs.Gathered.{Growth, Gathered, leaf_parts}
 
@@ -51,6 +51,13 @@ pub record AreHalves (from until len : ℕ) (all : Growth) (first last : Option 
   pub few : length (parts_of first) + length (parts_of last) ≤ length all.parts + 1
   pub prefix_from : AreFrom (parts_of first) all.parts
   pub back_from : AreFrom (parts_of last) all.parts
+
+-- a cord with another one after it, whose parts are no more than theirs
+pub record IsLengthened (prefix middle longer : Option Node) : Type 0 where
+  pub text : text longer ≡ text prefix ++ text middle
+  pub len : text_len longer ≡ text_len prefix + text_len middle
+  pub sound : IsCord longer
+  pub parts_from : PartsFrom (parts_of prefix ++ parts_of middle) (parts_of longer)
 
 -- three cords joined to one, whose parts are no more than theirs
 pub record IsJoined (prefix middle back all : Option Node) : Type 0 where

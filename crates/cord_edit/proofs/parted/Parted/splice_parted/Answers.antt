@@ -13,14 +13,14 @@ invariant_of-self c =
     let halves = c.in_ok-prefix.ensures.halves in (
       omega (
         arith,
-        c.in_ok-longer.ensures.len,
+        c.in_ok-longer.ensures.made.len,
         halves.prefix_len,
         halves.back_len,
         c.requires.within_limit,
         c.self.invariant.1,
         as_long c.self.view_is,
       ),
-      counted c.in_ok-longer.longer c.in_ok-prefix.back c.in_ok-longer.ensures.sound halves.back_sound,
+      counted c.in_ok-longer.longer c.in_ok-prefix.back c.in_ok-longer.ensures.made.sound halves.back_sound,
     )
 
 pub returns-clause-spliced : goal.returns-clause-spliced
@@ -29,5 +29,5 @@ returns-clause-spliced c =
     subst (λ (old : Growth). IsSpliced c.args.from c.args.until (growth_of middle) (text_len middle) old
     (both_of c.in_ok-longer.longer c.in_ok-prefix.back))
     c.self.view_is
-    (put_after c.in_ok-prefix.ensures.halves middle c.in_ok-longer.longer c.self.invariant.1 c.in_ok-longer.ensures.text
-    c.in_ok-longer.ensures.sound c.in_ok-longer.ensures.len c.in_ok-longer.ensures.parts_from)
+    (put_after c.in_ok-prefix.ensures.halves middle c.in_ok-longer.longer c.self.invariant.1 c.in_ok-longer.ensures.made.text
+    c.in_ok-longer.ensures.made.sound c.in_ok-longer.ensures.made.len c.in_ok-longer.ensures.made.parts_from)
