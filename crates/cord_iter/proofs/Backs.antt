@@ -1,16 +1,13 @@
 -- Walks from a place down, by positions.
-use Rattle.std.proofs.Common.{◌≡◌, ℕ, ◌+◌, ◌-◌, ◌<◌, ◌≤◌, Bool, false, List, [], ◌∷◌, ◌++◌, length, take, drop, get_or, None, Some}
-use Rattle.std.proofs.Common.{sym, ◌∙◌, ap, arith, zero, suc}
-use Rattle.std.specs.Prelude.{Option, reverse, slice_get, unwrap_or}
-use Rattle.std.proofs.lemmas.List.{take_more, get_or-reverse, get_or-take, length-reverse, length-take-le, take-append-drop, take_all, nil_from_length}
+use Rattle.cord_iter.proofs.Common.{Bool, HasLengths, IsByteAt, Lengths, List, Node, Some, Table, WalkedPrefix, [], ap, arith, bytes_of, drop, false}
+use Rattle.cord_iter.proofs.Common.{get_or, length, length-bytes, length-take-le, places_up_to, prev_index, reverse, sym, take, take-append-drop}
+use Rattle.cord_iter.proofs.Common.{take_more, text_len, walk, ℕ, ◌++◌, ◌+◌, ◌-◌, ◌<◌, ◌∙◌, ◌∷◌, ◌≡◌, ◌≤◌}
+use Rattle.std.proofs.Common.{None, suc, zero}
+use Rattle.std.proofs.lemmas.List.{get_or-reverse, get_or-take, length-reverse, nil_from_length, take_all}
 use Rattle.std.proofs.lemmas.Option.{unwrap_or-slice_get}
-use Rattle.cord_io.specs.Table.{Table, Lengths, HasLengths}
-use Rattle.cord_node.specs.declared.Node.{Node}
-use Rattle.cord_core.specs.Cord.{text_len, bytes_of, IsCord, CordFitsIn}
-use Rattle.cord_core.proofs.OverLemmas.{length-bytes, CordFits-reported}
-use Rattle.cord_pos.specs.Position.{prev_index, IsByteAt}
-use Rattle.cord_iter.specs.Walk.{walk, WalkedPrefix}
-use Rattle.cord_iter.specs.inner.Walk.{places_up_to}
+use Rattle.std.specs.Prelude.{Option, slice_get, unwrap_or}
+use Rattle.cord_core.proofs.OverLemmas.{CordFits-reported}
+use Rattle.cord_core.specs.Cord.{CordFitsIn, IsCord}
 use Rattle.cord_iter.proofs.Walks.{walk_on, walk_one}
 
 -- a cord that fits has as long a text as it stores

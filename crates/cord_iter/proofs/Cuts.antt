@@ -1,28 +1,42 @@
 -- Walks over a text in pieces, over the tables of a source.
-use Rattle.std.proofs.Common.{◌≡◌, ℕ, ◌+◌, ◌-◌, ◌≤◌, Bool, true, false, List, [], ◌++◌, length, take, drop, Ok, Err, Some, refl, sym, ◌∙◌, ap, subst, arith}
-use Rattle.std.specs.Prelude.{IsErr}
-use Rattle.std.specs.Result.{IfOk, OnErr}
-use Rattle.std.specs.declared.result.Result.{Result}
-use Rattle.std.specs.declared.rc.Rc.{Rc}
-use Rattle.std.specs.Global.{Global}
-use Rattle.std.proofs.lemmas.Bool.{false≢true}
+use Rattle.cord_iter.proofs.Common.{Bool, Cat', Err, FileSystem, Global, HasLengths, IsErr, IsSound, Lengths, List, Node, Ok, OnErr, Part, Rc, Result}
+use Rattle.cord_iter.proofs.Common.{Some, Table, WalkedPrefix, Walks, [], ap, arith, bytes_over, drop, false, false≢true, len_of, length}
+use Rattle.cord_iter.proofs.Common.{length-bytes, on_err_weaker, raised, refl, subst, sym, take, true, walk, ℕ, ◌++◌, ◌+◌, ◌-◌, ◌∙◌, ◌≡◌, ◌≤◌}
 use Rattle.std.proofs.lemmas.List.{drop-append-le}
-use Rattle.std.proofs.lemmas.Result.{IfOk-weaker, on_err_weaker}
-use Rattle.cord_io.specs.Device.{FileSystem, raised}
+use Rattle.std.proofs.lemmas.Result.{IfOk-weaker}
+use Rattle.std.specs.Result.{IfOk}
 use Rattle.cord_io.specs.Frames.{LeavesSource}
-use Rattle.cord_io.specs.Table.{Table, Lengths, HasLengths}
 use Rattle.cord_io.specs.declared.sources.Source.{Ghosts}
-use Rattle.cord_node.specs.declared.Node.{Node}
-use Rattle.cord_node.specs.declared.Node.TheVariants.{Cat'}
-use Rattle.cord_node.specs.PartsFrom.{Part}
-use Rattle.cord_node.specs.Tree.{len_of, IsSound}
-use Rattle.cord_node.specs.Tables.{bytes_over, FitsIn}
-use Rattle.cord_node.proofs.TableLemmas.{Fits-reported}
 use Rattle.cord_node.proofs.Ranges.{drop-append_right}
-use Rattle.cord_core.proofs.OverLemmas.{length-bytes}
-use Rattle.cord_iter.specs.Walk.{walk, WalkedPrefix}
-use Rattle.cord_iter.specs.inner.Walk.{Walks}
-use Rattle.cord_iter.proofs.Walks.{walk_on, walk_stop, prefix_first, prefix_second, range_next, range_split}
+use Rattle.cord_node.proofs.TableLemmas.{Fits-reported}
+use Rattle.cord_node.specs.Tables.{FitsIn}
+use Rattle.cord_iter.proofs.Walks.{prefix_first, prefix_second, range_next, range_split, walk_on, walk_stop}
+
+-- a text over a source is one and then another
+pub record IsSplit {S : Type 0} (s : Ghosts S) (old : S) (text left right : Table → List ℕ) : Type 0 where
+  pub parts : (file_system : FileSystem) → s.consistent old file_system →
+      text (s.table old file_system) ≡ left (s.table old file_system) ++ right (s.table old file_system)
+
+module _ {S : Type 0} {s : Ghosts S} {old : S} where
+  -- so is a range of a source: what is before a place of it, and what comes next
+  pub range_on : (source : Table → List ℕ) (start done count : ℕ) → IsSplit s old (λ t. take (done + count) (drop start (source t)))
+      (λ t. take done (drop start (source t))) (λ t. take count (drop (start + done) (source t)))
+  range_on source start done count =
+      record { parts = λ file_system _. range_next (source (s.table old file_system)) start done count }
+
+  -- or the rest
+  pub range_cut : (source : Table → List ℕ) (start done len : ℕ) → done ≤ len → IsSplit s old (λ t. take len (drop start (source t)))
+      (λ t. take done (drop start (source t))) (λ t. take (len - done) (drop (start + done) (source t)))
+  range_cut source start done len inside =
+      record { parts = λ file_system _. range_split (source (s.table old file_system)) start done len inside }
+
+-- a source was left as it was, twice
+pub left_both : {S : Type 0} (s : Ghosts S) (old mid new : S) → LeavesSource s old mid → LeavesSource s mid new → LeavesSource s old new
+left_both s old mid new first second = record {
+  lengths = second.lengths ∙ first.lengths;
+  table = second.table ∙ first.table;
+  earlier = λ file_system agrees. first.earlier file_system (second.earlier file_system agrees);
+}
 
 -- the text of a concatenation from a place in its left side on, and from one in its right side on
 pub record IsCut (t : Table) (l r n : Node) (from : ℕ) : Type 0 where
@@ -64,7 +78,7 @@ module _ {S V E : Type 0} {s : Ghosts S} {step : V → ℕ → V × Bool} where
     source = source;
   }
 
-  module _ (text : Table → List ℕ) {old new : S} {a b : V} where
+  module _ {text : Table → List ℕ} {old new : S} {a b : V} where
     -- the text in another spelling
     pub same_text : {other : Table → List ℕ} {r : Result Bool E} → Walks s step other old new a b r → ((file_system : FileSystem) →
         s.consistent old file_system → other (s.table old file_system) ≡ text (s.table old file_system)) →
@@ -78,13 +92,12 @@ module _ {S V E : Type 0} {s : Ghosts S} {step : V → ℕ → V × Bool} where
       source = w.source;
     }
 
-    module _ (left right : Table → List ℕ) (split : (file_system : FileSystem) → s.consistent old file_system →
-        text (s.table old file_system) ≡ left (s.table old file_system) ++ right (s.table old file_system)) where
+    module _ {left right : Table → List ℕ} (split : IsSplit s old text left right) where
       -- it stopped in the first part of the text
       pub stopped_first : Walks {E = E} s step left old new a b (Ok true) → Walks {E = E} s step text old new a b (Ok true)
       stopped_first w = walked_over (λ file_system agrees.
           let t = s.table old file_system in
-          ap (λ xs. walk step a xs) (split file_system (w.source.earlier file_system agrees))
+          ap (λ xs. walk step a xs) (split.parts file_system (w.source.earlier file_system agrees))
           ∙ walk_stop step a b (left t) (right t) (w.walked file_system agrees)) w.count w.source
 
       -- that could not be read to its end
@@ -94,7 +107,7 @@ module _ {S V E : Type 0} {s : Ghosts S} {step : V → ℕ → V × Bool} where
         walked = λ file_system agrees. tt;
         prefix = λ file_system agrees.
             let t = s.table old file_system in
-            prefix_first step a b (text t) (left t) (right t) (split file_system (w.source.earlier file_system agrees))
+            prefix_first step a b (text t) (left t) (right t) (split.parts file_system (w.source.earlier file_system agrees))
             (w.prefix file_system agrees);
         count = w.count;
         source = w.source;
@@ -108,43 +121,14 @@ module _ {S V E : Type 0} {s : Ghosts S} {step : V → ℕ → V × Bool} where
             let t = s.table old file_system in
             let before = v.source.earlier file_system agrees in
             let on : IfOk r (λ stopped. walk step m (right t) ≡ (b, stopped)) = rw w.source.table at v.walked file_system agrees in
-            IfOk-weaker r _ _ (λ stopped on. ap (λ xs. walk step a xs) (split file_system (w.source.earlier file_system before))
+            IfOk-weaker r _ _ (λ stopped on. ap (λ xs. walk step a xs) (split.parts file_system (w.source.earlier file_system before))
             ∙ walk_on step a m (b, stopped) (left t) (right t) (w.walked file_system before) on) on;
         prefix = λ file_system agrees.
             let t = s.table old file_system in
             let before = v.source.earlier file_system agrees in
             let some : OnErr r (WalkedPrefix step m b (right t)) = rw w.source.table at v.prefix file_system agrees in
             on_err_weaker r (λ prefix. prefix_second step a m b (text t) (left t) (right t)
-            (split file_system (w.source.earlier file_system before)) (w.walked file_system before) prefix) some;
+            (split.parts file_system (w.source.earlier file_system before)) (w.walked file_system before) prefix) some;
         count = rw w.count at v.count;
-        source = record {
-          lengths = v.source.lengths ∙ w.source.lengths;
-          table = v.source.table ∙ w.source.table;
-          earlier = λ file_system agrees. w.source.earlier file_system (v.source.earlier file_system agrees);
-        };
+        source = left_both s old mid new w.source v.source;
       }
-
-  -- a range of a source: what was walked over of it, and the next piece
-  module _ (source : Table → List ℕ) (start done : ℕ) where
-    pub next_piece : (count : ℕ) {old mid new : S} {a m b : V} {r : Result Bool E} →
-        Walks {E = E} s step (λ t. take done (drop start (source t))) old mid a m (Ok false) →
-        Walks s step (λ t. take count (drop (start + done) (source t))) mid new m b r →
-        Walks s step (λ t. take (done + count) (drop start (source t))) old new a b r
-    next_piece count {old} w v = then_second _ (λ (t : Table). take done (drop start (source t)))
-        (λ (t : Table). take count (drop (start + done) (source t)))
-        (λ file_system agrees. range_next (source (s.table old file_system)) start done count) w v
-
-    -- a stop in what was walked over, and a read there that failed
-    pub stopped_piece : (len : ℕ) {old new : S} {a b : V} → done ≤ len →
-        Walks {E = E} s step (λ t. take done (drop start (source t))) old new a b (Ok true) →
-        Walks {E = E} s step (λ t. take len (drop start (source t))) old new a b (Ok true)
-    stopped_piece len {old} inside w = stopped_first _ (λ (t : Table). take done (drop start (source t)))
-        (λ (t : Table). take (len - done) (drop (start + done) (source t)))
-        (λ file_system agrees. range_split (source (s.table old file_system)) start done len inside) w
-
-    pub failed_piece : (len : ℕ) {old new : S} {a b : V} {e : E} {r : Result Bool E} → done ≤ len → IsErr r →
-        Walks s step (λ t. take done (drop start (source t))) old new a b (Err e) →
-        Walks s step (λ t. take len (drop start (source t))) old new a b r
-    failed_piece len {old} inside is w = failed_first _ (λ (t : Table). take done (drop start (source t)))
-        (λ (t : Table). take (len - done) (drop (start + done) (source t)))
-        (λ file_system agrees. range_split (source (s.table old file_system)) start done len inside) is w

@@ -1,28 +1,19 @@
 -- What a sink took in several calls, one after the other.
-use Rattle.std.proofs.Common.{◌≡◌, ℕ, ◌+◌, ◌-◌, ◌≤◌, List, [], ◌++◌, length, take, drop, Ok, Err, refl, sym, ◌∙◌, ap, arith, append_assoc}
-use Rattle.std.proofs.Common.{length-append, append-nil}
-use Rattle.std.proofs.lemmas.Bool.{false≢true}
-use Rattle.std.specs.Prelude.{IsErr, replicate}
-use Rattle.std.proofs.lemmas.List.{take-append-drop, take-replicate, replicate-append-replicate}
-use Rattle.std.proofs.lemmas.Result.{on_ok_weaker, on_err_weaker}
-use Rattle.std.specs.Result.{OnOk, OnErr, IsErrAnd}
-use Rattle.std.specs.declared.result.Result.{Result}
-use Rattle.std.specs.declared.rc.Rc.{Rc}
-use Rattle.std.specs.Global.{Global}
-use Rattle.cord_io.specs.Device.{FileSystem, raised}
-use Rattle.cord_io.specs.Table.{Table}
+use Rattle.cord_iter.proofs.Common.{Cat', Err, FileSystem, Global, IsErr, IsSound, List, Node, Ok, OnErr, Part, Puts, Rc, Result, Table, [], ap}
+use Rattle.cord_iter.proofs.Common.{append_assoc, arith, bytes_over, drop, false≢true, len_of, length, length-append, on_err_weaker, raised, refl}
+use Rattle.cord_iter.proofs.Common.{replicate, replicate-append-replicate, sym, take, take-append-drop, take-replicate, ℕ, ◌++◌, ◌+◌, ◌-◌, ◌∙◌, ◌≡◌}
+use Rattle.cord_iter.proofs.Common.{◌≤◌}
+use Rattle.std.proofs.Common.{append-nil}
+use Rattle.std.proofs.lemmas.Result.{on_ok_weaker}
+use Rattle.std.specs.Result.{IsErrAnd, OnOk}
 use Rattle.cord_io.specs.declared.faults.CordError.{CordError}
-use Rattle.cord_io.specs.declared.faults.CordError.TheVariants.{NoMemory, TooLong, ReadFailed, WriteFailed}
+use Rattle.cord_io.specs.declared.faults.CordError.TheVariants.{NoMemory, ReadFailed, TooLong, WriteFailed}
+use Rattle.cord_iter.proofs.Cuts.{IsSplit, left_both}
+use Rattle.cord_iter.proofs.Walks.{run_split}
+use Rattle.cord_iter.specs.Output.{CountsFaults, FailureCounts, IsPrefixOf, Takes, Writes, failures_of}
+use Rattle.cord_iter.specs.inner.Output.{IsPrefixOver, IsTextRead}
 use Rattle.cord_io.specs.declared.sources.Source as sources
 use Rattle.cord_io.specs.declared.writing.Sink as sinks
-use Rattle.cord_node.specs.PartsFrom.{Part}
-use Rattle.cord_node.specs.declared.Node.{Node}
-use Rattle.cord_node.specs.declared.Node.TheVariants.{Cat'}
-use Rattle.cord_node.specs.Tree.{len_of, IsSound}
-use Rattle.cord_node.specs.Tables.{bytes_over}
-use Rattle.cord_iter.specs.Output.{IsPrefixOf, Takes, Writes, FailureCounts, CountsFaults, failures_of}
-use Rattle.cord_iter.specs.inner.Output.{IsTextRead, IsPrefixOver, Puts}
-use Rattle.cord_iter.proofs.Walks.{run_split}
 
 -- bytes after bytes
 pub appends_both : (a b c x y : List ℕ) → b ≡ a ++ x → c ≡ b ++ y → c ≡ a ++ (x ++ y)
@@ -100,8 +91,7 @@ module _ {S W : Type 0} {s : sources.Ghosts S} {w : sinks.Ghosts W} where
     put_most {r = Ok x} puts = tt
     put_most {r = Err e} puts = takes_such puts.prefix (λ x is. is.len)
 
-  module _ {n : ℕ} (text left right : Table → List ℕ) {old : S} (split : (file_system : FileSystem) → s.consistent old file_system →
-      text (s.table old file_system) ≡ left (s.table old file_system) ++ right (s.table old file_system)) where
+  module _ {n : ℕ} {text left right : Table → List ℕ} {old : S} (split : IsSplit s old text left right) where
     -- the first part of a text was not put to its end
     pub puts_some : {k : ℕ} {new : S} {a b : W} {e : CordError} {result : Result (Unit {0}) CordError} →
         IsErrAnd result (λ fault. fault ≡ e) → k ≤ n → Puts s w k left old new a b (Err e) → Puts s w n text old new a b result
@@ -112,7 +102,7 @@ module _ {S W : Type 0} {s : sources.Ghosts S} {w : sinks.Ghosts W} where
         len = omega (arith, some.len, most);
         prefix = λ file_system agrees.
             let t = s.table old file_system in
-            prefix_more (text t) (left t) (right t) x (split file_system (puts.source.earlier file_system agrees))
+            prefix_more (text t) (left t) (right t) x (split.parts file_system (puts.source.earlier file_system agrees))
             (some.prefix file_system agrees);
       });
       faults = puts.faults;
@@ -124,8 +114,7 @@ module _ {S W : Type 0} {s : sources.Ghosts S} {w : sinks.Ghosts W} where
     pub puts_both : {k l : ℕ} {mid new : S} {a m b : W} {u : Unit {0}} {result : Result (Unit {0}) CordError} → k + l ≡ n →
         Puts s w k left old mid a m (Ok u) → Puts s w l right mid new m b result → Puts s w n text old new a b result
     puts_both {k} {l} {mid} {new} {a} {m} {b} {result} both first second =
-        let earlier : (file_system : FileSystem) → s.consistent new file_system → s.consistent old file_system =
-        λ file_system agrees. first.source.earlier file_system (second.source.earlier file_system agrees) in
+        let earlier = (left_both s old mid new first.source second.source).earlier in
         let took : OnOk result (Takes (IsTextRead (s.consistent new) (s.table old) l right) (w.taken m) (w.taken b)) =
         rw first.source.table at second.took in
         let prefix : OnErr result (Takes (IsPrefixOver (s.consistent new) (s.table old) l right) (w.taken m) (w.taken b)) =
@@ -135,21 +124,17 @@ module _ {S W : Type 0} {s : sources.Ghosts S} {w : sinks.Ghosts W} where
             len = length-append x y ∙ omega (arith, both, h.len, i.len);
             whole = λ file_system agrees.
                 rw (h.whole file_system (second.source.earlier file_system agrees), i.whole file_system agrees)
-                (sym (split file_system (earlier file_system agrees)));
+                (sym (split.parts file_system (earlier file_system agrees)));
           })) took;
           prefix = on_err_weaker result (λ rest. takes_both first.took rest (λ x y h i. record {
             len = rw (length-append x y) (omega (arith, both, h.len, i.len));
             prefix = λ file_system agrees.
                 let t = s.table old file_system in
                 rw (h.whole file_system (second.source.earlier file_system agrees))
-                (prefix_join (text t) (left t) (right t) y (split file_system (earlier file_system agrees)) (i.prefix file_system agrees));
+                (prefix_join (text t) (left t) (right t) y (split.parts file_system (earlier file_system agrees)) (i.prefix file_system agrees));
           })) prefix;
           faults = faults_on (failures_of s w old a) (failures_of s w mid m) (failures_of s w new b) result first.faults second.faults;
-          source = record {
-            lengths = second.source.lengths ∙ first.source.lengths;
-            table = second.source.table ∙ first.source.table;
-            earlier = earlier;
-          };
+          source = left_both s old mid new first.source second.source;
           finished = second.finished ∙ first.finished;
         }
 
@@ -189,12 +174,12 @@ run_more a b c byte done count n k s t = appends_both a b c (replicate done byte
     (rw (take-replicate count n byte k) at t) ∙ ap (λ (l : List ℕ). a ++ l) (replicate-append-replicate done count byte)
 
 -- the two sides of a concatenation
-pub record AreSides (l r n : Node) : Type 0 where
+pub record AreSides {S : Type 0} (s : sources.Ghosts S) (old : S) (l r n : Node) : Type 0 where
   pub len : len_of l + len_of r ≡ len_of n
-  pub bytes : (t : Table) → bytes_over t n ≡ bytes_over t l ++ bytes_over t r
+  pub split : IsSplit s old (λ t. bytes_over t n) (λ t. bytes_over t l) (λ t. bytes_over t r)
 
-pub cat_sides : (p : Rc (Unit {0}) Global) (l : Node) (q : Rc (Unit {0}) Global) (r : Node) (len depth count : ℕ) (mark : List Part) (n : Node) →
-    n ≡ Cat' mark depth len p l q r count → IsSound n → AreSides l r n
-cat_sides p l q r len depth count mark n e s =
-    let sound : IsSound (Cat' mark depth len p l q r count) = rw e at s in
-    rw e (record { len = sym sound.2; bytes = λ t. refl })
+pub cat_sides : {S : Type 0} {s : sources.Ghosts S} {old : S} (p : Rc (Unit {0}) Global) (l : Node) (q : Rc (Unit {0}) Global) (r : Node)
+    (len depth count : ℕ) (mark : List Part) (n : Node) → n ≡ Cat' mark depth len p l q r count → IsSound n → AreSides s old l r n
+cat_sides p l q r len depth count mark n e sound =
+    let parts : IsSound (Cat' mark depth len p l q r count) = rw e at sound in
+    rw e (record { len = sym parts.2; split = record { parts = λ file_system _. refl } })

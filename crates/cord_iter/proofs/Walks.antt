@@ -1,10 +1,9 @@
 -- Walks over one list after another.
-use Rattle.std.proofs.Common.{◌≡◌, ℕ, ◌+◌, ◌-◌, ◌<◌, ◌≤◌, Bool, true, false, List, [], ◌∷◌, ◌++◌, length, take, drop, get_or, refl, sym}
-use Rattle.std.proofs.Common.{◌∙◌, ap, arith, append_assoc}
-use Rattle.std.specs.Prelude.{replicate, if◌then◌else◌}
-use Rattle.std.proofs.lemmas.List.{drop-take, drop-drop, take_more, take-append-drop, take-replicate, replicate-append-replicate}
-use Rattle.std.proofs.Math.Seq.{take-add}
-use Rattle.cord_iter.specs.Walk.{walk, WalkedPrefix}
+use Rattle.cord_iter.proofs.Common.{Bool, List, WalkedPrefix, [], ap, append_assoc, arith, drop, false, get_or, length, refl, replicate}
+use Rattle.cord_iter.proofs.Common.{replicate-append-replicate, sym, take, take-add, take-append-drop, take-replicate, take_more, true, walk, ℕ, ◌++◌}
+use Rattle.cord_iter.proofs.Common.{◌+◌, ◌-◌, ◌<◌, ◌∙◌, ◌∷◌, ◌≡◌, ◌≤◌}
+use Rattle.std.proofs.lemmas.List.{drop-drop, drop-take}
+use Rattle.std.specs.Prelude.{if◌then◌else◌}
 
 -- from where a walk ended, on over more bytes unless it stopped
 go_on : {S : Type 0} → (S → ℕ → S × Bool) → S × Bool → List ℕ → S × Bool

@@ -1,16 +1,10 @@
 -- The part that holds an index of a node, and the byte there.
-use Rattle.std.proofs.Common.{◌≡◌, ℕ, ◌+◌, ◌-◌, ◌<◌, List, [], ◌∷◌, take, drop, refl, sym, ◌∙◌, ap, arith, zero, suc, true}
+use Rattle.cord_pos.proofs.Common.{HasByte, IsSound, IsWithin, List, Node, Table, [], ap, arith, bytes_over, drop, is_part, len_of, part_at, refl}
+use Rattle.cord_pos.proofs.Common.{suc, sym, take, true, zero, ℕ, ◌+◌, ◌-◌, ◌<◌, ◌∙◌, ◌∷◌, ◌≡◌}
 use Rattle.std.specs.Prelude.{slice_get}
-use Rattle.cord_io.specs.Table.{Table}
-use Rattle.cord_node.specs.declared.Node.{Node}
-use Rattle.cord_node.specs.Tree.{len_of, IsSound}
-use Rattle.cord_node.specs.Tables.{bytes_over, Fits}
-use Rattle.cord_pos.specs.inner.Path.{part_at}
-use Rattle.cord_pos.specs.inner.Parts.{HasByte}
-use Rattle.cord_pos.specs.inner.Spans.{IsWithin}
-use Rattle.cord_pos.specs.Spans.{is_part}
-use Rattle.cord_pos.proofs.Within.{within_self, within_on}
+use Rattle.cord_node.specs.Tables.{Fits}
 use Rattle.cord_pos.proofs.Sides.{by_sides}
+use Rattle.cord_pos.proofs.Within.{within_on, within_self}
 
 -- what a way ends at is a part
 pub part_is : (n : Node) (i s : ℕ) → is_part (part_at n s i).0 ≡ true

@@ -1,10 +1,7 @@
 -- Levels and preorder numbers: what is visited on the way to the next index, and how many occurrences there are.
-use Rattle.std.proofs.Common.{◌≡◌, ℕ, ◌+◌, ◌-◌, ◌*◌, ◌<◌, ◌≤◌, inl, inr, refl, sym, ◌∙◌, arith}
-use Rattle.cord_io.specs.declared.TheConstants.{MAX_DEPTH}
-use Rattle.cord_node.specs.declared.Node.{Node}
-use Rattle.cord_node.specs.declared.Node.TheVariants.{Leaf, Run, Func, Cat'}
-use Rattle.cord_node.specs.Tree.{len_of, depth_of, IsSound}
-use Rattle.cord_node.specs.Occurrences.{size, level, preorder, shared_level}
+use Rattle.cord_pos.proofs.Common.{Cat', Func, IsSound, Leaf, MAX_DEPTH, Node, Run, arith, depth_of, inl, inr, len_of, level, preorder, refl}
+use Rattle.cord_pos.proofs.Common.{shared_level, size, sym, ℕ, ◌+◌, ◌-◌, ◌<◌, ◌∙◌, ◌≡◌, ◌≤◌}
+use Rattle.std.proofs.Common.{◌*◌}
 use Rattle.cord_pos.proofs.Sides.{by_sides}
 
 -- no part lies below the depth

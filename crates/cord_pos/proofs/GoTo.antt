@@ -1,12 +1,10 @@
 -- A climb and a descent take the way to another index.
-use Rattle.std.proofs.Common.{◌≡◌, ℕ, ◌+◌, ◌-◌, ◌^◌, ◌≤◌, min, List, [], ◌∷◌, ◌++◌, length, refl, sym, ◌∙◌, ap, arith, Some, append_assoc}
+use Rattle.cord_pos.proofs.Common.{IsClimb, List, Node, Place, Some, [], ap, append_assoc, arith, below, len_limit, length, level, min, part_at, refl}
+use Rattle.cord_pos.proofs.Common.{shared_level, sym, ℕ, ◌++◌, ◌+◌, ◌-◌, ◌^◌, ◌∙◌, ◌∷◌, ◌≡◌, ◌≤◌}
 use Rattle.std.proofs.Common.{length-append}
-use Rattle.cord_node.specs.declared.Node.{Node}
-use Rattle.cord_node.specs.Occurrences.{level, shared_level}
-use Rattle.cord_node.proofs.TreeLemmas.{len_limit}
-use Rattle.cord_pos.specs.inner.Path.{Place, below, part_at, CanDescend, IsClimb, EndsIn, IsOnWay, IsTakenTo}
 use Rattle.cord_pos.proofs.Counts.{depth_limit}
-use Rattle.cord_pos.proofs.Moves.{IsUnder, under_root, LiesIn, lies_in, IsMove, moved}
+use Rattle.cord_pos.proofs.Moves.{IsMove, IsUnder, LiesIn, lies_in, moved, under_root}
+use Rattle.cord_pos.specs.inner.Path.{CanDescend, EndsIn, IsOnWay, IsTakenTo}
 
 -- the old way, with the node at which the climb stopped
 found_split : (old new : List Place) (n : Node) (t at : ℕ) (c : IsClimb old new at) (e : EndsIn new n t at) →

@@ -1,3 +1,4 @@
+pub mod Common
 pub mod Within
 pub mod Sides
 pub mod Steps
@@ -8,3 +9,4 @@ pub mod GoTo
 pub mod Standings
 pub mod Bytes
 pub mod SpotBytes
+pub mod Lemmas

@@ -1,11 +1,8 @@
 -- How a way is left and taken again: where the ways to two indices part, and what a climb and a descent together visit.
-use Rattle.std.proofs.Common.{◌≡◌, ℕ, ◌+◌, ◌-◌, ◌<◌, ◌≤◌, inl, inr, List, [], ◌∷◌, ◌++◌, length, refl, sym, ◌∙◌, ap, arith, true, false, Some}
-use Rattle.std.proofs.lemmas.Bool.Decides.{nat_tests}
-use Rattle.cord_node.specs.declared.Node.{Node}
-use Rattle.cord_node.specs.Tree.{len_of, depth_of, IsSound}
-use Rattle.cord_node.specs.Occurrences.{level, shared_level}
-use Rattle.cord_pos.specs.inner.Path.{Place, below, way, part_at, holds, NoneHolds}
+use Rattle.cord_pos.proofs.Common.{IsSound, List, Node, Place, Some, [], ap, arith, below, depth_of, false, inl, inr, len_of, length, level}
+use Rattle.cord_pos.proofs.Common.{nat_tests, part_at, refl, shared_level, sym, true, way, ℕ, ◌++◌, ◌+◌, ◌-◌, ◌<◌, ◌∙◌, ◌∷◌, ◌≡◌, ◌≤◌}
 use Rattle.cord_pos.proofs.Sides.{part_or_side}
+use Rattle.cord_pos.specs.inner.Path.{NoneHolds, holds}
 
 -- a node that stands k steps below a root, where its text begins
 pub record IsUnder (root : Node) (s k : ℕ) (n : Node) (t : ℕ) : Type 0 where

@@ -1,9 +1,6 @@
 -- Two indices in one part.
-use Rattle.std.proofs.Common.{◌≡◌, ℕ, ◌+◌, ◌-◌, ◌<◌, ◌≤◌, ◌∷◌, inl, inr, List, Some, sym, ◌∙◌, ap, arith}
-use Rattle.cord_node.specs.declared.Node.{Node}
-use Rattle.cord_node.specs.Tree.{len_of, IsSound}
-use Rattle.cord_node.specs.Occurrences.{preorder}
-use Rattle.cord_pos.specs.inner.Path.{Place, way, part_at}
+use Rattle.cord_pos.proofs.Common.{IsSound, List, Node, Place, Some, ap, arith, inl, inr, len_of, part_at, preorder, sym, way, ℕ, ◌+◌, ◌-◌, ◌<◌, ◌∙◌}
+use Rattle.cord_pos.proofs.Common.{◌∷◌, ◌≡◌, ◌≤◌}
 use Rattle.cord_pos.proofs.Sides.{by_sides}
 
 -- a part that begins at p.1 in the root's text lies inside a node that begins at s, and has the node's index i in it

@@ -1,19 +1,11 @@
 -- A node is a part, or has a side that holds its index: what is said of it, by what is said of the side.
-use Rattle.std.proofs.Common.{◌≡◌, ℕ, ◌+◌, ◌-◌, ◌<◌, ◌≤◌, ◌⊎◌, inl, inr, [], refl, arith, Global, false, true, List, Some, None}
-use Rattle.std.specs.Prelude.{nat_lt}
+use Rattle.cord_pos.proofs.Common.{Cat', Func, IsSound, IsWithin, Leaf, List, Node, None, Part, Rc, Run, Some, [], arith, below, depth_of, false, inl}
+use Rattle.cord_pos.proofs.Common.{inr, is_part, len_of, len_positive, level, lt-ltb, nat_tests, part_at, preorder, refl, shared_level, side_at, size}
+use Rattle.cord_pos.proofs.Common.{true, way, ℕ, ◌+◌, ◌-◌, ◌<◌, ◌≡◌, ◌≤◌}
+use Rattle.std.proofs.Common.{Global, ◌⊎◌}
 use Rattle.std.proofs.Math.Logic.{⊎_elim, ⊎_map}
-use Rattle.std.proofs.lemmas.Bool.{cases_lt, lt-ltb}
-use Rattle.std.proofs.lemmas.Bool.Decides.{nat_tests}
-use Rattle.std.specs.declared.rc.Rc.{Rc}
-use Rattle.cord_node.specs.PartsFrom.{Part}
-use Rattle.cord_node.specs.declared.Node.{Node}
-use Rattle.cord_node.specs.declared.Node.TheVariants.{Leaf, Run, Func, Cat'}
-use Rattle.cord_node.specs.Tree.{len_of, depth_of, IsSound}
-use Rattle.cord_node.specs.Occurrences.{size, level, preorder, shared_level}
-use Rattle.cord_node.proofs.TreeLemmas.{len_positive}
-use Rattle.cord_pos.specs.Spans.{is_part, side_at}
-use Rattle.cord_pos.specs.inner.Path.{below, way, part_at}
-use Rattle.cord_pos.specs.inner.Spans.{IsWithin}
+use Rattle.std.proofs.lemmas.Bool.{cases_lt}
+use Rattle.std.specs.Prelude.{nat_lt}
 use Rattle.cord_pos.proofs.Within.{within_left, within_right}
 
 -- a node without sides

@@ -1,25 +1,17 @@
 -- The part at which a position stands has the byte at its index, and the bytes around it.
-use Rattle.std.proofs.Common.{◌≡◌, ℕ, ◌+◌, ◌-◌, ◌<◌, ◌≤◌, ap, arith, Some, None, true, false, refl, sym, ◌∙◌}
-use Rattle.std.specs.Prelude.{Option, ◌↔◌, is_some, IfSome}
-use Rattle.cord_io.specs.Table.{Table, Lengths, HasLengths}
-use Rattle.cord_node.specs.declared.Node.{Node}
-use Rattle.cord_node.specs.Tree.{len_of, IsSound}
-use Rattle.cord_node.specs.Occurrences.{preorder}
-use Rattle.cord_node.proofs.TableLemmas.{Fits-reported}
+use Rattle.cord_pos.proofs.Common.{HasByte, IsOnPart, IsPosition, IsSound, IsWithin, Lengths, Node, None, Option, Path, Some, Span, Spot, Table, ap}
+use Rattle.cord_pos.proofs.Common.{arith, false, is_part, len_of, node_of, part_at, places, preorder, refl, span_len, sym, true, ℕ, ◌+◌, ◌-◌, ◌<◌}
+use Rattle.cord_pos.proofs.Common.{◌∙◌, ◌≡◌, ◌≤◌}
+use Rattle.std.specs.Prelude.{IfSome, is_some, ◌↔◌}
 use Rattle.cord_core.specs.Cord.{CordFitsIn}
-use Rattle.cord_pos.specs.declared.path.Path.{Path}
-use Rattle.cord_pos.specs.declared.Spot.{Spot}
-use Rattle.cord_pos.specs.inner.Path.{node_of, places, part_at}
-use Rattle.cord_pos.specs.inner.Parts.{HasByte}
-use Rattle.cord_pos.specs.inner.Spans.{IsWithin, HasSpan}
-use Rattle.cord_pos.specs.Spans.{is_part}
-use Rattle.cord_pos.specs.Position.{IsByteAt}
-use Rattle.cord_pos.specs.inner.Invariant.{IsOnPart, IsPosition}
-use Rattle.cord_pos.specs.Spans.{span_len, IsAheadOf, IsBehindOf, IsRestAhead, IsRestBehind}
-use Rattle.cord_pos.specs.declared.span.Span.{Span}
+use Rattle.cord_io.specs.Table.{HasLengths}
+use Rattle.cord_node.proofs.TableLemmas.{Fits-reported}
 use Rattle.cord_pos.proofs.Bytes.{part_is, part_within, within_byte}
-use Rattle.cord_pos.proofs.Within.{within_end, span_on, span_back}
-use Rattle.cord_pos.proofs.SamePart.{has_range, HasRange, number_in, in_number}
+use Rattle.cord_pos.proofs.SamePart.{HasRange, has_range, in_number, number_in}
+use Rattle.cord_pos.proofs.Within.{span_back, span_on, within_end}
+use Rattle.cord_pos.specs.Position.{IsByteAt}
+use Rattle.cord_pos.specs.Spans.{IsAheadOf, IsBehindOf, IsRestAhead, IsRestBehind}
+use Rattle.cord_pos.specs.inner.Spans.{HasSpan}
 
 -- what the part at which a valid position stands is of its cord's root
 pub record IsSpotPart (c : Option Node) (spot : Spot) : Type 0 where

@@ -1,24 +1,13 @@
 -- Where a position stands, and what it takes to set or move it.
-use Rattle.std.proofs.Common.{◌≡◌, ℕ, ◌+◌, ◌-◌, ◌^◌, ◌<◌, ◌≤◌, min, refl, sym, ◌∙◌, ap, arith, Some, None, zero, suc}
-use Rattle.std.specs.Prelude.{Option}
-use Rattle.std.proofs.lemmas.Bool.{lt-ltb}
-use Rattle.std.proofs.lemmas.Bool.Decides.{nat_tests}
-use Rattle.cord_node.specs.declared.Node.{Node}
-use Rattle.cord_node.specs.Tree.{len_of}
-use Rattle.cord_node.specs.Occurrences.{level, preorder, shared_level}
-use Rattle.cord_io.specs.declared.TheConstants.{MAX_DEPTH}
-use Rattle.cord_core.specs.Cord.{text_len, depth, IsCord}
-use Rattle.cord_pos.specs.declared.path.Path.{Path}
-use Rattle.cord_pos.specs.declared.Spot.{Spot}
-use Rattle.cord_pos.specs.inner.Path.{node_of, places, part_at}
-use Rattle.cord_pos.specs.Position.{set_visits, move_visits, number_at, occurrences, index_at, moved_index, moved_visits, next_index}
-use Rattle.cord_pos.specs.Position.{next_visits, prev_visits, IsNoEarlier, IsOnePart}
-use Rattle.cord_pos.specs.inner.Invariant.{IsOnPart, IsPosition}
-use Rattle.cord_pos.proofs.Sides.{preorder_first, preorder_last, preorder_below}
-use Rattle.cord_pos.proofs.Counts.{level_depth, depth_limit, preorder_next, shared_same, shared_below, size_len}
-use Rattle.cord_node.proofs.TreeLemmas.{len_limit, len_positive}
-use Rattle.cord_pos.proofs.SamePart.{has_range, IsSamePart, same_part}
+use Rattle.cord_pos.proofs.Common.{IsCord, IsOnPart, IsPosition, MAX_DEPTH, Node, None, Option, Path, Some, Spot, ap, arith, len_limit, len_of}
+use Rattle.cord_pos.proofs.Common.{len_positive, level, lt-ltb, min, nat_tests, node_of, number_at, part_at, places, preorder, refl, shared_level}
+use Rattle.cord_pos.proofs.Common.{suc, sym, text_len, zero, ℕ, ◌+◌, ◌-◌, ◌<◌, ◌^◌, ◌∙◌, ◌≡◌, ◌≤◌}
+use Rattle.cord_core.specs.Cord.{depth}
+use Rattle.cord_pos.proofs.Counts.{depth_limit, level_depth, preorder_next, shared_below, shared_same, size_len}
+use Rattle.cord_pos.proofs.SamePart.{IsSamePart, has_range, same_part}
+use Rattle.cord_pos.proofs.Sides.{preorder_below, preorder_first, preorder_last}
 use Rattle.cord_pos.proofs.SpotBytes.{IsSpotPart, spot_part}
+use Rattle.cord_pos.specs.Position.{IsNoEarlier, IsOnePart, index_at, move_visits, moved_visits, next_visits, occurrences, prev_visits, set_visits}
 
 -- inside, one more than the level
 pub set_inside : (c : Option Node) (n : Node) (i : ℕ) → c ≡ Some n → i < len_of n → set_visits c i ≡ level n i + 1
@@ -43,8 +32,7 @@ position_cord (Some n) spot path on = on.on_spot.sound
 pub record IsStill (c : Option Node) (spot : Spot) (path : Path) (j : ℕ) : Type 0 where
   pub position : IsPosition c (Some (record { index = j; part = spot.part })) path
   pub inside : j < text_len c
-  pub number : number_at c j ≡ number_at c spot.index
-  pub visits_none : move_visits c spot.index j ≡ 0
+  pub visits : path.visits.count ≡ min (path.visits.count + move_visits c spot.index j) (2 ^ 64 - 1)
 
 -- an index inside the part at which a position stands takes no visit
 pub still : (c : Option Node) (spot : Spot) (path : Path) (j : ℕ) → IsPosition c (Some spot) path → spot.part.start ≤ j →
@@ -62,8 +50,7 @@ still (Some n) spot path j on a b =
         counted = on.counted;
       };
       inside = inside;
-      number = m.preorder;
-      visits_none = omega (arith, shared_same n spot.index j (sym m.preorder));
+      visits = omega (arith, shared_same n spot.index j (sym m.preorder), on.counted);
     }
 
 -- a `prev` is a move to the index before
@@ -76,33 +63,12 @@ pub next_still : (c : Option Node) (spot : Spot) (path : Path) → IsPosition c 
     IsStill c spot path (spot.index + 1)
 next_still c spot path on k = still c spot path (spot.index + 1) on (omega (arith, (spot_part c spot path on).from)) k
 
--- its index
-pub next_still_index : (c : Option Node) (spot : Spot) (path : Path) → IsPosition c (Some spot) path → spot.index + 1 < spot.part.end →
-    Some (spot.index + 1) ≡ next_index c (Some spot.index)
-next_still_index c spot path on k = grind (arith, nat_tests, (next_still c spot path on k).inside)
-
--- its visits: none
-pub next_still_visits : (c : Option Node) (spot : Spot) (path : Path) → IsPosition c (Some spot) path → spot.index + 1 < spot.part.end →
-    path.visits.count ≡ min (path.visits.count + next_visits c (Some spot.index)) (2 ^ 64 - 1)
-next_still_visits c spot path on k =
-    let m : IsStill c spot path (spot.index + 1) = next_still c spot path on k in
-    let z : next_visits c (Some spot.index) ≡ 0 = grind (arith, nat_tests, m.number, m.inside) in
-    rw z (omega (arith, on.counted))
-
 -- a `prev` inside one part
 pub prev_still : (c : Option Node) (spot : Spot) (path : Path) → IsPosition c (Some spot) path → spot.part.start < spot.index →
     IsStill c spot path (spot.index - 1)
 prev_still c spot path on k =
     let h : IsSpotPart c spot = spot_part c spot path on in
     still c spot path (spot.index - 1) on (omega arith) (omega (arith, h.inside, h.end))
-
--- its visits: none
-pub prev_still_visits : (c : Option Node) (spot : Spot) (path : Path) → IsPosition c (Some spot) path → spot.part.start < spot.index →
-    path.visits.count ≡ min (path.visits.count + prev_visits c (Some spot.index)) (2 ^ 64 - 1)
-prev_still_visits c spot path on k =
-    let z : prev_visits c (Some spot.index) ≡ move_visits c spot.index (spot.index - 1) = prev_move c spot.index (omega arith) in
-    let m : IsStill c spot path (spot.index - 1) = prev_still c spot path on k in
-    rw (z, m.visits_none) (omega (arith, on.counted))
 
 -- a move visits no more than the depth, and nothing inside one part
 pub move_bound : (c : Option Node) (i j : ℕ) → IsCord c → move_visits c i j ≤ MAX_DEPTH
@@ -156,14 +122,6 @@ walk_empty (Some n) h k = absurd (omega (arith, len_positive n h))
 pub index_inside : (c : Option Node) (i : ℕ) → i < text_len c → index_at c i ≡ Some i
 index_inside c i h = rw (lt-ltb i (text_len c) h) refl
 
--- a move inside one part goes to an index of the cord, and visits nothing
-pub moved_still_index : (c : Option Node) (spot : Spot) (path : Path) (j : ℕ) → IsPosition c (Some spot) path → spot.part.start ≤ j →
-    j < spot.part.end → Some j ≡ moved_index c (Some spot.index) j
-moved_still_index c spot path j on a b = sym (index_inside c j (still c spot path j on a b).inside)
-
-pub moved_still_visits : (c : Option Node) (spot : Spot) (path : Path) (j : ℕ) → IsPosition c (Some spot) path → spot.part.start ≤ j →
-    j < spot.part.end → path.visits.count ≡ min (path.visits.count + moved_visits c (Some spot.index) j) (2 ^ 64 - 1)
-moved_still_visits c spot path j on a b =
-    let m : IsStill c spot path j = still c spot path j on a b in
-    let z : moved_visits c (Some spot.index) j ≡ 0 = grind (arith, nat_tests, m.visits_none, m.inside) in
-    rw z (omega (arith, on.counted))
+-- a move to it takes the visits from one index of the cord to another
+pub moved_inside : (c : Option Node) (i j : ℕ) → j < text_len c → moved_visits c (Some i) j ≡ move_visits c i j
+moved_inside c i j h = rw (lt-ltb j (text_len c) h) refl

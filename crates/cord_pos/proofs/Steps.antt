@@ -1,11 +1,7 @@
 -- A step down to a side.
-use Rattle.std.proofs.Common.{◌≡◌, ℕ, ◌+◌, ◌-◌, ◌<◌, ◌≤◌, inl, inr, sym, ◌∙◌, ap, Option, Some, None}
-use Rattle.cord_node.specs.declared.Node.{Node}
-use Rattle.cord_node.specs.Tree.{len_of, depth_of, IsSound}
-use Rattle.cord_node.specs.Occurrences.{level}
-use Rattle.cord_pos.specs.Spans.{side_at}
-use Rattle.cord_pos.specs.inner.Path.{way, below, part_at}
-use Rattle.cord_pos.specs.inner.Spans.{IsWithin}
+use Rattle.cord_pos.proofs.Common.{IsSound, IsWithin, Node, None, Some, ap, below, depth_of, inl, inr, len_of, level, part_at, side_at, sym, way, ℕ}
+use Rattle.cord_pos.proofs.Common.{◌+◌, ◌-◌, ◌<◌, ◌∙◌, ◌≡◌, ◌≤◌}
+use Rattle.std.proofs.Common.{Option}
 use Rattle.cord_pos.proofs.Sides.{IsPart, part_or_side}
 
 -- the side m of a node that holds its index i begins at the offset o

@@ -1,22 +1,15 @@
 -- Where nodes below a node, and spans of them, stand in its text.
-use Rattle.std.proofs.Common.{◌≡◌, ℕ, ◌+◌, ◌-◌, ◌<◌, ◌≤◌, List, length, take, drop, sym, ◌∙◌, ap, arith, length-drop, Some}
-use Rattle.std.specs.Prelude.{replicate}
-use Rattle.std.specs.declared.rc.Rc.{Rc}
+use Rattle.cord_pos.proofs.Common.{Cat', Func, IsSound, IsWithin, Lengths, List, MAX_LEN, Node, Part, Rc, Run, Some, Span, Table, ap, arith}
+use Rattle.cord_pos.proofs.Common.{bytes_over, drop, len_of, length, span_len, sym, take, ℕ, ◌+◌, ◌-◌, ◌<◌, ◌∙◌, ◌≡◌, ◌≤◌}
+use Rattle.std.proofs.lemmas.List.{drop-replicate, take-replicate}
 use Rattle.std.specs.Global.{Global}
-use Rattle.std.proofs.lemmas.List.{drop-replicate, take-replicate, length-take-le}
-use Rattle.cord_io.specs.declared.SourceId.{SourceId}
-use Rattle.cord_io.specs.Table.{Table, Lengths, length_at}
-use Rattle.cord_io.specs.declared.TheConstants.{MAX_LEN}
-use Rattle.cord_node.specs.PartsFrom.{Part}
-use Rattle.cord_node.specs.declared.Node.{Node}
-use Rattle.cord_node.specs.declared.Node.TheVariants.{Run, Func, Cat'}
-use Rattle.cord_node.specs.Tree.{len_of, IsSound}
-use Rattle.cord_node.specs.Tables.{bytes_over, lengths_of}
-use Rattle.cord_node.proofs.Ranges.{range_of_range, range_left, range_right}
+use Rattle.std.specs.Prelude.{replicate}
 use Rattle.cord_core.proofs.OverLemmas.{length-bytes}
-use Rattle.cord_pos.specs.Spans.{span_len, span_bytes, SpanFitsIn, IsSpanAt}
-use Rattle.cord_pos.specs.inner.Spans.{IsWithin}
-use Rattle.cord_pos.specs.declared.span.Span.{Span}
+use Rattle.cord_io.specs.Table.{length_at}
+use Rattle.cord_io.specs.declared.SourceId.{SourceId}
+use Rattle.cord_node.proofs.Ranges.{range_left, range_of_range, range_right}
+use Rattle.cord_node.specs.Tables.{FitsIn, lengths_of}
+use Rattle.cord_pos.specs.Spans.{IsSpanAt, SpanFitsIn, span_bytes}
 
 -- a place of a node is one of that node
 pub within_self : (n : Node) (place : ℕ) → IsSound n → IsWithin n place n place
@@ -94,37 +87,26 @@ pub span_back : (n : Node) (place : ℕ) (m : Node) (at i : ℕ) (s : Span) → 
     IsSpanAt m i s → IsSpanAt n (place - span_len s) s
 span_back n place m at i s e w h = within_span n place m at i (place - span_len s) s w (omega (arith, e, w.here)) h
 
--- a range of a leaf
-pub leaf_span : (m : Node) (s : Span) (items xs : List ℕ) (start len from at k : ℕ) →
-    ((t : Table) → bytes_over t m ≡ take len (drop start items)) → len_of m ≡ len → start + len ≤ length items → from ≡ start + at →
-    at + k ≤ len → 0 < k → xs ≡ take k (drop from items) → span_len s ≡ length xs → ((t : Table) → span_bytes t s ≡ xs) →
-    ((lengths : Lengths) → SpanFitsIn lengths s) → IsSpanAt m at s
-leaf_span m s items xs start len from at k e long covered f h some is count bytes fits =
-    let whole : span_len s ≡ k =
-    count ∙ ap (λ (ys : List ℕ). length ys) is
-    ∙ length-take-le k (drop from items) (omega (arith, f, h, covered, length-drop from items)) in
-    record {
-      some = omega (arith, whole, some);
-      inside = omega (arith, whole, long, h);
-      fits = λ lengths _. fits lengths;
-      text = λ t _. bytes t ∙ is ∙ ap (λ (j : ℕ). take k (drop j items)) f ∙ sym (range_of_range items at k start len h)
-          ∙ ap (λ (ys : List ℕ). take k (drop at ys)) (sym (e t)) ∙ ap (λ (j : ℕ). take j (drop at (bytes_over t m))) (sym whole);
-    }
+-- a range of items of which a part has a range
+pub range_span : (m : Node) (s : Span) (items : Table → List ℕ) (start len from at k : ℕ) →
+    ((t : Table) → bytes_over t m ≡ take len (drop start (items t))) → len_of m ≡ len → from ≡ start + at → at + k ≤ len → 0 < k →
+    span_len s ≡ k → ((t : Table) → span_bytes t s ≡ take k (drop from (items t))) →
+    ((lengths : Lengths) → FitsIn lengths m → SpanFitsIn lengths s) → IsSpanAt m at s
+range_span m s items start len from at k e long f h some count bytes fits = record {
+  some = omega (arith, count, some);
+  inside = omega (arith, count, long, h);
+  fits = fits;
+  text = λ t _. bytes t ∙ ap (λ (j : ℕ). take k (drop j (items t))) f ∙ sym (range_of_range (items t) at k start len h)
+      ∙ ap (λ (ys : List ℕ). take k (drop at ys)) (sym (e t)) ∙ ap (λ (j : ℕ). take j (drop at (bytes_over t m))) (sym count);
+}
 
 -- a part of a run
 pub run_span : (m : Node) (s : Span) (byte len at k : ℕ) → m ≡ Run byte len → at + k ≤ len → 0 < k → span_len s ≡ k →
     ((t : Table) → span_bytes t s ≡ replicate k byte) → ((lengths : Lengths) → SpanFitsIn lengths s) → IsSpanAt m at s
-run_span m s byte len at k e h some count bytes fits =
-    let inside : k ≤ len - at = omega arith in
-    let long : len_of m ≡ len = ap len_of e in
-    record {
-      some = omega (arith, count, some);
-      inside = omega (arith, count, long, h);
-      fits = λ lengths _. fits lengths;
-      text = λ t _. bytes t ∙ sym (take-replicate k (len - at) byte inside)
-          ∙ ap (λ (ys : List ℕ). take k ys) (sym (drop-replicate at len byte)) ∙ ap (λ (n : Node). take k (drop at (bytes_over t n)))
-          (sym e) ∙ ap (λ (j : ℕ). take j (drop at (bytes_over t m))) (sym count);
-    }
+run_span m s byte len at k e h some count bytes fits = range_span m s (λ t. replicate len byte) 0 len at at k
+    (λ t. ap (λ (n : Node). bytes_over t n) e ∙ sym (take-replicate len len byte (omega arith))) (ap len_of e) (omega arith) h some count
+    (λ t. bytes t ∙ sym (take-replicate k (len - at) byte (omega (arith, h)))
+    ∙ ap (λ (ys : List ℕ). take k ys) (sym (drop-replicate at len byte))) (λ lengths _. fits lengths)
 
 -- a range of a source
 pub func_span : (m : Node) (s : Span) (id : SourceId) (start len from at k : ℕ) → m ≡ Func id len start → IsSound m →
@@ -132,15 +114,9 @@ pub func_span : (m : Node) (s : Span) (id : SourceId) (start len from at k : ℕ
     ((lengths : Lengths) → (from + k ≤ length_at lengths id.0) × (from + k ≤ MAX_LEN) → SpanFitsIn lengths s) → IsSpanAt m at s
 func_span m s id start len from at k e sound f h some count bytes fits =
     let limit : (0 < len) × (start + len ≤ MAX_LEN) = rw e at sound in
-    let long : len_of m ≡ len = ap len_of e in
-    record {
-      some = omega (arith, count, some);
-      inside = omega (arith, count, long, h);
-      fits = λ lengths held. let held' : start + len ≤ length_at lengths id.0 = rw e at held in
-          fits lengths (omega (arith, held', f, h), omega (arith, limit.1, f, h));
-      text = λ t _. bytes t ∙ ap (λ (j : ℕ). take k (drop j (t id.0))) f ∙ sym (range_of_range (t id.0) at k start len h)
-          ∙ ap (λ (n : Node). take k (drop at (bytes_over t n))) (sym e) ∙ ap (λ (j : ℕ). take j (drop at (bytes_over t m))) (sym count);
-    }
+    range_span m s (λ t. t id.0) start len from at k (λ t. ap (λ (n : Node). bytes_over t n) e) (ap len_of e) f h some count bytes
+    (λ lengths held. let held' : start + len ≤ length_at lengths id.0 = rw e at held in
+    fits lengths (omega (arith, held', f, h), omega (arith, limit.1, f, h)))
 
 -- the place after it, as an end
 pub within_end : (n : Node) (place : ℕ) (m : Node) (at : ℕ) → IsWithin n place m at → IsWithin n (place + 1) m (at + 1)

@@ -1,81 +1,73 @@
 -- Comparisons by pieces: the first difference decides, and else the lengths.
-use Rattle.cord_search.proofs.Common.{AreSame, Bool, Equal, Greater, IsCommon, IsCord, IsOrderOf, IsPieceOf, IsReadable, IsSpanOf, Less, List, Node}
-use Rattle.cord_search.proofs.Common.{None, Option, Ordering, Some, Span, Table, [], ap, arith, bytes_of, cond, drop, drop-drop, eqb-true, exact_bytes, get_or}
-use Rattle.cord_search.proofs.Common.{false, if◌then◌else◌, length, length-drop, length-take-le, min, nat_cmp, range_of_range, refl}
-use Rattle.cord_search.proofs.Common.{slice_cmp, span_bytes, span_len, suc, sym, take, take-append-drop, take-take, take_all, text_len}
-use Rattle.cord_search.proofs.Common.{tied_itself, true, w8, zero, ℕ, ◌++◌, ◌+◌, ◌-◌, ◌<◌, ◌∙◌, ◌∷◌, ◌≡◌, ◌≢◌, ◌≤◌}
-use Rattle.std.proofs.Common.{◌==◌, to_z, of_z}
-use Rattle.std.specs.Prelude.{ℤ, pos, negsuc, nat_lt}
-use Rattle.std.specs.Ordering.{ordering_then, MatchOrdering}
-use Rattle.std.specs.Cmp.{ranked, nat_cmp_is, nat_cmp_total}
-use Rattle.std.proofs.lemmas.Bool.{ltb-false, eqb-false}
-use borrow.Author.Tests.{ltb-true}
+use Rattle.cord_search.proofs.Common.{AreSame, Equal, Greater, IsCommon, IsOrderOf, IsPartOf, IsPieceOf, IsReadable, IsReported, IsSpanOf, Lengths}
+use Rattle.cord_search.proofs.Common.{Less, List, Node, None, Option, Ordering, Some, Span, Table, [], ap, arith, bytes_of, drop, drop-drop}
+use Rattle.cord_search.proofs.Common.{exact_bytes, get_or, length, length-drop, length-take, length-take-le, min, nat_cmp, nat_list_cmp_total}
+use Rattle.cord_search.proofs.Common.{range_of_range, refl, slice_cmp, span_bytes, span_len, suc, sym, take, take-append-drop, take-take, take_all}
+use Rattle.cord_search.proofs.Common.{text_len, tied_itself, w8, zero, ℕ, ◌++◌, ◌+◌, ◌-◌, ◌<◌, ◌∙◌, ◌∷◌, ◌≡◌, ◌≤◌}
+use Rattle.std.proofs.Common.{of_z, to_z, ◌≢◌}
+use Rattle.std.proofs.lemmas.Bool.Decides.{nat_tests}
+use Rattle.std.proofs.lemmas.List.{take_rest}
+use Rattle.std.specs.Cmp.{nat_cmp_is}
+use Rattle.std.specs.Cmp.Derive.{then_next}
+use Rattle.std.specs.Ordering.{ordering_then}
+use Rattle.std.specs.Prelude.{ℤ}
+use Rattle.cord_core.proofs.CordLemmas.{range_min}
+use Rattle.cord_core.specs.Cord.{IsCord}
+use Rattle.cord_core.specs.Texts.{order}
 use Rattle.cord_io.specs.declared.TheConstants.{MAX_LEN}
 use Rattle.cord_node.proofs.TreeLemmas.{len_limit}
-use Rattle.cord_core.proofs.CordLemmas.{range_min}
-use Rattle.cord_core.specs.Texts.{order}
+use Rattle.cord_search.proofs.Finding.{range_at}
+use Rattle.cord_search.proofs.Ranges.{prefix_piece, take_on}
+use Rattle.cord_search.proofs.Reading.{fits_in, len_in}
+use Rattle.cord_search.proofs.Sharing.{same_on}
 use Rattle.cord_search.specs.inner.Pieces.{sign_of}
 use Rattle.cord_search.specs.inner.Spans.{IsOrderOfSpans}
-use Rattle.cord_search.specs.inner.Spans.{IsPartOf}
-use Rattle.cord_io.specs.Table.{Lengths}
-use Rattle.cord_search.proofs.Reading.{IsReported, fits_in, len_in}
-use Rattle.cord_search.proofs.Ranges.{prefix_piece, take_on}
-use Rattle.cord_search.proofs.Finding.{range_at}
-use Rattle.cord_search.proofs.Sharing.{same_on}
 
--- the next numbers have the same order
-nat_cmp_suc : (a b : ℕ) → nat_cmp a b ≡ nat_cmp (suc a) (suc b)
-nat_cmp_suc a b = nat_cmp_is (suc a) (suc b) (nat_cmp a b) (up (nat_cmp a b) (ranked a b (nat_cmp a b) refl))
-  where
-    up : (r : Ordering) → MatchOrdering r (a < b) (a ≡ b) (b < a) → MatchOrdering r (suc a < suc b) (suc a ≡ suc b) (suc b < suc a)
-    up Less h = omega arith
-    up Equal h = omega arith
-    up Greater h = omega arith
+-- an order that is none of equals decides
+decided : (r o : Ordering) → (r ≡ Equal → ⊥) → ordering_then r o ≡ r
+decided Less o not = refl
+decided Equal o not = absurd (not refl)
+decided Greater o not = refl
 
--- the same bytes in front
-cmp_prefix : (f u v : List ℕ) → slice_cmp nat_cmp (f ++ u) (f ++ v) ≡ slice_cmp nat_cmp u v
-cmp_prefix [] u v = refl
-cmp_prefix (b ∷ f) u v = ap (λ (r : Ordering). ordering_then r (slice_cmp nat_cmp (f ++ u) (f ++ v))) (tied_itself nat_cmp_total b) ∙ cmp_prefix f u v
+-- two texts in two parts: those in front decide, and then the others
+cmp_append : (xs ys us vs : List ℕ) → length xs ≡ length ys →
+    slice_cmp nat_cmp (xs ++ us) (ys ++ vs) ≡ ordering_then (slice_cmp nat_cmp xs ys) (slice_cmp nat_cmp us vs)
+cmp_append [] [] us vs e = refl
+cmp_append [] (c ∷ ys) us vs e = absurd (omega arith)
+cmp_append (b ∷ xs) [] us vs e = absurd (omega arith)
+cmp_append (b ∷ xs) (c ∷ ys) us vs e =
+    then_next (nat_cmp b c) (slice_cmp nat_cmp xs ys) (slice_cmp nat_cmp us vs) refl (ap (ordering_then (nat_cmp b c)) (cmp_append xs ys us vs (omega arith)))
+
+cmp_split : (n : ℕ) (xs ys : List ℕ) → length (take n xs) ≡ length (take n ys) →
+    slice_cmp nat_cmp xs ys ≡ ordering_then (slice_cmp nat_cmp (take n xs) (take n ys)) (slice_cmp nat_cmp (drop n xs) (drop n ys))
+cmp_split n xs ys e = ap (λ (zs : List ℕ). slice_cmp nat_cmp zs ys) (sym (take-append-drop n xs))
+    ∙ ap (slice_cmp nat_cmp (take n xs ++ drop n xs)) (sym (take-append-drop n ys)) ∙ cmp_append (take n xs) (take n ys) (drop n xs) (drop n ys) e
 
 -- the order of two texts is that of what comes after a prefix that both have
+cmp_rest : (n : ℕ) (xs ys : List ℕ) → take n xs ≡ take n ys → slice_cmp nat_cmp xs ys ≡ slice_cmp nat_cmp (drop n xs) (drop n ys)
+cmp_rest n xs ys e = cmp_split n xs ys (ap (λ (zs : List ℕ). length zs) e)
+    ∙ ap (λ (r : Ordering). ordering_then r (slice_cmp nat_cmp (drop n xs) (drop n ys)))
+    (ap (slice_cmp nat_cmp (take n xs)) (sym e) ∙ tied_itself nat_list_cmp_total (take n xs))
+
+-- also with ranges to their ends
 pub cmp_after : (xs ys : List ℕ) (n : ℕ) → take n xs ≡ take n ys →
     slice_cmp nat_cmp (take (length xs - n) (drop n xs)) (take (length ys - n) (drop n ys)) ≡ slice_cmp nat_cmp xs ys
-cmp_after xs ys n prefix =
-    let left = take_all (length xs - n) (drop n xs) (omega (arith, length-drop n xs)) in
-    let right = take_all (length ys - n) (drop n ys) (omega (arith, length-drop n ys)) in
-    ap (λ (zs : List ℕ). slice_cmp nat_cmp zs (take (length ys - n) (drop n ys))) left ∙ ap (slice_cmp nat_cmp (drop n xs)) right
-    ∙ sym (cmp_prefix (take n xs) (drop n xs) (drop n ys))
-    ∙ ap (λ (zs : List ℕ). slice_cmp nat_cmp zs (take n xs ++ drop n ys)) (take-append-drop n xs)
-    ∙ ap (λ (zs : List ℕ). slice_cmp nat_cmp xs (zs ++ drop n ys)) prefix ∙ ap (slice_cmp nat_cmp xs) (take-append-drop n ys)
-
--- a difference in front
-cmp_decided : (u v u' v' : List ℕ) (r : Ordering) → length u ≡ length v → slice_cmp nat_cmp u v ≡ r → (r ≡ Equal → ⊥) →
-    slice_cmp nat_cmp (u ++ u') (v ++ v') ≡ r
-cmp_decided [] [] u' v' r e h not = absurd (not (sym h))
-cmp_decided [] (c ∷ v) u' v' r e h not = absurd (omega arith)
-cmp_decided (b ∷ u) [] u' v' r e h not = absurd (omega arith)
-cmp_decided (b ∷ u) (c ∷ v) u' v' r e h not = pick (nat_cmp b c) h
-    (λ (k : slice_cmp nat_cmp u v ≡ r). cmp_decided u v u' v' r (omega arith) k not)
-  where
-    pick : (s : Ordering) → ordering_then s (slice_cmp nat_cmp u v) ≡ r →
-        (slice_cmp nat_cmp u v ≡ r → slice_cmp nat_cmp (u ++ u') (v ++ v') ≡ r) → ordering_then s (slice_cmp nat_cmp (u ++ u') (v ++ v'))
-        ≡ r
-    pick Less h ih = h
-    pick Equal h ih = ih h
-    pick Greater h ih = h
+cmp_after xs ys n prefix = rw (take_rest xs n, take_rest ys n) (sym (cmp_rest n xs ys prefix))
 
 -- one text is a prefix of the other: their lengths decide
 cmp_lengths : (xs ys : List ℕ) (m : ℕ) → min (length xs) (length ys) ≤ m → take m xs ≡ take m ys →
     nat_cmp (length xs) (length ys) ≡ slice_cmp nat_cmp xs ys
-cmp_lengths [] [] m h e = refl
-cmp_lengths [] (c ∷ ys) m h e = sym (nat_cmp_is 0 (suc (length ys)) Less (omega arith))
-cmp_lengths (b ∷ xs) [] m h e = sym (nat_cmp_is (suc (length xs)) 0 Greater (omega arith))
-cmp_lengths (b ∷ xs) (c ∷ ys) zero h e = absurd (omega arith)
-cmp_lengths (b ∷ xs) (c ∷ ys) (suc m) h e =
-    let one : b ≡ c = cc e in
-    let two : take m xs ≡ take m ys = cc e in
-    sym (nat_cmp_suc (length xs) (length ys)) ∙ cmp_lengths xs ys m (omega arith) two
-    ∙ sym (ap (λ (r : Ordering). ordering_then r (slice_cmp nat_cmp xs ys)) (ap (λ (k : ℕ). nat_cmp k c) one ∙ tied_itself nat_cmp_total c))
+cmp_lengths xs ys m h e = pick (drop m xs) (drop m ys) (length-drop m xs) (length-drop m ys) ∙ sym (cmp_rest m xs ys e)
+  where
+    same : min m (length xs) ≡ min m (length ys)
+    same = sym (length-take m xs) ∙ ap (λ (zs : List ℕ). length zs) e ∙ length-take m ys
+
+    pick : (us vs : List ℕ) → length us ≡ length xs - m → length vs ≡ length ys - m →
+        nat_cmp (length xs) (length ys) ≡ slice_cmp nat_cmp us vs
+    pick [] [] p q = sym (nat_cmp_is (length xs) (length ys) Equal (omega (arith, same, p, q)))
+    pick [] (c ∷ vs) p q = sym (nat_cmp_is (length xs) (length ys) Less (omega (arith, same, p, q)))
+    pick (b ∷ us) [] p q = sym (nat_cmp_is (length xs) (length ys) Greater (omega (arith, same, p, q)))
+    pick (b ∷ us) (c ∷ vs) p q = absurd (omega (arith, h, p, q))
 
 -- the prefix of a piece, as a range of what is compared
 pub piece_prefix : (x piece : List ℕ) (i done n : ℕ) → piece ≡ take (length piece) (drop (i + done) x) → n ≤ length piece →
@@ -95,17 +87,8 @@ apart : (u v : List ℕ) (done n : ℕ) (r : Ordering) → length (take n (drop 
     r ≡ slice_cmp nat_cmp (take n (drop done u)) (take n (drop done v)) → (r ≡ Equal → ⊥) → take done u ≡ take done v →
     r ≡ slice_cmp nat_cmp u v
 apart u v done n r l h not s =
-    let rest = drop n (drop done u) in
-    let other = drop n (drop done v) in
-    sym (ap (λ (zs : List ℕ). slice_cmp nat_cmp zs v) (split u)
-    ∙ ap (slice_cmp nat_cmp (take done u ++ (take n (drop done u) ++ rest))) (split v)
-    ∙ ap (λ (zs : List ℕ). slice_cmp nat_cmp (zs ++ (take n (drop done u) ++ rest)) (take done v ++ (take n (drop done v) ++ other))) s
-    ∙ cmp_prefix (take done v) (take n (drop done u) ++ rest) (take n (drop done v) ++ other)
-    ∙ cmp_decided (take n (drop done u)) (take n (drop done v)) rest other r l (sym h) not)
-  where
-    split : (xs : List ℕ) → xs ≡ take done xs ++ (take n (drop done xs) ++ drop n (drop done xs))
-    split xs = sym (take-append-drop done xs)
-        ∙ ap (λ (zs : List ℕ). take done xs ++ zs) (sym (take-append-drop n (drop done xs)))
+    let rest = slice_cmp nat_cmp (drop n (drop done u)) (drop n (drop done v)) in
+    sym (cmp_rest done u v s ∙ cmp_split n (drop done u) (drop done v) l ∙ ap (λ (o : Ordering). ordering_then o rest) (sym h) ∙ decided r rest not)
 
 -- the next n bytes of two texts
 module _ (u v : List ℕ) (done n : ℕ) (xs ys : List ℕ) (same : take done u ≡ take done v) (e : xs ≡ take (length xs) (drop done u))
@@ -194,17 +177,7 @@ pub order_sign : (xs ys : List ℕ) → sign_of (slice_cmp nat_cmp xs ys) ≡ or
 order_sign [] [] = refl
 order_sign [] (c ∷ ys) = refl
 order_sign (b ∷ xs) [] = refl
-order_sign (b ∷ xs) (c ∷ ys) = pick (nat_lt b c) (nat_lt c b) (b == c) refl refl refl (order_sign xs ys)
-  where
-    pick : (v w e : Bool) → nat_lt b c ≡ v → nat_lt c b ≡ w → (b == c) ≡ e → sign_of (slice_cmp nat_cmp xs ys) ≡ order xs ys →
-        sign_of (ordering_then (cond v Less (cond e Equal Greater)) (slice_cmp nat_cmp xs ys))
-        ≡ (if v then negsuc 0 else if w then pos 1 else order xs ys)
-    pick true w e p q r ih = refl
-    pick false true true p q r ih = let more : c < b = ltb-true c b q in let same : b ≡ c = eqb-true b c r in absurd (omega arith)
-    pick false true false p q r ih = refl
-    pick false false true p q r ih = ih
-    pick false false false p q r ih = let one : c ≤ b = ltb-false b c p in let two : b ≤ c = ltb-false c b q in let e : b ≡ c =
-        omega arith in absurd (eqb-false b c r e)
+order_sign (b ∷ xs) (c ∷ ys) = grind (arith, nat_tests, order_sign xs ys)
 
 -- a number that tells an order fits its type
 signed : (r : Ordering) → to_z w8 (of_z w8 (sign_of r)) ≡ sign_of r

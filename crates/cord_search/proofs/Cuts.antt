@@ -1,14 +1,14 @@
 -- Places of a text in the first bytes of another.
-use Rattle.cord_search.proofs.Common.{Ghosts, IfOk, IfSome, IsAnswer, IsPieceOf, IsReadable, List, Node, None, Ok}
-use Rattle.cord_search.proofs.Common.{Option, OverTables, Result, Shows, Some, StandsAt, StandsNot, Table, ap, append_assoc, arith}
-use Rattle.cord_search.proofs.Common.{bytes_of, cases_lt, drop, first, length, length-take, min, subst, sym, take, take-append-drop}
-use Rattle.cord_search.proofs.Common.{take_all, take_min, text_len, ℕ, ⊎_elim, ◌++◌, ◌+◌, ◌-◌, ◌<◌, ◌∙◌, ◌≡◌, ◌≤◌}
-use Rattle.std.proofs.lemmas.List.{drop-take, drop-append-le}
+use Rattle.cord_search.proofs.Common.{Ghosts, IfOk, IfSome, IsAnswer, IsPieceOf, IsReadable, IsReported, Lengths, List, Node, None, Ok, Option}
+use Rattle.cord_search.proofs.Common.{Result, Shows, Some, StandsAt, StandsNot, Table, ap, append_assoc, arith, bytes_of, cases_lt, drop, first}
+use Rattle.cord_search.proofs.Common.{length, length-take, min, sym, take, take-append-drop, take_all, take_min, text_len, ℕ, ⊎_elim, ◌++◌, ◌+◌, ◌-◌}
+use Rattle.cord_search.proofs.Common.{◌<◌, ◌∙◌, ◌≡◌, ◌≤◌}
+use Rattle.std.proofs.lemmas.List.{drop-append-le, drop-take}
 use Rattle.cord_node.proofs.Ranges.{take-append_right}
-use Rattle.cord_search.specs.inner.Searches.{FindsBytesIn, FindsText}
-use Rattle.cord_search.proofs.Reading.{ReportsLengths, answered, len_in, shown_once, shown_so, shown_with}
 use Rattle.cord_search.proofs.Finding.{first_is, first_only}
-use Rattle.cord_search.proofs.Standing.{stands_inside, prefix_stands}
+use Rattle.cord_search.proofs.Reading.{answered, len_in, shown_once, shown_so}
+use Rattle.cord_search.proofs.Standing.{prefix_stands, stands_inside}
+use Rattle.cord_search.specs.inner.Searches.{Finds}
 
 -- as many bytes as there are
 pub take_limit : (t : Table) (x : Option Node) (end n e : ℕ) → length (bytes_of t x) ≡ text_len x → n ≡ text_len x → e ≡ min end n →
@@ -71,9 +71,10 @@ module _ (xs s : List ℕ) (e : ℕ) where
         least q low (stands_cut q fits at)
 
 -- the first bytes, where they are all
-pub whole_found : {E : Type 0} (xs s : List ℕ) (i n : ℕ) (r : Result (Option ℕ) E) → length xs ≤ n →
-    IfOk r (λ place. place ≡ first (take n xs) i s) → IfOk r (λ place. place ≡ first xs i s)
-whole_found xs s i n r all h = subst (λ (ys : List ℕ). IfOk r (λ place. place ≡ first ys i s)) (take_all n xs all) h
+pub whole_found : {E : Type 0} {lengths : Lengths} {t : Table} {x : Option Node} {n : ℕ} (s : List ℕ) (i : ℕ) (r : Result (Option ℕ) E) →
+    IsReported lengths t → IsReadable lengths x → n ≡ text_len x → IfOk r (λ place. place ≡ first (take n (bytes_of t x)) i s) →
+    IfOk r (λ place. place ≡ first (bytes_of t x) i s)
+whole_found {t = t} {x = x} {n = n} s i r held readable all h = rw (take_all n (bytes_of t x) (omega (arith, len_in held readable, all))) at h
 
 -- no place is left
 pub none_within : (t : Table) (x : Option Node) (s : List ℕ) (start place e : ℕ) → e < place + length s → StandsNot t x s start place →
@@ -93,38 +94,26 @@ prefix_none t x s start place e head is f none =
     ⊎_elim (λ (lt : k < place). none k low lt (stands_whole xs (bytes_of t s) e k at))
     (λ (le : place ≤ k). least k le (prefix_stands (take e xs) (bytes_of t s) head k f at)) (cases_lt k place))
 
-module _ {S E : Type 0} {s : Ghosts S} {a b : S} (x : Option Node) (xs : List ℕ) (end start place : ℕ) where
-  -- where bytes stand first, if they end in the first bytes
-  pub found_in : Shows s a b (λ t. Some place ≡ first (bytes_of t x) start xs) → start ≤ place → place + length xs ≤ end →
-      FindsBytesIn {E = E} s a b x start end xs (Ok (Some place))
+module _ {S E : Type 0} {s : Ghosts S} {a b : S} (x : Option Node) (text : Table → List ℕ) (end start place : ℕ) {n : ℕ}
+    (len : (t : Table) → IsReported (s.lengths a) t → length (text t) ≡ n) where
+  -- where a text stands first, if it ends in the first bytes
+  pub found_in : Shows s a b (λ t. Some place ≡ first (bytes_of t x) start (text t)) → start ≤ place → place + n ≤ end →
+      Finds {E = E} s a b x start end n text (Ok (Some place))
   found_in found low fits = answered (record { from = low; within = fits })
-      (shown_so found (λ t is. first_within (bytes_of t x) xs end start place fits is))
+      (shown_so found (λ t held is. first_within (bytes_of t x) (text t) end start place (omega (arith, len t held, fits)) is))
 
-  -- or they stand nowhere up to a place past them
-  pub nowhere_in : Shows s a b (λ t. StandsNot t x xs start place) → end < place + length xs →
-      FindsBytesIn {E = E} s a b x start end xs (Ok None)
+  -- or it stands nowhere up to a place past them
+  pub nowhere_in : Shows s a b (λ t. StandsNot t x (text t) start place) → end < place + n →
+      Finds {E = E} s a b x start end n text (Ok None)
   nowhere_in none past = answered (record { from = tt; within = tt })
-      (shown_so none (λ t none. none_within t x xs start place end past none))
-
--- the same of the text of another cord
-module _ {S E : Type 0} {s : Ghosts S} {a b : S} (x text : Option Node) (end start place : ℕ) where
-  pub found_text : Shows s a b (λ t. Some place ≡ first (bytes_of t x) start (bytes_of t text)) → ReportsLengths s →
-      IsReadable (s.lengths a) text → start ≤ place → place + text_len text ≤ end → FindsText {E = E} s a b x start end text (Ok (Some place))
-  found_text found reported readable low fits = answered (record { from = low; within = fits }) (shown_with found reported (λ t held is.
-      first_within (bytes_of t x) (bytes_of t text) end start place (omega (arith, len_in held readable, fits)) is))
-
-  pub nowhere_text : Shows s a b (λ t. StandsNot t x (bytes_of t text) start place) → ReportsLengths s → IsReadable (s.lengths a) text →
-      end < place + text_len text → FindsText {E = E} s a b x start end text (Ok None)
-  nowhere_text none reported readable past = answered (record { from = tt; within = tt }) (shown_with none reported (λ t held none.
-      none_within t x (bytes_of t text) start place end (omega (arith, len_in held readable, past)) none))
+      (shown_so none (λ t held none. none_within t x (text t) start place end (omega (arith, len t held, past)) none))
 
 -- what was found in as many of the first bytes as there are
 pub cut_found : {S E : Type 0} {s : Ghosts S} {a b : S} {Q : Option ℕ → Type 0} {r : Option ℕ} {n e : ℕ} (x : Option Node)
     (text : Table → List ℕ) (end start : ℕ) → IsAnswer {E = E} s a b (Ok r) Q (λ t found. found ≡ first (take e (bytes_of t x)) start (text t)) →
-    ReportsLengths s → IsReadable (s.lengths a) x → n ≡ text_len x → e ≡ min end n →
-    OverTables s a b (λ t. r ≡ first (take end (bytes_of t x)) start (text t))
-cut_found {n = n} {e = e} x text end start h reported readable is cut = (shown_once h reported (λ t held found.
-    found ∙ ap (λ (ys : List ℕ). first ys start (text t)) (take_limit t x end n e (len_in held readable) is cut))).text
+    IsReadable (s.lengths a) x → n ≡ text_len x → e ≡ min end n → Shows s a b (λ t. r ≡ first (take end (bytes_of t x)) start (text t))
+cut_found {n = n} {e = e} x text end start h readable is cut = shown_once h (λ t held found.
+    found ∙ ap (λ (ys : List ℕ). first ys start (text t)) (take_limit t x end n e (len_in held readable) is cut))
 
 -- what ends before a place ends before a later one
 pub ends_within : (r : Option ℕ) (n a b : ℕ) → a ≤ b → IfSome r (λ place. place + n ≤ a) → IfSome r (λ place. place + n ≤ b)

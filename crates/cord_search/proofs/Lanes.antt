@@ -1,10 +1,10 @@
 -- Bytes that are compared many at a time.
-use Rattle.cord_search.proofs.Common.{List, [], ap, arith, cond, eqb-true, false, length, map, refl, sym, true, w8, ℕ, ◌∙◌, ◌∷◌, ◌≡◌}
-use Rattle.std.proofs.Common.{◌%◌, ◌^◌, eqb}
-use Rattle.std.specs.Prelude.{not, nat_eq}
-use Rattle.std.specs.Simd.Lanes.{zip2, mask_l, top}
-use Rattle.std.proofs.lemmas.Bool.{not-true, not-false}
-use Rattle.std.proofs.lemmas.Simd.{tops_compared, mask_l-mod, length-zip2}
+use Rattle.cord_search.proofs.Common.{List, [], ap, arith, eqb-true, false, length, map, refl, sym, true, w8, ℕ, ◌∙◌, ◌∷◌, ◌≡◌}
+use Rattle.std.proofs.Common.{cond, eqb, ◌%◌, ◌^◌}
+use Rattle.std.proofs.lemmas.Bool.{not-false, not-true}
+use Rattle.std.proofs.lemmas.Simd.{length-zip2, mask_l-mod, tops_compared}
+use Rattle.std.specs.Prelude.{nat_eq, not}
+use Rattle.std.specs.Simd.Lanes.{mask_l, top, zip2}
 
 -- no bit is set where the bytes are the same ones
 same_lanes : (xs ys : List ℕ) → length xs ≡ length ys → mask_l (zip2 (λ a b. not (eqb a b)) xs ys) ≡ 0 → xs ≡ ys

@@ -1,13 +1,14 @@
 -- The last place of a text in another, by searches from the back.
-use Rattle.cord_search.proofs.Common.{Bool, IfSome, IsFirst, IsLastSoFar, List, Node, None, Option, Some, StandsAt, StandsNot, Table, []}
-use Rattle.cord_search.proofs.Common.{ap, arith, bytes_of, cases_lt, drop, eq-eqb, false, first, first_is_least, if◌then◌else◌, length, min}
-use Rattle.cord_search.proofs.Common.{refl, subst, suc, sym, take, true, zero, ℕ, ⊎_elim, ◌++◌, ◌+◌, ◌-◌, ◌<◌, ◌∙◌, ◌∷◌, ◌≡◌, ◌≤◌}
+use Rattle.cord_search.proofs.Common.{Bool, IfSome, IsFirst, IsLastSoFar, List, Node, None, Option, Some, StandsAt, StandsNot, Table, [], ap, arith}
+use Rattle.cord_search.proofs.Common.{bytes_of, cases_lt, drop, eq-eqb, false, first, first_is_least, length, min, refl, subst, suc, sym, take, true}
+use Rattle.cord_search.proofs.Common.{zero, ℕ, ⊎_elim, ◌++◌, ◌+◌, ◌-◌, ◌<◌, ◌∙◌, ◌∷◌, ◌≡◌, ◌≤◌}
 use Rattle.std.proofs.Math.Dec.{leb-zero}
 use Rattle.std.proofs.lemmas.Bool.{false≢true}
+use Rattle.std.specs.Prelude.{if◌then◌else◌}
 use Rattle.cord_core.specs.Texts.{begins_with, first_from}
-use Rattle.cord_search.specs.LastTexts.{last_below, last_text, IsLastBelow}
+use Rattle.cord_search.proofs.Cuts.{first_nowhere, first_stands}
 use Rattle.cord_search.proofs.Finding.{nowhere_on}
-use Rattle.cord_search.proofs.Cuts.{first_stands, first_nowhere}
+use Rattle.cord_search.specs.LastTexts.{IsLastBelow, last_below, last_text}
 
 -- a text that begins with s has it at its front
 begun : (y s : List ℕ) → begins_with y s ≡ true → StandsAt y s 0

@@ -11,3 +11,4 @@ pub mod Moving
 pub mod Cuts
 pub mod Lasts
 pub mod Reading
+pub mod Lemmas

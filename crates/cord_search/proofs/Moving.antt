@@ -1,9 +1,9 @@
 -- What a position has at the place to which it was moved.
 use Rattle.cord_search.proofs.Common.{IsSpanUpTo, Node, None, Option, Some, Span, arith, false, refl, text_len, true, ℕ, ◌+◌, ◌-◌, ◌<◌, ◌≡◌}
-use Rattle.cord_pos.specs.Spans.{EndsAt}
 use Rattle.std.specs.Prelude.{IsSome}
-use Rattle.cord_pos.specs.Position.{index_at, moved_index}
 use Rattle.cord_pos.proofs.Standings.{index_inside}
+use Rattle.cord_pos.specs.Position.{index_at, moved_index}
+use Rattle.cord_pos.specs.Spans.{EndsAt}
 
 -- an index of the cord is one
 pub set_valid : (c : Option Node) (i : ℕ) → i < text_len c → IsSome (index_at c i)

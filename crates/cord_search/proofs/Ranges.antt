@@ -1,16 +1,13 @@
 -- Where spans and pieces stand in the text of a cord.
-use Rattle.cord_search.proofs.Common.{CordFitsIn, IsPieceOf, IsSpanOf, IsSpanUpTo, List, Node, None, Option, Some, Span}
-use Rattle.cord_search.proofs.Common.{Table, ap, arith, bytes_of, drop, length, length-take, length_at, range_of_range, replicate}
-use Rattle.cord_search.proofs.Common.{span_bytes, span_len, sym, take, take-add, take-take, take_all, take_min, ℕ, ◌++◌, ◌+◌, ◌-◌, ◌<◌, ◌∙◌}
-use Rattle.cord_search.proofs.Common.{◌≡◌, ◌≤◌}
-use Rattle.std.proofs.Common.{Bor}
-use Rattle.std.specs.Prelude.{unwrap_or, IsSomeAnd}
+use Rattle.cord_search.proofs.Common.{Bor, CordFitsIn, IsPartOf, IsPieceOf, IsReadable, IsReported, IsSpanOf, IsSpanUpTo, Lengths, List, Node, None}
+use Rattle.cord_search.proofs.Common.{Option, Some, Span, Table, ap, arith, bytes_of, drop, length, length-drop, length-take, length-take-le}
+use Rattle.cord_search.proofs.Common.{length_at, range_of_range, replicate, span_bytes, span_len, sym, take, take-add, take-take, take_all, take_min}
+use Rattle.cord_search.proofs.Common.{ℕ, ◌++◌, ◌+◌, ◌-◌, ◌<◌, ◌∙◌, ◌≡◌, ◌≤◌}
 use Rattle.std.proofs.lemmas.List.{drop-replicate, take-replicate}
-use Rattle.cord_io.specs.Table.{Lengths}
+use Rattle.std.specs.Prelude.{IsSomeAnd, unwrap_or}
 use Rattle.cord_io.specs.declared.SourceId.{SourceId}
-use Rattle.cord_pos.specs.declared.span.Span.TheVariants.{Bytes, Run, Func}
-use Rattle.cord_search.specs.inner.Spans.{IsPartOf}
-use Rattle.cord_search.proofs.Reading.{IsReported, fits_in}
+use Rattle.cord_pos.specs.declared.span.Span.TheVariants.{Bytes, Func, Run}
+use Rattle.cord_search.proofs.Reading.{fits_in, len_in}
 
 -- a range is its own first bytes
 own_range : (xs ys : List ℕ) (k : ℕ) → xs ≡ take k ys → xs ≡ take (length xs) ys
@@ -85,3 +82,14 @@ pub end_piece : {lengths : Lengths} {t : Table} {c : Option Node} {end : ℕ} {s
     IsPieceOf t c (end - length xs) xs
 end_piece {end = end} {span = span} held h fits xs inside part = part_piece held h.span fits xs (span_len span - length xs)
     (end - length xs) (omega (arith, inside)) (omega (arith, inside, h.inside)) part
+
+-- a span is a piece of the text, and as long as it says
+pub span_piece : {lengths : Lengths} {t : Table} {c : Option Node} {place : ℕ} {span : Span} → IsReported lengths t → IsReadable lengths c →
+    IsSpanOf c place span → IsPieceOf t c place (span_bytes t span) × (length (span_bytes t span) ≡ span_len span)
+span_piece {t = t} {c = c} {place = place} {span = span} held readable h =
+    let text = h.text t (fits_in c held readable.fits) in
+    let rest = drop place (bytes_of t c) in (
+      own_range (span_bytes t span) rest (span_len span) text,
+      ap (λ (ys : List ℕ). length ys) text ∙ length-take-le (span_len span) rest
+          (omega (arith, h.inside, len_in held readable, length-drop place (bytes_of t c))),
+    )

@@ -1,21 +1,18 @@
 -- One read of a source after another, and what is so over its tables.
-use Rattle.cord_search.proofs.Common.{CordFits, CordFitsIn, Ghosts, IfOk, IsAnswer, IsReadable, IsSpanOf, Node, Ok, Option, OverTables, Shows}
-use Rattle.cord_search.proofs.Common.{Result, Span, Table, WasRead, ap, bytes_of, cord_len, length, refl, subst, sym, text_len, ℕ, ◌∙◌, ◌≡◌}
+use Rattle.cord_search.proofs.Common.{Bool, CordFits, CordFitsIn, Ghosts, IfOk, IsAnswer, IsReadable, IsReported, IsSpanOf, Lengths, Node, Ok, Option}
+use Rattle.cord_search.proofs.Common.{Result, Shows, Span, Table, ap, bytes_of, false, length, refl, text_len, ℕ, ◌∙◌, ◌≡◌}
 use Rattle.std.proofs.Common.{Err}
-use Rattle.std.specs.Prelude.{is_err, ⊤}
-use Rattle.cord_io.specs.Device.{FileSystem, count_after}
-use Rattle.cord_io.specs.Table.{HasLengths, Lengths}
+use Rattle.std.specs.Prelude.{⊤}
 use Rattle.cord_core.proofs.OverLemmas.{CordFits-reported}
+use Rattle.cord_io.specs.Device.{FileSystem, count_after}
+use Rattle.cord_io.specs.Table.{HasLengths}
+use Rattle.cord_iter.proofs.Backs.{cord_len}
 use Rattle.cord_pos.specs.Spans.{SpanFitsIn}
 use Rattle.cord_search.specs.inner.Searches.{HasRead}
 
 -- the text of each source is as long as was reported
 abbrev pub ReportsLengths : {S : Type 0} → Ghosts S → Type 0
 ReportsLengths {S} s = (a : S) (file_system : FileSystem) → s.consistent a file_system → HasLengths (s.lengths a) (s.table a file_system)
-
--- so it is in this table
-pub record IsReported (lengths : Lengths) (t : Table) : Type 0 where
-  pub lens : HasLengths lengths t
 
 -- the function parts of a cord lie inside the texts of their sources
 pub fits_in : {lengths : Lengths} {t : Table} (c : Option Node) → IsReported lengths t → CordFitsIn lengths c → CordFits t c
@@ -31,104 +28,89 @@ nothing (Ok x) = tt
 nothing (Err e) = tt
 
 module _ {S : Type 0} {s : Ghosts S} where
-  -- none yet
-  pub not_read : {a : S} → WasRead s a a
-  not_read = record { reads = refl; lengths = refl; table = refl; earlier = λ file_system agrees. agrees }
+  -- no read yet
+  pub not_read : {a : S} → HasRead s a a false
+  not_read = record { count = refl; lengths = refl; table = refl; earlier = λ file_system agrees. agrees }
 
-  -- one more
-  pub read_on : {A E : Type 0} {a b c : S} {x : A} → WasRead s a b → HasRead {E = E} s b c (Ok x) → WasRead s a c
-  read_on v w = record {
-    reads = w.count ∙ v.reads;
+  -- and one more
+  pub read_on : {failed : Bool} {a b c : S} → HasRead s a b false → HasRead s b c failed → HasRead s a c failed
+  read_on {failed} v w = record {
+    count = w.count ∙ ap (λ (n : ℕ). count_after failed n) v.count;
     lengths = w.lengths ∙ v.lengths;
     table = w.table ∙ v.table;
     earlier = λ file_system agrees. v.earlier file_system (w.earlier file_system agrees);
   }
 
-  -- the first
-  pub read_once : {A E : Type 0} {a b : S} {x : A} → HasRead {E = E} s a b (Ok x) → WasRead s a b
-  read_once w = record { reads = w.count; lengths = w.lengths; table = w.table; earlier = w.earlier }
-
-  -- an answer that is read after them
-  pub answer_on : {A E : Type 0} {a b c : S} {r : Result A E} {Q : A → Type 0} {P : Table → A → Type 0} → WasRead s a b →
+  -- an answer that is read after others
+  pub answer_on : {A E : Type 0} {a b c : S} {r : Result A E} {Q : A → Type 0} {P : Table → A → Type 0} → HasRead s a b false →
       IsAnswer s b c r Q P → IsAnswer s a c r Q P
-  answer_on {r = r} {P = P} v w = record {
+  answer_on v w = record {
     always = w.always;
-    text = λ file_system agrees. subst (λ (u : FileSystem → Table). IfOk r (P (u file_system))) v.table (w.text file_system agrees);
-    read = record {
-      count = w.read.count ∙ ap (λ (n : ℕ). count_after (is_err r) n) v.reads;
-      lengths = w.read.lengths ∙ v.lengths;
-      table = w.read.table ∙ v.table;
-      earlier = λ file_system agrees. v.earlier file_system (w.read.earlier file_system agrees);
-    };
+    text = λ file_system agrees. rw (v.lengths, v.table) at w.text file_system agrees;
+    read = read_on v w.read;
   }
 
   -- an answer to all of them
   pub answered : {A E : Type 0} {a b : S} {x : A} {Q : A → Type 0} {P : Table → A → Type 0} → Q x → Shows s a b (λ t. P t x) →
       IsAnswer {E = E} s a b (Ok x) Q P
-  answered always shows = record {
-    always = always;
-    text = shows.text;
-    read = record { count = shows.read.reads; lengths = shows.read.lengths; table = shows.read.table; earlier = shows.read.earlier };
+  answered always shows = record { always = always; text = shows.text; read = shows.read }
+
+  -- what follows from an answer
+  pub answer_so : {A E : Type 0} {a b : S} {r : Result A E} {Q R : A → Type 0} {P T : Table → A → Type 0} → IsAnswer s a b r Q P →
+      ((x : A) → Q x → R x × ((t : Table) → P t x → T t x)) → IsAnswer s a b r R T
+  answer_so {a = a} {r = Ok x} w so = record {
+    always = (so x w.always).0;
+    text = λ file_system agrees held. (so x w.always).1 (s.table a file_system) (w.text file_system agrees held);
+    read = w.read;
   }
+  answer_so {r = Err e} w so = record { always = tt; text = λ file_system agrees held. tt; read = w.read }
 
   -- what is so over the tables of the first source is so over those of the last
   pub shown_new : {a b : S} {P : Table → Type 0} → Shows s a b P → Shows s b b P
-  shown_new {P = P} shows = record {
+  shown_new shows = record {
     read = not_read;
-    text = λ file_system agrees.
-        subst (λ (u : FileSystem → Table). P (u file_system)) (sym shows.read.table) (shows.text file_system agrees);
+    text = λ file_system agrees. rw (shows.read.lengths, shows.read.table) (shows.text file_system agrees);
   }
 
   -- spans of a cord that fits fit
-  pub span_fits : {a b : S} {c : Option Node} {place : ℕ} {span : Span} → WasRead s a b → IsSpanOf c place span → CordFitsIn (s.lengths a) c →
-      SpanFitsIn (s.lengths b) span
+  pub span_fits : {a b : S} {c : Option Node} {place : ℕ} {span : Span} → HasRead s a b false → IsSpanOf c place span →
+      CordFitsIn (s.lengths a) c → SpanFitsIn (s.lengths b) span
   span_fits {a = a} v h fits = rw v.lengths (h.fits (s.lengths a) fits)
 
+  -- what was shown is so where each text is as long as was reported
+  pub shown_over : {a b : S} {P : Table → Type 0} → Shows s a b P → ReportsLengths s → (file_system : FileSystem) →
+      s.consistent b file_system → P (s.table a file_system)
+  shown_over {a = a} shows reported file_system agrees =
+      shows.text file_system agrees (record { lens = reported a file_system (shows.read.earlier file_system agrees) })
+
   -- what holds of each table
-  pub shown : {a b : S} {R : Table → Type 0} → WasRead s a b → ((t : Table) → R t) → Shows s a b R
+  pub shown : {a b : S} {R : Table → Type 0} → HasRead s a b false → ((t : Table) → IsReported (s.lengths a) t → R t) → Shows s a b R
   shown {a = a} read all = record { read = read; text = λ file_system agrees. all (s.table a file_system) }
 
-  pub no_read : {a : S} → Shows s a a (λ _. ⊤)
-  no_read = shown not_read (λ t. tt)
-
   -- what follows from what was shown
-  pub shown_so : {a b : S} {P R : Table → Type 0} → Shows s a b P → ((t : Table) → P t → R t) → Shows s a b R
+  pub shown_so : {a b : S} {P R : Table → Type 0} → Shows s a b P → ((t : Table) → IsReported (s.lengths a) t → P t → R t) → Shows s a b R
   shown_so {a = a} shows so = record {
     read = shows.read;
-    text = λ file_system agrees. so (s.table a file_system) (shows.text file_system agrees);
+    text = λ file_system agrees held. so (s.table a file_system) held (shows.text file_system agrees held);
   }
 
-  reported_in : {a b : S} → WasRead s a b → ReportsLengths s → OverTables s a b (IsReported (s.lengths a))
-  reported_in {a = a} v reported = λ file_system agrees. record { lens = reported a file_system (v.earlier file_system agrees) }
-
-  -- with what was shown
-  pub shown_with : {a b : S} {P R : Table → Type 0} → Shows s a b P → ReportsLengths s → ((t : Table) → IsReported (s.lengths a) t → P t → R t) →
-      Shows s a b R
-  shown_with {a = a} shows reported so = record {
-    read = shows.read;
-    text = λ file_system agrees.
-        so (s.table a file_system) (reported_in shows.read reported file_system agrees) (shows.text file_system agrees);
-  }
-
-  -- by one read
+  -- with an answer
   pub shown_once : {A E : Type 0} {a b : S} {x : A} {Q : A → Type 0} {T : Table → A → Type 0} {R : Table → Type 0} →
-      IsAnswer {E = E} s a b (Ok x) Q T → ReportsLengths s → ((t : Table) → IsReported (s.lengths a) t → T t x → R t) → Shows s a b R
-  shown_once w reported so = shown_with (record { read = read_once w.read; text = w.text }) reported so
+      IsAnswer {E = E} s a b (Ok x) Q T → ((t : Table) → IsReported (s.lengths a) t → T t x → R t) → Shows s a b R
+  shown_once w so = shown_so (record { read = w.read; text = w.text }) so
 
-  -- and by one more
+  -- with one more
   pub shown_on : {A E : Type 0} {a b c : S} {x : A} {Q : A → Type 0} {T : Table → A → Type 0} {P R : Table → Type 0} → Shows s a b P →
-      IsAnswer {E = E} s b c (Ok x) Q T → ReportsLengths s → ((t : Table) → IsReported (s.lengths a) t → P t → T t x → R t) → Shows s a c R
-  shown_on {a = a} shows w reported so =
-      let read = read_on shows.read w.read in
-      record {
-        read = read;
-        text = λ file_system agrees. so (s.table a file_system) (reported_in read reported file_system agrees)
-            (shows.text file_system (w.read.earlier file_system agrees)) ((answer_on shows.read w).text file_system agrees);
-      }
+      IsAnswer {E = E} s b c (Ok x) Q T → ((t : Table) → IsReported (s.lengths a) t → P t → T t x → R t) → Shows s a c R
+  shown_on {a = a} shows w so = let on = answer_on shows.read w in record {
+    read = on.read;
+    text = λ file_system agrees held. so (s.table a file_system) held (shows.text file_system (w.read.earlier file_system agrees) held)
+        (on.text file_system agrees held);
+  }
 
-  -- or by two
+  -- and with two
   pub shown_by : {A B E F : Type 0} {a b c d : S} {x : A} {y : B} {Q : A → Type 0} {V : B → Type 0} {T : Table → A → Type 0}
       {U : Table → B → Type 0} {P R : Table → Type 0} → Shows s a b P → IsAnswer {E = E} s b c (Ok x) Q T → IsAnswer {E = F} s c d (Ok y) V U →
-      ReportsLengths s → ((t : Table) → IsReported (s.lengths a) t → P t → T t x → U t y → R t) → Shows s a d R
-  shown_by {x = x} {T = T} {P = P} shows v w reported so =
-      shown_on (shown_on {R = λ t. P t × T t x} shows v reported (λ t held p q. (p, q))) w reported (λ t held both. so t held both.0 both.1)
+      ((t : Table) → IsReported (s.lengths a) t → P t → T t x → U t y → R t) → Shows s a d R
+  shown_by {x = x} {T = T} {P = P} shows v w so =
+      shown_on (shown_on {R = λ t. P t × T t x} shows v (λ t held p q. (p, q))) w (λ t held both. so t held both.0 both.1)

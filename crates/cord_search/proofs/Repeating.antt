@@ -1,10 +1,9 @@
 -- Texts that repeat themselves stand at few places of one another.
-use Rattle.cord_search.proofs.Common.{AreSame, IsCommon, IsReadable, List, Node, Option, StandsAt, StandsNot, Table, [], ap, arith, bytes_of}
-use Rattle.cord_search.proofs.Common.{cases_lt, drop, get_or, get_or-drop, get_or-take, length, sym, take, text_len, ℕ, ⊎_elim, ◌++◌, ◌+◌}
-use Rattle.cord_search.proofs.Common.{◌-◌, ◌<◌, ◌∙◌, ◌∷◌, ◌≡◌, ◌≤◌}
+use Rattle.cord_search.proofs.Common.{AreSame, IsCommon, IsReadable, IsReported, Lengths, List, Node, Option, StandsAt, StandsNot, Table, [], ap}
+use Rattle.cord_search.proofs.Common.{arith, bytes_of, cases_lt, drop, get_or, get_or-drop, get_or-take, length, sym, take, text_len, ℕ, ⊎_elim, ◌++◌}
+use Rattle.cord_search.proofs.Common.{◌+◌, ◌-◌, ◌<◌, ◌∙◌, ◌∷◌, ◌≡◌, ◌≤◌}
 use Rattle.std.proofs.lemmas.List.{take_more}
-use Rattle.cord_io.specs.Table.{Lengths}
-use Rattle.cord_search.proofs.Reading.{IsReported, len_in}
+use Rattle.cord_search.proofs.Reading.{len_in}
 use Rattle.cord_search.proofs.Standing.{stands_get, stands_inside}
 
 -- the same bytes at one place
@@ -37,22 +36,26 @@ module _ {lengths : Lengths} {t : Table} {x s : Option Node} {place period count
   pattern_len : length (bytes_of t s) ≡ text_len s
   pattern_len = len_in held pattern
 
-  -- what the text has at two places of the pattern, one a period after the other
-  here : (q k : ℕ) → StandsAt (bytes_of t x) (bytes_of t s) q → k + period < text_len s →
-      get_or (bytes_of t x) (q + k) 0 ≡ get_or (bytes_of t s) k 0
-  here q k at lt = stands_get (bytes_of t x) (bytes_of t s) q k at (omega (arith, lt, pattern_len))
-
-  there : (q k m : ℕ) → StandsAt (bytes_of t x) (bytes_of t s) q → k + period < text_len s → m ≡ q + k + period →
-      get_or (bytes_of t x) m 0 ≡ get_or (bytes_of t s) (period + k) 0
-  there q k m at lt e =
-      let one : m ≡ q + (period + k) = omega (arith, e) in
-      ap (λ (p : ℕ). get_or (bytes_of t x) p 0) one ∙ stands_get (bytes_of t x) (bytes_of t s) q (period + k) at
-      (omega (arith, lt, pattern_len))
+  -- at two places, one a period after the other, a text has what one has that stands in it
+  both : (q k : ℕ) → StandsAt (bytes_of t x) (bytes_of t s) q → k + period < text_len s →
+      (get_or (bytes_of t x) (q + k) 0 ≡ get_or (bytes_of t s) k 0)
+      × (get_or (bytes_of t x) (q + (period + k)) 0 ≡ get_or (bytes_of t s) (period + k) 0)
+  both q k at lt = (
+    stands_get (bytes_of t x) (bytes_of t s) q k at (omega (arith, lt, pattern_len)),
+    stands_get (bytes_of t x) (bytes_of t s) q (period + k) at (omega (arith, lt, pattern_len)),
+  )
 
   -- where the pattern repeats itself as far as the text or further, it stands nowhere over the end of that
   pub passed_short : run ≤ count → StandsNot t x (bytes_of t s) (place + 1) (place + (run + 1))
-  passed_short le = λ q low to at. ⊎_elim (λ (lt : run < text_len x - (place + period)). over q low to at lt)
-      (λ (end : text_len x - (place + period) ≤ run). omega (
+  passed_short le = λ q low to at. ⊎_elim (λ (lt : run < text_len x - (place + period)).
+      let k = place + run - q in
+      let below : k + period < text_len s = omega (arith, low, to, le, repeats.within, inside) in
+      let from : q + k ≡ place + run = omega (arith, low, to) in
+      let next : q + (period + k) ≡ place + period + run = omega (arith, low, to) in
+      let zero : 0 + k ≡ k = omega arith in
+      let same = rw zero at (same_at t s 0 s period count k repeats.same (omega (arith, low, to, le))) in
+      let there = rw (from, next) at (both q k at below) in
+      runs.differ lt (there.0 ∙ same ∙ sym there.1)) (λ (end : text_len x - (place + period) ≤ run). omega (
         arith,
         low,
         end,
@@ -63,29 +66,14 @@ module _ {lengths : Lengths} {t : Table} {x s : Option Node} {place period count
         inside,
         stands_inside (bytes_of t x) (bytes_of t s) q at,
       )) (cases_lt run (text_len x - (place + period)))
-    where
-      over : (q : ℕ) → place + 1 ≤ q → q < place + (run + 1) → StandsAt (bytes_of t x) (bytes_of t s) q →
-          run < text_len x - (place + period) → ⊥
-      over q low to at lt =
-          let k = place + run - q in
-          let below : k + period < text_len s = omega (arith, low, to, le, repeats.within, inside) in
-          let from : place + run ≡ q + k = omega (arith, low, to) in
-          let zero : 0 + k ≡ k = omega arith in
-          let one = ap (λ (p : ℕ). get_or (bytes_of t x) p 0) from ∙ here q k at below in
-          let two = there q k (place + period + run) at below (omega (arith, low, to)) in
-          let same = same_at t s 0 s period count k repeats.same (omega (arith, low, to, le)) in
-          runs.differ lt (one ∙ ap (λ (p : ℕ). get_or (bytes_of t s) p 0) (sym zero) ∙ same ∙ sym two)
 
   -- where the text does further, the pattern's end of that stands at none of the places before the text's
   pub passed_long : count < run → count < text_len s - period → StandsNot t x (bytes_of t s) (place + 1) (place + (run - count))
   passed_long lt ends = λ q low to at.
-      let below : count + period < text_len s = omega (arith, ends, inside) in
       let k = q - place + count in
-      let from : q + count ≡ place + k = omega (arith, low) in
-      let next : place + period + k ≡ q + count + period = omega (arith, low) in
+      let from : place + k ≡ q + count = omega (arith, low) in
+      let next : place + period + k ≡ q + (period + count) = omega (arith, low) in
       let zero : 0 + count ≡ count = omega arith in
-      let one = here q count at below in
-      let two = there q count (place + period + k) at below next in
-      let same = same_at t x place x (place + period) run k runs.same (omega (arith, low, to, lt)) in
-      repeats.differ ends (ap (λ (p : ℕ). get_or (bytes_of t s) p 0) zero ∙ sym one ∙ ap (λ (p : ℕ). get_or (bytes_of t x) p 0) from ∙ same
-      ∙ two)
+      let same = rw (from, next) at (same_at t x place x (place + period) run k runs.same (omega (arith, low, to, lt))) in
+      let there = both q count at (omega (arith, ends, inside)) in
+      repeats.differ ends (rw zero (sym there.0 ∙ same ∙ there.1))

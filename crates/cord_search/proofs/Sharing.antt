@@ -1,16 +1,16 @@
 -- What two texts share is the same in both.
-use Rattle.cord_search.proofs.Common.{Shows, AreAlike, AreSame, CordFits, Ghosts, IsReadable, IsSpanOf, IsSpanPrefix, IsWithin, List, Node, Option}
-use Rattle.cord_search.proofs.Common.{Some, Span, Table, ap, arith, bytes_of, drop, drop-drop, len_of, map, span_bytes}
-use Rattle.cord_search.proofs.Common.{span_len, sym, take, take-take, ℕ, ◌+◌, ◌-◌, ◌<◌, ◌∙◌, ◌≡◌, ◌≤◌}
-use Rattle.cord_node.specs.Tree.{Cell, cells}
-use Rattle.cord_node.specs.Tables.{bytes_over, lengths_of, Fits, byte_at}
+use Rattle.cord_search.proofs.Common.{AreAlike, AreSame, CordFits, Ghosts, IsReadable, IsSpanOf, IsSpanPrefix, IsWay, IsWithin, List, Node, Option}
+use Rattle.cord_search.proofs.Common.{Shows, Some, Span, Table, ap, arith, bytes_of, drop, drop-drop, len_of, map, span_bytes, span_len, sym, take}
+use Rattle.cord_search.proofs.Common.{take-take, ℕ, ◌+◌, ◌-◌, ◌<◌, ◌∙◌, ◌≡◌, ◌≤◌}
 use Rattle.cord_node.proofs.TableLemmas.{bytes-cells}
-use Rattle.cord_search.specs.inner.SharedParts.{IsCommonAhead, IsWay}
-use Rattle.cord_search.specs.inner.Spans.{BeginAlike, IsBlockOf}
+use Rattle.cord_node.specs.Tables.{Fits, byte_at, bytes_over, lengths_of}
+use Rattle.cord_node.specs.Tree.{Cell, cells}
+use Rattle.cord_search.proofs.Ranges.{take_on}
+use Rattle.cord_search.proofs.Reading.{fits_in, shown_so}
 use Rattle.cord_search.specs.declared.shared_parts.Ahead.TheVariants.{Same}
 use Rattle.cord_search.specs.declared.shared_parts.Way.{Way}
-use Rattle.cord_search.proofs.Ranges.{take_on}
-use Rattle.cord_search.proofs.Reading.{ReportsLengths, fits_in, shown_with}
+use Rattle.cord_search.specs.inner.SharedParts.{IsCommonAhead}
+use Rattle.cord_search.specs.inner.Spans.{BeginAlike, IsBlockOf}
 
 -- the bytes from a place of a node are those of what is within
 within_bytes : (n : Node) (place : ℕ) (m : Node) (at k : ℕ) (t : Table) → (w : IsWithin n place m at) → Fits t n → at + k ≤ len_of m →
@@ -71,12 +71,12 @@ pub record IsComparing {S : Type 0} (s : Ghosts S) (a b : S) (x : Option Node) (
 
 -- so they are after bytes that both texts share
 pub alike_on : {S : Type 0} {s : Ghosts S} {a b : S} {x y : Option Node} {i j most done : ℕ} {way next_way other_way other_next : Way} →
-    ReportsLengths s → IsReadable (s.lengths a) x → IsReadable (s.lengths a) y → IsComparing s a b x i way y j other_way most done →
+    IsReadable (s.lengths a) x → IsReadable (s.lengths a) y → IsComparing s a b x i way y j other_way most done →
     (n : ℕ) → IsCommonAhead x (i + done) y (j + done) (most - done) (Same n) → IsWay x next_way → IsWay y other_next →
     IsComparing s a b x i next_way y j other_next most (done + n)
-alike_on {x = x} {y = y} {i = i} {j = j} {done = done} reported left right before n ahead way other = record {
+alike_on {x = x} {y = y} {i = i} {j = j} {done = done} left right before n ahead way other = record {
   in_range = omega (arith, ahead.1, before.in_range);
-  same = shown_with before.same reported (λ t held same. same_on t x i y j done n (ahead.2 t (fits_in x held left.fits)
+  same = shown_so before.same (λ t held same. same_on t x i y j done n (ahead.2 t (fits_in x held left.fits)
       (fits_in y held right.fits)) same);
   left_way = way;
   right_way = other;

@@ -1,22 +1,21 @@
 -- Places of a text in another, by windows.
-use Rattle.cord_search.proofs.Common.{Equal, Ghosts, Greater, HoldsText, IsOrderOf, IsPieceOf, IsReadable, IsSpanOf, IsStanding, Less, List}
-use Rattle.cord_search.proofs.Common.{Node, None, NoneBefore, Nowhere, Option, Ordering, Shows, Some, Span, StandsAt, StandsNot, Table, ap}
-use Rattle.cord_search.proofs.Common.{append_assoc, arith, bytes_of, drop, exact_bytes, false, first, get_or, get_or-drop, length}
-use Rattle.cord_search.proofs.Common.{length-drop, length-take-le, nat_cmp, nat_list_cmp_total, slice_cmp, span_bytes}
-use Rattle.cord_search.proofs.Common.{span_len, subst, sym, take, take-add, take-append-drop, take_all, text_len, tied_itself, true, ℕ}
-use Rattle.cord_search.proofs.Common.{◌++◌, ◌+◌, ◌-◌, ◌<◌, ◌∙◌, ◌≡◌, ◌≤◌}
+use Rattle.cord_search.proofs.Common.{Equal, Ghosts, Greater, HoldsText, IsOrderOf, IsPieceOf, IsReadable, IsReported, IsSpanOf, IsStanding, Lengths}
+use Rattle.cord_search.proofs.Common.{Less, List, Node, None, NoneBefore, Nowhere, Option, Ordering, Shows, Some, Span, StandsAt, StandsNot, Table}
+use Rattle.cord_search.proofs.Common.{ap, append_assoc, arith, bytes_of, drop, exact_bytes, false, first, get_or, get_or-drop, length, length-drop}
+use Rattle.cord_search.proofs.Common.{length-take-le, nat_cmp, nat_list_cmp_total, slice_cmp, span_bytes, subst, sym, take, take-add}
+use Rattle.cord_search.proofs.Common.{take-append-drop, take_all, text_len, tied_itself, true, ℕ, ◌++◌, ◌+◌, ◌-◌, ◌<◌, ◌∙◌, ◌≡◌, ◌≤◌}
 use Rattle.std.proofs.Common.{length-append}
-use Rattle.std.specs.Ordering.{is_eq}
-use borrow.Rule.Slice.PartMut.{put_mid, post_of}
-use Rattle.std.proofs.lemmas.Slice.{take-put_mid}
 use Rattle.std.proofs.lemmas.List.{get_or_append_left, nil_from_length, take_at}
-use Rattle.memchr.specs.Find.{OccursAt, FindsNeedle}
+use Rattle.std.proofs.lemmas.Slice.{take-put_mid}
+use Rattle.std.specs.Ordering.{is_eq}
+use borrow.Rule.Slice.PartMut.{post_of, put_mid}
 use Rattle.memchr.proofs.lemmas.MatchLemmas.{OccursAt-split}
-use Rattle.cord_search.specs.inner.Spans.{IsMisfit, DoesNotFit}
-use Rattle.cord_io.specs.Table.{Lengths}
-use Rattle.cord_search.proofs.Reading.{IsReported, fits_in, len_in, shown_so}
-use Rattle.cord_search.proofs.Finding.{IsNextPiece, nowhere_on, range_at, range_inside, first_is, first_only}
+use Rattle.memchr.specs.Find.{FindsNeedle, OccursAt}
 use Rattle.cord_search.proofs.Comparing.{piece_prefix}
+use Rattle.cord_search.proofs.Finding.{first_is, first_only, nowhere_on, range_at, range_inside}
+use Rattle.cord_search.proofs.Ranges.{span_piece}
+use Rattle.cord_search.proofs.Reading.{len_in, shown_so}
+use Rattle.cord_search.specs.inner.Spans.{DoesNotFit, IsMisfit}
 
 -- bytes were copied after what was filled
 pub filled_on : (t : Table) (c : Option Node) (place done k n : ℕ) (out part : List ℕ) → HoldsText t c place done out →
@@ -66,6 +65,11 @@ occurred x window head place k some e h =
     } in
     record { within = omega (arith, there.fits); rest = drop (place + k + length head) x; here = OccursAt-split x head (place + k) there }
 
+-- bytes stand at no place before that of a piece
+pub record IsNextPiece (t : Table) (x : Option Node) (s : List ℕ) (from p : ℕ) (xs : List ℕ) : Type 0 where
+  pub none : StandsNot t x s from p
+  pub piece : IsPieceOf t x p xs
+
 window_on : (t : Table) (x : Option Node) (start place next m : ℕ) (window head : List ℕ) → Nowhere (OccursAt window head) 0 m →
     next ≤ place + m → next + length head ≤ place + length window + 1 → IsNextPiece t x head start place window → StandsNot t x head start next
 window_on t x start place next m window head h p q w = nowhere_on (StandsAt (bytes_of t x) head) start place next w.none
@@ -77,7 +81,7 @@ module _ {S : Type 0} {s : Ghosts S} {a b : S} {x : Option Node} {start place : 
       length head ≤ length window → Shows s a b (λ t. StandsNot t x head start (place + (length window - length head + 1)))
   window_none next is h enough =
       let nowhere : Nowhere (OccursAt window head) 0 (length window + 1) = rw is at h in
-      shown_so next (λ t w. window_on t x start place (place + (length window - length head + 1)) (length window + 1) window head nowhere
+      shown_so next (λ t held w. window_on t x start place (place + (length window - length head + 1)) (length window + 1) window head nowhere
       (omega arith) (omega (arith, enough)) w)
 
   -- or stand first where they occur first in it
@@ -86,7 +90,7 @@ module _ {S : Type 0} {s : Ghosts S} {a b : S} {x : Option Node} {start place : 
   window_some {k} next is h some low =
       let here : NoneBefore (OccursAt window head) 0 (length window + 1) k × OccursAt window head k = rw is at h in
       let fits : k + length head ≤ length window = here.1.fits in
-      shown_so next (λ t w. first_only (bytes_of t x) head start (Some (place + k)) (
+      shown_so next (λ t held w. first_only (bytes_of t x) head start (Some (place + k)) (
         omega (arith, low),
         occurred (bytes_of t x) window head place k some w.piece here.1,
         window_on t x start place (place + k) k window head here.0.before (omega arith) (omega arith) w,
@@ -103,13 +107,9 @@ misfit_on {t = t} {x = x} {place = place} {span = span} start n head held h read
     differ : (q : ℕ) → StandsAt (bytes_of t x) head q → place ≤ q → DoesNotFit t span head (q - place) → ⊥
     differ q at le d =
         let xs = bytes_of t x in
-        let text = h.text t (fits_in x held readable.fits) in
-        let long : length (span_bytes t span) ≡ span_len span = ap (λ (ys : List ℕ). length ys) text
-        ∙ length-take-le (span_len span) (drop place xs) (omega (arith, h.inside, len_in held readable, length-drop place xs)) in
-        let range : span_bytes t span ≡ take (length (span_bytes t span)) (drop place xs) =
-        text ∙ ap (λ (k : ℕ). take k (drop place xs)) (sym long) in
+        let piece = span_piece held readable h in
         let here : place + (q - place + d.at) ≡ q + d.at = omega (arith, le) in
-        d.differs (range_at xs (span_bytes t span) place (q - place + d.at) range (omega (arith, long, d.within))
+        d.differs (range_at xs (span_bytes t span) place (q - place + d.at) piece.0 (omega (arith, piece.1, d.within))
         ∙ ap (λ (k : ℕ). get_or xs k 0) here ∙ stands_get xs head q d.at at d.inside)
 
 -- a place where they don't stand

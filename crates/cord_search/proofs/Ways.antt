@@ -1,12 +1,12 @@
 -- Ways from the root of a cord to a place of its text.
-use Rattle.cord_search.proofs.Common.{AreAlike, IfSome, IsSpanOf, IsSpanUpTo, IsSpot, IsSpotOf, IsStop, IsWithin, List, MAX_DEPTH, Node}
-use Rattle.cord_search.proofs.Common.{Option, Span, Stop, [], arith, depth_of, len_of, length, slice_get, span_len, span_on, suc, within_on}
-use Rattle.cord_search.proofs.Common.{zero, ℕ, ◌++◌, ◌+◌, ◌-◌, ◌∷◌, ◌≡◌, ◌≤◌}
+use Rattle.cord_search.proofs.Common.{AreAlike, IfSome, IsSpanOf, IsSpanUpTo, IsSpot, IsSpotOf, IsStop, IsWithin, List, MAX_DEPTH, Node, Option, Span}
+use Rattle.cord_search.proofs.Common.{Stop, [], arith, depth_of, len_of, length, slice_get, span_len, span_on, suc, within_on, zero, ℕ, ◌++◌, ◌+◌}
+use Rattle.cord_search.proofs.Common.{◌-◌, ◌∷◌, ◌≡◌, ◌≤◌}
+use Rattle.cord_pos.proofs.Within.{span_back, within_end}
 use Rattle.cord_pos.specs.Spans.{IsSpanAt}
-use Rattle.cord_pos.proofs.Within.{within_end, span_back}
-use Rattle.cord_search.specs.inner.SharedParts.{AreOneSpot}
-use Rattle.cord_search.specs.declared.shared_parts.Spot.{Spot}
 use Rattle.cord_search.proofs.Sharing.{spots_alike}
+use Rattle.cord_search.specs.declared.shared_parts.Spot.{Spot}
+use Rattle.cord_search.specs.inner.SharedParts.{AreOneSpot}
 
 -- where the same text stands, from another place of it
 moved : (n : Node) (place : ℕ) (m : Node) (at i j : ℕ) → place + j ≡ i + at → IsWithin n place m at → IsWithin n i m j

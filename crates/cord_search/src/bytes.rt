@@ -4,7 +4,7 @@ ghost use Rattle.cord_io.specs.Device.{FileSystem, count_after};
 ghost use Rattle.cord_io.specs.Frames.{LeavesSource};
 ghost use Rattle.cord_core.specs.Cord.{text_len, bytes_of, CordFitsIn};
 ghost use Rattle.cord_core.specs.Texts.{first, last};
-ghost use Rattle.cord_search.specs.inner.Pieces.{StandsNot, HasNot};
+ghost use Rattle.cord_search.specs.inner.Pieces.{HasNot};
 ghost use Rattle.cord_search.specs.inner.Searches.{Shows, FindsByte, FindsLast};
 
 use crate::PIECE_LEN;
@@ -105,7 +105,7 @@ fn first_after<S: Source>(
     requires low { from ≤ after }
     requires start { from < text_len x.now }
     requires inside { after ≤ text_len x.now }
-    requires none { Shows ⟦<S as Source>⟧ src.old src.old (λ t. StandsNot t x.now (byte ∷ []) from after) }
+    requires none { Shows ⟦<S as Source>⟧ src.old src.old (λ t. HasNot t x.now byte from after) }
     requires fits { CordFitsIn (S.lengths src.old) x.now }
     ensures { FindsByte ⟦<S as Source>⟧ src.old src.new x.now from byte result }
 {

@@ -1,5 +1,5 @@
 // Texts in pieces: slices of leaves as they are, runs and function parts through a buffer.
-ghost use Rattle.std.specs.Prelude.{◌+◌, ◌-◌, ◌<◌, ◌≤◌, length, IsSome};
+ghost use Rattle.std.specs.Prelude.{◌≡◌, ◌+◌, ◌-◌, ◌<◌, ◌≤◌, length, IsSome};
 ghost use Rattle.cord_core.specs.Cord.{text_len, CordFitsIn};
 ghost use Rattle.cord_search.specs.inner.Pieces.{IsReadable, IsPieceOf};
 ghost use Rattle.cord_pos.specs.Spans.{span_len, SpanFitsIn, IsSpanOf};
@@ -132,19 +132,11 @@ pub(crate) fn first_piece<'a, S: Source>(
     ensures { IsAnswer ⟦<S as Source>⟧ src.old src.new result (λ piece. IsSomeOf span.entry piece.now)
         (λ t piece. IsPartOf t span.entry 0 piece.now) }
 {
-    match span {
-        Span::Bytes(bytes) => Ok(bytes),
-        Span::Run { byte, len } => {
-            let piece = &mut buffer[..piece_len(len)];
-            piece.fill(byte);
-            Ok(piece)
-        }
-        Span::Func { id, start, len } => {
-            let piece = &mut buffer[..piece_len(len)];
-            src.read(id, start, piece)?;
-            Ok(piece)
-        }
+    if let Span::Bytes(bytes) = span {
+        return Ok(bytes);
     }
+    let count = piece_len(span.len());
+    part_of(span, 0, count, buffer, src)
 }
 
 // The last bytes of a span: all of a leaf's, or at most `PIECE_LEN` of another part's.
@@ -158,24 +150,46 @@ pub(crate) fn last_piece<'a, S: Source>(
     ensures { IsAnswer ⟦<S as Source>⟧ src.old src.new result (λ piece. IsSomeOf span.entry piece.now)
         (λ t piece. IsPartOf t span.entry (span_len span.entry - length piece.now) piece.now) }
 {
+    if let Span::Bytes(bytes) = span {
+        return Ok(bytes);
+    }
+    let len = span.len();
+    let count = piece_len(len);
+    part_of(span, len - count as u64, count, buffer, src)
+}
+
+// `count` bytes of a span from a place on: a slice of a leaf, or in the buffer.
+pub(crate) fn part_of<'a, S: Source>(
+    span: Span<'a>,
+    from: u64,
+    count: usize,
+    buffer: &'a mut [u8],
+    src: &mut S,
+) -> Result<&'a [u8], ReadFault>
+    requires some { 0 < count }
+    requires room { count ≤ length buffer.old }
+    requires inside { from + count ≤ span_len span }
+    requires fits { SpanFitsIn (S.lengths src.old) span }
+    ensures { IsAnswer ⟦<S as Source>⟧ src.old src.new result (λ piece. length piece.now ≡ count)
+        (λ t piece. IsPartOf t span.entry from piece.now) }
+{
     match span {
-        Span::Bytes(bytes) => Ok(bytes),
-        Span::Run { byte, len } => {
-            let piece = &mut buffer[..piece_len(len)];
+        Span::Bytes(bytes) => Ok(&bytes[from as usize..from as usize + count]),
+        Span::Run { byte, .. } => {
+            let piece = &mut buffer[..count];
             piece.fill(byte);
             Ok(piece)
         }
-        Span::Func { id, start, len } => {
-            let count = piece_len(len);
+        Span::Func { id, start, .. } => {
             let piece = &mut buffer[..count];
-            src.read(id, start + (len - count as u64), piece)?;
+            src.read(id, start + from, piece)?;
             Ok(piece)
         }
     }
 }
 
 // How many bytes of those that are left make the next piece.
-pub(crate) fn piece_len(left: u64) -> usize
+fn piece_len(left: u64) -> usize
     ensures most { result ≤ PIECE_LEN }
     ensures inside { result ≤ left }
     ensures some { 0 < left → 0 < result }

@@ -1,10 +1,11 @@
 // The order of two spans.
-ghost use Rattle.std.specs.Prelude.{◌≡◌, ◌+◌, ◌<◌, ◌≤◌, length};
+ghost use Rattle.std.specs.Prelude.{◌≡◌, ◌<◌, ◌≤◌};
 ghost use Rattle.cord_pos.specs.Spans.{span_len, SpanFitsIn};
-ghost use Rattle.cord_search.specs.inner.Spans.{IsPartOf, IsOrderOfSpans};
-ghost use Rattle.cord_search.specs.inner.Searches.{IsAnswer, IsRead};
+ghost use Rattle.cord_search.specs.inner.Spans.{IsOrderOfSpans};
+ghost use Rattle.cord_search.specs.inner.Searches.{IsRead};
 
 use crate::PIECE_LEN;
+use crate::pieces::part_of;
 use crate::slices::order_of;
 use cord_io::{ReadFault, Source};
 use cord_pos::Span;
@@ -64,34 +65,4 @@ fn order_by<const N: usize, S: Source>(
         }
     }
     Ok(Ordering::Equal)
-}
-
-// `count` bytes of a span from a place on: a slice of a leaf, or in the buffer.
-fn part_of<'a, S: Source>(
-    span: Span<'a>,
-    from: u64,
-    count: usize,
-    buffer: &'a mut [u8],
-    src: &mut S,
-) -> Result<&'a [u8], ReadFault>
-    requires some { 0 < count }
-    requires room { count ≤ length buffer.old }
-    requires inside { from + count ≤ span_len span }
-    requires fits { SpanFitsIn (S.lengths src.old) span }
-    ensures { IsAnswer ⟦<S as Source>⟧ src.old src.new result (λ piece. length piece.now ≡ count)
-        (λ t piece. IsPartOf t span.entry from piece.now) }
-{
-    match span {
-        Span::Bytes(bytes) => Ok(&bytes[from as usize..from as usize + count]),
-        Span::Run { byte, .. } => {
-            let piece = &mut buffer[..count];
-            piece.fill(byte);
-            Ok(piece)
-        }
-        Span::Func { id, start, .. } => {
-            let piece = &mut buffer[..count];
-            src.read(id, start + from, piece)?;
-            Ok(piece)
-        }
-    }
 }

@@ -89,14 +89,7 @@ pub fn str_in<S: Source>(
     ensures count { S.failures src.new ≡ count_after (is_err result) (S.failures src.old) }
     ensures source { LeavesSource ⟦<S as Source>⟧ src.old src.new }
 {
-    let count = s.len();
     let end = end.min(x.len());
-    if !lies_inside(start, count, end) {
-        return Ok(None);
-    }
-    if count == 0 {
-        return Ok(Some(start));
-    }
     Ok(first_place(x, start, end, s, src)?)
 }
 
@@ -157,7 +150,7 @@ fn lies_inside(start: u64, count: u64, len: u64) -> bool
     start <= len && count <= len - start
 }
 
-// The first place of a text that isn't empty in the first `end` bytes of another, from a place on.
+// The first place of a text in the first `end` bytes of another, from a place on.
 pub(crate) fn first_place<S: Source>(
     x: &Cord,
     start: u64,
@@ -166,16 +159,20 @@ pub(crate) fn first_place<S: Source>(
     src: &mut S,
 ) -> Result<Option<u64>, ReadFault>
     requires text { IsReadable (S.lengths src.old) x.now }
-    requires pattern { IsReadable (S.lengths src.old) s.now }
-    requires some { 0 < text_len s.now }
-    requires inside { start + text_len s.now ≤ end }
+    requires pattern_fits { CordFitsIn (S.lengths src.old) s.now }
     requires end { end ≤ text_len x.now }
     ensures { FindsText ⟦<S as Source>⟧ src.old src.new x.now start end s.now result }
 {
-    let len = s.len();
-    if len <= PIECE_LEN as u64 {
+    let count = s.len();
+    if !lies_inside(start, count, end) {
+        return Ok(None);
+    }
+    if count == 0 {
+        return Ok(Some(start));
+    }
+    if count <= PIECE_LEN as u64 {
         place_of_short::<PIECE_LEN, ROOM_LEN, S>(x, start, end, s, src)
-    } else if len <= PREFIX_LEN as u64 {
+    } else if count <= PREFIX_LEN as u64 {
         place_of_short::<PREFIX_LEN, WINDOW_LEN, S>(x, start, end, s, src)
     } else {
         place_of_long(x, start, end, s, src)
@@ -225,9 +222,7 @@ fn place_of_short<const N: usize, const M: usize, S: Source>(
     let mut prefix = [0; N];
     let pattern = &mut prefix[..s.len() as usize];
     gather(s, 0, pattern, src)?;
-    let finder = Finder::new(pattern);
-    let mut room = [0; M];
-    let place = first_of(x, start, end, &finder, &mut room, src)?;
+    let place = place_of_bytes::<M, S>(x, start, end, pattern, src)?;
     Ok(place)
 }
 

@@ -1,10 +1,5 @@
-use Rattle.std.proofs.Common.{◌≡◌, ◌+◌, ◌-◌, ◌∙◌, true, false}
-use Rattle.cord_core.specs.Cord.{bytes_of}
-use Rattle.cord_pos.specs.Position.{IsByteAt, prev_index}
-use Rattle.cord_iter.proofs.Takes.{on_err}
-use Rattle.cord_iter.specs.inner.Walk.{places_up_to}
-use Rattle.cord_iter.proofs.Walks.{walk_stop_in}
-use Rattle.cord_iter.proofs.Backs.{cord_len, downward, back_next, back_prefix, left_prev}
+use Rattle.cord_iter.proofs.Common.{IsByteAt, bytes_of, false, places_up_to, prev_index, true, ◌+◌, ◌-◌, ◌∙◌, ◌≡◌}
+use Rattle.cord_iter.proofs.Lemmas.{back_next, back_prefix, cord_len, downward, left_prev, on_err, walk_stop_in}
 use Rattle.cord_iter.proofs.backward.riter4.Goals as goal
 
 pub returns-in_err-byte-clause-prefix : goal.returns-in_err-byte-clause-prefix

@@ -1,9 +1,4 @@
-use Rattle.std.proofs.Common.{◌≡◌, ◌+◌, ◌-◌, ◌≤◌, take, false}
-use Rattle.std.specs.Prelude.{reverse}
-use Rattle.cord_io.specs.Device.{FileSystem}
-use Rattle.cord_core.specs.Cord.{bytes_of}
-use Rattle.cord_iter.specs.Walk.{walk}
-use Rattle.cord_iter.specs.inner.Walk.{places_up_to}
+use Rattle.cord_iter.proofs.Common.{FileSystem, bytes_of, false, places_up_to, reverse, take, walk, ◌+◌, ◌-◌, ◌≡◌, ◌≤◌}
 use Rattle.cord_iter.proofs.backward.riter4.Given as goal
 
 -- the bytes from the place down to the one that is next were walked over without a stop, and no read has failed

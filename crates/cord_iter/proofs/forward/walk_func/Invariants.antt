@@ -1,6 +1,5 @@
-use Rattle.std.proofs.Common.{◌-◌, ◌≤◌, false, take, drop, Ok}
+use Rattle.cord_iter.proofs.Common.{Ok, Walks, drop, false, take, ◌-◌, ◌≤◌}
 use Rattle.cord_io.specs.declared.faults.ReadFault.{ReadFault}
-use Rattle.cord_iter.specs.inner.Walk.{Walks}
 use Rattle.cord_iter.proofs.forward.walk_func.Given as goal
 
 -- the first `done` bytes of the range were walked over without a stop, and no read has failed

@@ -1,9 +1,6 @@
-use Rattle.std.proofs.Common.{◌≡◌, ℕ, ◌∙◌, List, length, take, drop, sym, ap, arith}
-use Rattle.std.specs.Prelude.{replicate}
-use Rattle.std.proofs.lemmas.List.{length-take-le, length-replicate}
-use Rattle.cord_iter.specs.declared.TheConstants.{PIECE_LEN}
-use Rattle.cord_iter.specs.Walk.{walk}
-use Rattle.cord_iter.proofs.Cuts.{walked_over, walked_none}
+use Rattle.cord_iter.proofs.Common.{List, PIECE_LEN, ap, arith, drop, length, length-replicate, length-take-le, replicate, sym, take, walk, ℕ, ◌∙◌}
+use Rattle.cord_iter.proofs.Common.{◌≡◌}
+use Rattle.cord_iter.proofs.Lemmas.{walked_none, walked_over}
 use Rattle.cord_iter.proofs.forward.walk_piece.Goals as goal
 
 pub returns-in_err-read : goal.returns-in_err-read

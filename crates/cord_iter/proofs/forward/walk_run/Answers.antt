@@ -1,8 +1,5 @@
-use Rattle.std.proofs.Common.{◌≡◌, ◌+◌, ◌≤◌, true, false, arith, sym, take}
-use Rattle.std.specs.Prelude.{replicate}
-use Rattle.cord_iter.specs.declared.TheConstants.{PIECE_LEN}
-use Rattle.cord_iter.specs.Walk.{walk}
-use Rattle.cord_iter.proofs.Walks.{run_stop, run_on}
+use Rattle.cord_iter.proofs.Common.{PIECE_LEN, arith, false, replicate, sym, take, true, walk, ◌+◌, ◌≡◌, ◌≤◌}
+use Rattle.cord_iter.proofs.Lemmas.{run_on, run_stop}
 use Rattle.cord_iter.proofs.forward.walk_run.Goals as goal
 
 pub returns-then-bytes : goal.returns-then-bytes

@@ -1,6 +1,4 @@
-use Rattle.std.proofs.Common.{◌-◌, ◌≡◌, ◌≤◌, false}
-use Rattle.std.specs.Prelude.{replicate}
-use Rattle.cord_iter.specs.Walk.{walk}
+use Rattle.cord_iter.proofs.Common.{false, replicate, walk, ◌-◌, ◌≡◌, ◌≤◌}
 use Rattle.cord_iter.proofs.forward.walk_run.Given as goal
 
 -- the first `done` bytes were walked over without a stop

@@ -1,8 +1,6 @@
-use Rattle.std.proofs.Common.{◌≡◌, ◌+◌, ◌-◌, ◌≤◌, ℕ, length, take, drop, arith, subst, sym, ◌∙◌, refl, length-append, length-drop}
-use Rattle.std.proofs.lemmas.List.{length-take-le, length-replicate}
-use Rattle.cord_io.specs.Table.{Table}
-use Rattle.cord_iter.proofs.Takes.{puts_none, puts_both, puts_some}
-use Rattle.cord_iter.proofs.Walks.{range_next, range_split}
+use Rattle.cord_iter.proofs.Common.{Table, arith, drop, length, length-append, length-drop, length-replicate, length-take-le, refl, subst, sym, take}
+use Rattle.cord_iter.proofs.Common.{ℕ, ◌+◌, ◌∙◌, ◌≡◌, ◌≤◌}
+use Rattle.cord_iter.proofs.Lemmas.{puts_both, puts_none, puts_some, range_cut, range_on}
 use Rattle.cord_iter.proofs.output.put_range.Goals as goal
 
 pub loop-done-init : goal.loop-done-init
@@ -22,9 +20,8 @@ loop-done-preserved g c =
       room = length-append c.put_piece.new.piece (drop count c.loop-done.buffer)
           ∙ (let prefix : length c.put_piece.new.piece ≡ count = c.put_piece.auto.piece ∙ whole in
           let rest = length-drop count c.loop-done.buffer in omega (arith, prefix, rest, room, c.loop-done.invariant.room));
-      puts = puts_both _ _ (λ (t : Table). take count (drop (c.args.start + done) (t c.args.id.0)))
-          (λ file_system agrees. range_next (g.S.Source.table c.args.src.now file_system c.args.id.0) c.args.start done count)
-          refl c.loop-done.invariant.puts (rw whole at c.in_ok-put_piece.ensures);
+      puts = puts_both (range_on (λ (t : Table). t c.args.id.0) c.args.start done count) refl c.loop-done.invariant.puts
+          (rw whole at c.in_ok-put_piece.ensures);
     }
 
 pub returns-in_err-put_piece : goal.returns-in_err-put_piece
@@ -37,13 +34,8 @@ returns-in_err-put_piece g c =
     let whole : length (take count c.loop-done.buffer) ≡ count = length-take-le count c.loop-done.buffer room in
     let source = λ (t : Table). t c.args.id.0 in
     let inside : done + count ≤ c.args.len = omega (arith, c.piece_len-count.ensures.inside) in
-    puts_some _ (λ (t : Table). take (done + count) (drop start (source t)))
-    (λ (t : Table). take (c.args.len - (done + count)) (drop (start + (done + count)) (source t)))
-    (λ file_system agrees. range_split (source (g.S.Source.table c.args.src.now file_system)) start (done + count) c.args.len inside)
-    c.from_residual.ensures.1 inside (puts_both _ (λ (t : Table). take done (drop start (source t)))
-    (λ (t : Table). take count (drop (start + done) (source t)))
-    (λ file_system agrees. range_next (source (g.S.Source.table c.args.src.now file_system)) start done count) refl
-    c.loop-done.invariant.puts (rw whole at c.in_err-put_piece.ensures))
+    puts_some (range_cut source start (done + count) c.args.len inside) c.from_residual.ensures.1 inside
+    (puts_both (range_on source start done count) refl c.loop-done.invariant.puts (rw whole at c.in_err-put_piece.ensures))
 
 pub returns : goal.returns
 returns g c =

@@ -1,5 +1,4 @@
-use Rattle.std.proofs.Common.{◌-◌, ◌≡◌, ◌≤◌, length, take, drop, Ok}
-use Rattle.cord_iter.specs.inner.Output.{Puts}
+use Rattle.cord_iter.proofs.Common.{Ok, Puts, drop, length, take, ◌-◌, ◌≡◌, ◌≤◌}
 use Rattle.cord_iter.proofs.output.put_range.Given as goal
 
 -- the first `done` bytes of the range were taken, and no device has failed

@@ -1,8 +1,6 @@
-use Rattle.std.proofs.Common.{◌≡◌, ◌≤◌, ◌++◌, length, take, drop, arith, sym, ◌∙◌, ap, subst, length-drop, ◌-◌}
-use Rattle.cord_io.specs.Device.{raised}
+use Rattle.cord_iter.proofs.Common.{ap, arith, drop, length, length-drop, raised, subst, sym, take, take-add, ◌++◌, ◌-◌, ◌∙◌, ◌≡◌, ◌≤◌}
+use Rattle.cord_iter.proofs.Lemmas.{appends_both, prefix_take, writes_err}
 use Rattle.std.proofs.lemmas.List.{take_rest}
-use Rattle.std.proofs.Math.Seq.{take-add}
-use Rattle.cord_iter.proofs.Takes.{appends_both, prefix_take, writes_err}
 use Rattle.cord_iter.proofs.pieces.put_all.Goals as goal
 
 pub returns-in_err-done : goal.returns-in_err-done

@@ -1,4 +1,4 @@
-use Rattle.std.proofs.Common.{length, ◌-◌, ◌≡◌, ◌≤◌, ◌++◌, take}
+use Rattle.cord_iter.proofs.Common.{length, take, ◌++◌, ◌-◌, ◌≡◌, ◌≤◌}
 use Rattle.cord_iter.proofs.pieces.put_all.Given as goal
 
 abbrev pub invariant-loop-done : goal.invariant-loop-done

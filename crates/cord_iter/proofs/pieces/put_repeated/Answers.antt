@@ -1,6 +1,5 @@
-use Rattle.std.proofs.Common.{arith, ◌∙◌, ap}
-use Rattle.cord_io.specs.Device.{raised}
-use Rattle.cord_iter.proofs.Takes.{run_stopped, run_more, writes_err}
+use Rattle.cord_iter.proofs.Common.{ap, arith, raised, ◌∙◌}
+use Rattle.cord_iter.proofs.Lemmas.{run_more, run_stopped, writes_err}
 use Rattle.cord_iter.proofs.pieces.put_repeated.Goals as goal
 
 pub returns-in_err-put_all : goal.returns-in_err-put_all

@@ -1,5 +1,4 @@
-use Rattle.std.proofs.Common.{◌-◌, ◌≡◌, ◌≤◌, ◌++◌}
-use Rattle.std.specs.Prelude.{replicate}
+use Rattle.cord_iter.proofs.Common.{replicate, ◌++◌, ◌-◌, ◌≡◌, ◌≤◌}
 use Rattle.cord_iter.proofs.pieces.put_repeated.Given as goal
 
 abbrev pub invariant-loop-done : goal.invariant-loop-done

@@ -1,5 +1,5 @@
-use Rattle.std.proofs.Common.{arith}
-use Rattle.cord_pos.proofs.SpotBytes.{spot_part, spot_ahead, spot_rest_ahead}
+use Rattle.cord_pos.proofs.Common.{arith}
+use Rattle.cord_pos.proofs.Lemmas.{spot_ahead, spot_part, spot_rest_ahead}
 use Rattle.cord_pos.proofs.Position.ahead.Goals as goal
 
 pub overflow_sub-from : goal.overflow_sub-from

@@ -1,5 +1,5 @@
-use Rattle.std.proofs.Common.{arith}
-use Rattle.cord_pos.proofs.SpotBytes.{spot_part, spot_behind, spot_rest_behind}
+use Rattle.cord_pos.proofs.Common.{arith}
+use Rattle.cord_pos.proofs.Lemmas.{spot_behind, spot_part, spot_rest_behind}
 use Rattle.cord_pos.proofs.Position.behind.Goals as goal
 
 pub overflow_sub-to : goal.overflow_sub-to

@@ -1,4 +1,4 @@
-use Rattle.cord_pos.proofs.SpotBytes.{spot_part, spot_byte}
+use Rattle.cord_pos.proofs.Lemmas.{spot_byte, spot_part}
 use Rattle.cord_pos.proofs.Position.fetch.Goals as goal
 
 pub overflow_sub-spot : goal.overflow_sub-spot

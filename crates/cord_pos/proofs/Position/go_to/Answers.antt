@@ -1,4 +1,4 @@
-use Rattle.std.proofs.Common.{rules}
+use Rattle.cord_pos.proofs.Common.{rules}
 use Rattle.cord_pos.proofs.Position.go_to.Goals as goal
 
 pub invariant_of-self : goal.invariant_of-self

@@ -1,4 +1,4 @@
-use Rattle.std.proofs.Common.{rules}
+use Rattle.cord_pos.proofs.Common.{rules}
 use Rattle.cord_pos.proofs.Position.is_valid.Goals as goal
 
 pub returns : goal.returns

@@ -1,4 +1,5 @@
-use Rattle.cord_pos.proofs.Standings.{position_cord, still, moved_still_index, moved_still_visits, bound_moved}
+use Rattle.cord_pos.proofs.Common.{sym}
+use Rattle.cord_pos.proofs.Lemmas.{bound_moved, index_inside, moved_inside, position_cord, still}
 use Rattle.cord_pos.proofs.Position.move_to.Goals as goal
 
 pub invariant_of-self : goal.invariant_of-self
@@ -9,12 +10,13 @@ invariant_of-self c =
 pub returns-then-index-spot-clause-index : goal.returns-then-index-spot-clause-index
 returns-then-index-spot-clause-index c =
     let on = rw c.in-Some.is at c.self.invariant in
-    rw (← c.self.view_is, c.in-Some.is) (moved_still_index _ _ _ c.args.index on c.if-spot-index.true c.if-index-spot.true)
+    rw (← c.self.view_is, c.in-Some.is) (sym (index_inside c.self.inside.tree.cord.now _ (still _ _ _ c.args.index on c.if-spot-index.true c.if-index-spot.true).inside))
 
 pub returns-then-index-spot-clause-visits : goal.returns-then-index-spot-clause-visits
 returns-then-index-spot-clause-visits c =
     let on = rw c.in-Some.is at c.self.invariant in
-    rw (← c.self.view_is, c.in-Some.is) (moved_still_visits _ _ _ c.args.index on c.if-spot-index.true c.if-index-spot.true)
+    let stays = still _ _ _ c.args.index on c.if-spot-index.true c.if-index-spot.true in
+    rw (← c.self.view_is, c.in-Some.is, moved_inside c.self.inside.tree.cord.now c.in-Some.spot.index c.args.index stays.inside) stays.visits
 
 pub returns-then-index-len-clause-bound : goal.returns-then-index-len-clause-bound
 returns-then-index-len-clause-bound c =

@@ -1,7 +1,5 @@
-use Rattle.std.proofs.Common.{◌+◌, ◌<◌, arith}
-use Rattle.cord_core.specs.Cord.{text_len}
-use Rattle.cord_pos.proofs.Standings.{position_cord, next_still, next_still_index, next_still_visits, bound_moved, move_one_part, next_move}
-use Rattle.cord_pos.proofs.Standings.{next_no_earlier}
+use Rattle.cord_pos.proofs.Common.{arith, sym, text_len, ◌+◌, ◌<◌}
+use Rattle.cord_pos.proofs.Lemmas.{bound_moved, index_inside, move_one_part, next_move, next_no_earlier, next_still, position_cord}
 use Rattle.cord_pos.proofs.Position.next.Goals as goal
 
 pub invariant_of-self : goal.invariant_of-self
@@ -12,12 +10,14 @@ invariant_of-self c =
 pub returns-then-index-spot-clause-index : goal.returns-then-index-spot-clause-index
 returns-then-index-spot-clause-index c =
     let on = rw c.in-Some.is at c.self.invariant in
-    rw (← c.self.view_is, c.in-Some.is) (next_still_index _ _ _ on c.if-index-spot.true)
+    rw (← c.self.view_is, c.in-Some.is) (sym (index_inside c.self.inside.tree.cord.now _ (next_still _ _ _ on c.if-index-spot.true).inside))
 
 pub returns-then-index-spot-clause-visits : goal.returns-then-index-spot-clause-visits
 returns-then-index-spot-clause-visits c =
     let on = rw c.in-Some.is at c.self.invariant in
-    rw (← c.self.view_is, c.in-Some.is) (next_still_visits _ _ _ on c.if-index-spot.true)
+    let still = next_still _ _ _ on c.if-index-spot.true in
+    rw (← c.self.view_is, c.in-Some.is, next_move c.self.inside.tree.cord.now c.in-Some.spot.index (position_cord _ _ _ on) still.inside)
+    still.visits
 
 pub returns-then-index-len-clause-visits : goal.returns-then-index-len-clause-visits
 returns-then-index-len-clause-visits c =

@@ -1,5 +1,5 @@
-use Rattle.std.proofs.Common.{◌-◌, arith, rules}
-use Rattle.cord_pos.proofs.Standings.{position_cord, prev_still, prev_still_visits, bound_moved, move_one_part}
+use Rattle.cord_pos.proofs.Common.{arith, rules, ◌-◌}
+use Rattle.cord_pos.proofs.Lemmas.{bound_moved, move_one_part, position_cord, prev_move, prev_still}
 use Rattle.cord_pos.proofs.Position.prev.Goals as goal
 
 pub returns-in_default : goal.returns-in_default
@@ -13,7 +13,8 @@ invariant_of-self c =
 pub returns-then-spot-clause-visits : goal.returns-then-spot-clause-visits
 returns-then-spot-clause-visits c =
     let on = rw c.in-Some.is at c.self.invariant in
-    rw (← c.self.view_is, c.in-Some.is) (prev_still_visits _ _ _ on c.if-spot.true)
+    rw (← c.self.view_is, c.in-Some.is, prev_move c.self.inside.tree.cord.now c.in-Some.spot.index (omega (arith, c.if-spot.true)))
+    (prev_still _ _ _ on c.if-spot.true).visits
 
 pub returns-then-spot-gt0-clause-bound : goal.returns-then-spot-gt0-clause-bound
 returns-then-spot-gt0-clause-bound c =

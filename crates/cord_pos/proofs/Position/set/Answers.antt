@@ -1,5 +1,5 @@
-use Rattle.std.proofs.Common.{arith, rules}
-use Rattle.cord_pos.proofs.Standings.{set_bound, set_limit}
+use Rattle.cord_pos.proofs.Common.{arith, rules}
+use Rattle.cord_pos.proofs.Lemmas.{set_bound, set_limit}
 use Rattle.cord_pos.proofs.Position.set.Goals as goal
 
 pub invariant_of-result-2 : goal.invariant_of-result-2

@@ -1,4 +1,4 @@
-use Rattle.std.proofs.Common.{rules}
+use Rattle.cord_pos.proofs.Common.{rules}
 use Rattle.cord_pos.proofs.Position.visits.Goals as goal
 
 pub returns : goal.returns

@@ -1,6 +1,5 @@
-use Rattle.std.proofs.Common.{◌≡◌, ◌-◌, ◌∙◌, arith}
-use Rattle.cord_core.specs.Cord.{text_len}
-use Rattle.cord_pos.proofs.Standings.{walk_empty, walk_last}
+use Rattle.cord_pos.proofs.Common.{arith, text_len, ◌-◌, ◌∙◌, ◌≡◌}
+use Rattle.cord_pos.proofs.Lemmas.{walk_empty, walk_last}
 use Rattle.cord_pos.proofs.Position.walk_through.Goals as goal
 
 pub returns-then-len-eq0-clause-visits : goal.returns-then-len-eq0-clause-visits

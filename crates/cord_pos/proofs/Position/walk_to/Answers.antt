@@ -1,6 +1,5 @@
-use Rattle.std.proofs.Common.{◌+◌, ◌<◌, ◌∙◌, arith}
-use Rattle.cord_core.specs.Cord.{text_len}
-use Rattle.cord_pos.proofs.Standings.{index_inside, walk_first, walk_next}
+use Rattle.cord_pos.proofs.Common.{arith, text_len, ◌+◌, ◌<◌, ◌∙◌}
+use Rattle.cord_pos.proofs.Lemmas.{index_inside, walk_first, walk_next}
 use Rattle.cord_pos.proofs.Position.walk_to.Goals as goal
 
 pub loop-step-init : goal.loop-step-init

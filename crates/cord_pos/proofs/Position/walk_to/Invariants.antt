@@ -1,6 +1,4 @@
-use Rattle.std.proofs.Common.{◌≡◌, ◌+◌, Some}
-use Rattle.cord_core.specs.Cord.{IsCord}
-use Rattle.cord_pos.specs.Position.{number_at}
+use Rattle.cord_pos.proofs.Common.{IsCord, Some, number_at, ◌+◌, ◌≡◌}
 use Rattle.cord_pos.proofs.Position.walk_to.Given as goal
 
 -- as many steps were taken as the index says, and each node that was met was visited once

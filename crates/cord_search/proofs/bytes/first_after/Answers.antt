@@ -1,25 +1,12 @@
-use Rattle.cord_search.proofs.Common.{Shows, IsSpanOf, [], arith, ◌∷◌}
-use Rattle.cord_search.proofs.Reading.{shown_on, span_fits}
-use Rattle.cord_search.proofs.Ranges.{prefix_piece}
-use Rattle.cord_search.proofs.Finding.{IsNextPiece, first_on, first_past, first_found, first_none}
-use Rattle.cord_search.proofs.Moving.{set_valid}
-use Rattle.cord_search.proofs.Sharing.{block_span}
+use Rattle.cord_search.proofs.Common.{IsSpanOf, arith}
+use Rattle.cord_search.proofs.Lemmas.{block_span, first_found, first_none, first_on, first_past, set_valid, span_fits}
 use Rattle.cord_search.proofs.bytes.first_after.Given.{Over}
-use Rattle.cord_search.proofs.bytes.first_after.Goals.{After-span_from-span, In_ok-piece}
+use Rattle.cord_search.proofs.bytes.first_after.Goals.{After-span_from-span}
 use Rattle.cord_search.proofs.bytes.first_after.Goals as goal
 
 -- the span is what the text has at the place
 span_is : (g : Over) (c : After-span_from-span g) → IsSpanOf c.args.x.now c.loop-place.place c.span_from-span.result
 span_is g c = rw c.loop-place.invariant.position.cord at c.span_from-span.ensures.span
-
--- what was read is the piece of the text that begins there
-next_is : (g : Over) (c : In_ok-piece g) → IsSpanOf c.args.x.now c.loop-place.place c.span_from-span.result → Shows g.S.Source c.args.src.now
-    c.first_piece.new.src (λ t. IsNextPiece t c.args.x.now (c.args.byte ∷ []) c.args.from c.loop-place.place c.in_ok-piece.piece.now)
-next_is g c span = shown_on c.loop-place.invariant.none c.in_ok-piece.ensures g.met.S.Source.lengths_of_table (λ t held none part. record {
-  none = none;
-  piece = prefix_piece held (block_span c.in_block-block.ensures span) c.requires.fits c.in_ok-piece.piece.now
-      c.in_ok-piece.ensures.always.1 part;
-})
 
 pub loop-place-init : goal.loop-place-init
 loop-place-init g c = record {
@@ -47,30 +34,27 @@ loop-place-preserved-in-Some g c =
     record {
       low = omega (arith, before.low);
       high = omega (arith, c.in-Some.ensures.run.len, span.inside, c.len-len.ensures.stored);
-      none = first_past c.args.from before.none span c.in-Some.ensures.run g.met.S.Source.lengths_of_table
+      none = first_past c.args.from before.none span c.in-Some.ensures.run
           (record { sound = c.set-position.ensures.sound; fits = c.requires.fits });
       position = rw before.position.cord at c.span_from-span.ensures.moved;
     }
 
 pub returns-in-Some-memchr : goal.returns-in-Some-memchr
-returns-in-Some-memchr g c =
-    let known = goal.at.returns-in-Some-memchr g c in
-    let span = span_is g known.After-span_from-span in
-    first_found (next_is g known.In_ok-piece span) c.in-Some-memchr.is c.memchr.ensures c.loop-place.invariant.low
-    (omega (arith, c.in_ok-piece.ensures.always.1, c.in_block-block.ensures.few, span.inside))
+returns-in-Some-memchr g c = first_found c.loop-place.invariant.none c.in_ok-piece.ensures (block_span c.in_block-block.ensures
+    (span_is g (goal.at.returns-in-Some-memchr g c).After-span_from-span)) c.requires.fits c.memchr.ensures c.in-Some-memchr.is
+    c.loop-place.invariant.low
 
 pub loop-place-preserved : goal.loop-place-preserved
 loop-place-preserved g c =
-    let known = goal.at.loop-place-preserved g c in
-    let span = span_is g known.After-span_from-span in
+    let span = span_is g (goal.at.loop-place-preserved g c).After-span_from-span in
     let before = c.loop-place.invariant in
     record {
       low = omega (arith, before.low);
       high = omega (arith, c.in_ok-piece.ensures.always.1, c.in_block-block.ensures.few, span.inside, c.len-len.ensures.stored);
-      none = first_on (next_is g known.In_ok-piece span) c.in-None.is c.memchr.ensures;
+      none = first_on before.none c.in_ok-piece.ensures (block_span c.in_block-block.ensures span) c.requires.fits c.memchr.ensures c.in-None.is;
       position = rw before.position.cord at c.span_from-span.ensures.moved;
     }
 
 pub returns : goal.returns
-returns g c = first_none c.args.x.now c.args.byte c.args.from c.loop-place.place c.loop-place.invariant.none g.met.S.Source.lengths_of_table
+returns g c = first_none c.args.from c.loop-place.place c.loop-place.invariant.none
     (record { sound = c.set-position.ensures.sound; fits = c.requires.fits }) (omega (arith, c.loop-place-test.false, c.len-len.ensures.stored))

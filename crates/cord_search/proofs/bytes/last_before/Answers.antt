@@ -1,23 +1,12 @@
-use Rattle.cord_search.proofs.Common.{Shows, IsSpanUpTo, arith}
-use Rattle.cord_search.proofs.Reading.{shown_on, span_fits}
-use Rattle.cord_search.proofs.Ranges.{end_piece}
-use Rattle.cord_search.proofs.Finding.{IsLastPiece, last_on, last_past, last_found, last_none}
-use Rattle.cord_search.proofs.Moving.{set_valid}
+use Rattle.cord_search.proofs.Common.{IsSpanUpTo, arith}
+use Rattle.cord_search.proofs.Lemmas.{last_found, last_none, last_on, last_past, set_valid, span_fits}
 use Rattle.cord_search.proofs.bytes.last_before.Given.{Over}
-use Rattle.cord_search.proofs.bytes.last_before.Goals.{After-span_up_to-span, In_ok-piece}
+use Rattle.cord_search.proofs.bytes.last_before.Goals.{After-span_up_to-span}
 use Rattle.cord_search.proofs.bytes.last_before.Goals as goal
 
 -- the span is what the text has up to the end
 span_is : (g : Over) (c : After-span_up_to-span g) → IsSpanUpTo c.args.x.now c.loop-end.end c.span_up_to-span.result
 span_is g c = rw c.loop-end.invariant.position.cord at c.span_up_to-span.ensures.span
-
--- what was read is the piece of the text that ends there
-last_is : (g : Over) (c : In_ok-piece g) → IsSpanUpTo c.args.x.now c.loop-end.end c.span_up_to-span.result → Shows g.S.Source c.args.src.now
-    c.last_piece.new.src (λ t. IsLastPiece t c.args.x.now c.args.byte c.args.at c.loop-end.end c.in_ok-piece.piece.now)
-last_is g c span = shown_on c.loop-end.invariant.none c.in_ok-piece.ensures g.met.S.Source.lengths_of_table (λ t held none part. record {
-  none = none;
-  piece = end_piece held span c.requires.fits c.in_ok-piece.piece.now c.in_ok-piece.ensures.always.1 part;
-})
 
 pub loop-end-init : goal.loop-end-init
 loop-end-init g c = record {
@@ -39,31 +28,26 @@ last_piece-requires-clause-fits g c = span_fits c.loop-end.invariant.none.read
 
 pub loop-end-preserved-in-Some : goal.loop-end-preserved-in-Some
 loop-end-preserved-in-Some g c =
-    let span = span_is g (goal.at.loop-end-preserved-in-Some g c).After-span_up_to-span in
     let before = c.loop-end.invariant in
     record {
       high = omega (arith, before.high);
-      none = last_past c.args.at before.none span c.in-Some.ensures.run g.met.S.Source.lengths_of_table
+      none = last_past c.args.at before.none (span_is g (goal.at.loop-end-preserved-in-Some g c).After-span_up_to-span) c.in-Some.ensures.run
           (record { sound = c.set-position.ensures.sound; fits = c.requires.fits });
       position = rw before.position.cord at c.span_up_to-span.ensures.moved;
     }
 
 pub returns-in-Some-memrchr : goal.returns-in-Some-memrchr
-returns-in-Some-memrchr g c =
-    let known = goal.at.returns-in-Some-memrchr g c in
-    let span = span_is g known.After-span_up_to-span in
-    last_found (last_is g known.In_ok-piece span) c.in-Some-memrchr.is c.memrchr.ensures
-    (omega (arith, c.in_ok-piece.ensures.always.1, span.inside)) c.loop-end.invariant.high
+returns-in-Some-memrchr g c = last_found c.args.at c.loop-end.invariant.none c.in_ok-piece.ensures
+    (span_is g (goal.at.returns-in-Some-memrchr g c).After-span_up_to-span) c.requires.fits c.memrchr.ensures c.in-Some-memrchr.is
+    c.loop-end.invariant.high
 
 pub loop-end-preserved : goal.loop-end-preserved
 loop-end-preserved g c =
-    let known = goal.at.loop-end-preserved g c in
-    let span = span_is g known.After-span_up_to-span in
     let before = c.loop-end.invariant in
     record {
       high = omega (arith, before.high);
-      none = last_on (last_is g known.In_ok-piece span) c.in-None.is c.memrchr.ensures
-          (omega (arith, c.in_ok-piece.ensures.always.1, span.inside));
+      none = last_on c.args.at before.none c.in_ok-piece.ensures (span_is g (goal.at.loop-end-preserved g c).After-span_up_to-span) c.requires.fits
+          c.memrchr.ensures c.in-None.is;
       position = rw before.position.cord at c.span_up_to-span.ensures.moved;
     }
 

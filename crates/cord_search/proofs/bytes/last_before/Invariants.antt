@@ -1,4 +1,4 @@
-use Rattle.cord_search.proofs.Common.{Shows, HasNot, StandsIn, ◌+◌, ◌≤◌}
+use Rattle.cord_search.proofs.Common.{HasNot, Shows, StandsIn, ◌+◌, ◌≤◌}
 use Rattle.cord_search.proofs.bytes.last_before.Given as goal
 
 -- the byte stands at no place from the end on, and the position is one of the text

@@ -1,6 +1,6 @@
 use Rattle.cord_search.proofs.Common.{None, arith, bytes_of, first, rules, sym, take, text_len, ◌+◌, ◌-◌, ◌∙◌, ◌≡◌, ◌≤◌}
-use Rattle.cord_search.proofs.Reading.{answered, len_in, shown_on, shown_with}
-use Rattle.cord_search.proofs.Lasts.{best_found, none_after, last_found}
+use Rattle.cord_search.proofs.Lemmas.{answered, best_found, len_in, none_after, shown_on, shown_so}
+use Rattle.cord_search.proofs.Lasts.{last_found}
 use Rattle.cord_search.proofs.last.last_place.Goals as goal
 
 pub loop-low-preserved-in_default : goal.loop-low-preserved-in_default
@@ -13,7 +13,7 @@ loop-low-preserved-in_default g c =
       most = omega (arith, before.most);
       some = search rules;
       below = before.below;
-      best = shown_on before.best c.in_ok-place.ensures g.met.S.Source.lengths_of_table (λ t held best place.
+      best = shown_on before.best c.in_ok-place.ensures (λ t held best place.
           let s = bytes_of t c.args.s.now in
           let middle = high - c.min.result in
           let hit : None ≡ first (take e (bytes_of t c.args.x.now)) middle s =
@@ -35,7 +35,7 @@ loop-low-preserved g c =
       most = before.most;
       some = search rules;
       below = omega (arith, fits, c.requires.some, c.len-count.ensures.stored, c.loop-low-test.true, before.most);
-      best = shown_on before.best c.in_ok-place.ensures g.met.S.Source.lengths_of_table (λ t held best place.
+      best = shown_on before.best c.in_ok-place.ensures (λ t held best place.
           let s = bytes_of t c.args.s.now in
           let middle = high - c.min.result in (
             best_found t c.args.x.now s middle e c.in-Some.place
@@ -47,6 +47,6 @@ loop-low-preserved g c =
 pub returns : goal.returns
 returns g c =
     let before = c.loop-low.invariant in
-    answered before.below (shown_with before.best g.met.S.Source.lengths_of_table (λ t held best.
+    answered before.below (shown_so before.best (λ t held best.
     last_found t c.args.x.now (bytes_of t c.args.s.now) c.loop-low.low c.loop-low.high c.args.limit c.loop-low.found c.loop-low-test.false
     before.most before.order (omega (arith, len_in held c.requires.text, c.requires.inside, c.requires.some)) best.0 best.1))

@@ -1,5 +1,5 @@
 use Rattle.cord_search.proofs.Common.{◌-◌}
-use Rattle.cord_search.proofs.Sharing.{IsComparing}
+use Rattle.cord_search.proofs.Lemmas.{IsComparing}
 use Rattle.cord_search.proofs.order.compare.Given as goal
 
 abbrev pub invariant-loop-done : goal.invariant-loop-done

@@ -1,5 +1,5 @@
 use Rattle.cord_search.proofs.Common.{rules}
-use Rattle.cord_search.proofs.Repeating.{agree_on}
+use Rattle.cord_search.proofs.Lemmas.{agree_on}
 use Rattle.cord_search.proofs.periods.agreeing.Goals as goal
 
 pub loop-place-preserved : goal.loop-place-preserved

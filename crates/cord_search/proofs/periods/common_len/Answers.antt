@@ -1,8 +1,5 @@
 use Rattle.cord_search.proofs.Common.{arith, length, ◌+◌, ◌<◌, ◌≤◌}
-use Rattle.cord_search.proofs.Reading.{answered, shown_by, shown_so, span_fits}
-use Rattle.cord_search.proofs.Sharing.{alike_on}
-use Rattle.cord_search.proofs.Comparing.{pieces_same, pieces_end, cord_limit}
-use Rattle.cord_search.proofs.Repeating.{common_all}
+use Rattle.cord_search.proofs.Lemmas.{alike_on, answered, common_all, cord_limit, pieces_end, pieces_same, shown_by, shown_so, span_fits}
 use Rattle.cord_search.proofs.periods.common_len.Goals as goal
 
 pub overflow_add-i : goal.overflow_add-i
@@ -19,7 +16,7 @@ first_piece-requires-in-Apart-clause-fits g c = rw c.first_piece.ensures.read.le
     (span_fits c.loop-done.invariant.same.read c.in-Apart.ensures.ahead.1 c.requires.right.fits)
 
 pub loop-done-preserved-in-Same : goal.loop-done-preserved-in-Same
-loop-done-preserved-in-Same g c = alike_on g.met.S.Source.lengths_of_table c.requires.left c.requires.right c.loop-done.invariant
+loop-done-preserved-in-Same g c = alike_on c.requires.left c.requires.right c.loop-done.invariant
     c.in-Same.count c.in-Same.ensures.ahead c.in-Same.ensures.left_way c.in-Same.ensures.right_way
 
 pub loop-done-preserved : goal.loop-done-preserved
@@ -31,7 +28,7 @@ loop-done-preserved g c = record {
     c.in-Apart.ensures.ahead.3,
     c.loop-done-test.true,
   );
-  same = shown_by c.loop-done.invariant.same c.in_ok-piece-in-Apart.ensures c.in_ok-other-in-Apart.ensures g.met.S.Source.lengths_of_table
+  same = shown_by c.loop-done.invariant.same c.in_ok-piece-in-Apart.ensures c.in_ok-other-in-Apart.ensures
       (λ t held same piece other. pieces_same c.args.i c.args.j c.loop-done.done held c.in-Apart.ensures.ahead.0 c.in-Apart.ensures.ahead.1
       c.requires.left c.requires.right same c.in_ok-piece-in-Apart.piece.now c.in_ok-other-in-Apart.other.now c.agreeing-count.result
       c.agreeing-count.ensures.left c.agreeing-count.ensures.right c.in_ok-piece-in-Apart.ensures.always.1
@@ -47,8 +44,7 @@ returns-then-count-both g c =
     let right : n < length c.in_ok-other-in-Apart.other.now = omega (arith, c.if-count-both.true, c.min-both.ensures) in
     let inside : c.loop-done.done + n ≤ c.args.most =
     omega (arith, left, c.in_ok-piece-in-Apart.ensures.always.1, c.in-Apart.ensures.ahead.3, c.loop-done-test.true) in
-    answered inside (shown_by c.loop-done.invariant.same c.in_ok-piece-in-Apart.ensures c.in_ok-other-in-Apart.ensures
-    g.met.S.Source.lengths_of_table (λ t held same piece other. pieces_end c.args.i c.args.j c.loop-done.done held c.in-Apart.ensures.ahead.0
+    answered inside (shown_by c.loop-done.invariant.same c.in_ok-piece-in-Apart.ensures c.in_ok-other-in-Apart.ensures (λ t held same piece other. pieces_end c.args.i c.args.j c.loop-done.done held c.in-Apart.ensures.ahead.0
     c.in-Apart.ensures.ahead.1 c.requires.left c.requires.right same c.in_ok-piece-in-Apart.piece.now c.in_ok-other-in-Apart.other.now n
     c.agreeing-count.ensures.left c.agreeing-count.ensures.right c.in_ok-piece-in-Apart.ensures.always.1
     c.in_ok-other-in-Apart.ensures.always.1 piece other c.agreeing-count.ensures.same c.args.most inside left right
@@ -57,5 +53,5 @@ returns-then-count-both g c =
 pub returns : goal.returns
 returns g c =
     let before = c.loop-done.invariant in
-    answered before.in_range (shown_so before.same (λ t same. common_all t c.args.x.now c.args.i c.args.y.now c.args.j c.args.most
+    answered before.in_range (shown_so before.same (λ t held same. common_all t c.args.x.now c.args.i c.args.y.now c.args.j c.args.most
     c.loop-done.done before.in_range (omega (arith, c.loop-done-test.false)) same))

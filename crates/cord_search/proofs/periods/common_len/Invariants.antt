@@ -1,5 +1,5 @@
 use Rattle.cord_search.proofs.Common.{◌-◌}
-use Rattle.cord_search.proofs.Sharing.{IsComparing}
+use Rattle.cord_search.proofs.Lemmas.{IsComparing}
 use Rattle.cord_search.proofs.periods.common_len.Given as goal
 
 abbrev pub invariant-loop-done : goal.invariant-loop-done

@@ -1,7 +1,7 @@
 use Rattle.cord_search.proofs.Common.{rules}
-use Rattle.cord_search.proofs.Reading.{answered, shown_once}
+use Rattle.cord_search.proofs.Lemmas.{answered, shown_once}
 use Rattle.cord_search.proofs.periods.repeats_of.Goals as goal
 
 pub returns : goal.returns
-returns g c = answered (search rules) (shown_once c.in_ok-count.ensures g.met.S.Source.lengths_of_table
+returns g c = answered (search rules) (shown_once c.in_ok-count.ensures
     (λ t held common. rw c.len.ensures.stored at common))

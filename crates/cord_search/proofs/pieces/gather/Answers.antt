@@ -1,7 +1,5 @@
 use Rattle.cord_search.proofs.Common.{arith}
-use Rattle.cord_search.proofs.Reading.{answered, not_read, shown_once, span_fits}
-use Rattle.cord_search.proofs.Ranges.{prefix_piece}
-use Rattle.cord_search.proofs.Moving.{set_valid}
+use Rattle.cord_search.proofs.Lemmas.{answered, not_read, prefix_piece, set_valid, shown_once, span_fits}
 use Rattle.cord_search.proofs.pieces.gather.Goals as goal
 
 pub copy_prefix-requires-clause-fits : goal.copy_prefix-requires-clause-fits
@@ -16,7 +14,7 @@ gather_by-requires-clause-valid g c = rw c.set-position.ensures.index
 
 pub returns-then-out-len : goal.returns-then-out-len
 returns-then-out-len g c =
-    answered tt (shown_once c.in_ok-copy_prefix.ensures g.met.S.Source.lengths_of_table (λ t held part. prefix_piece held
+    answered tt (shown_once c.in_ok-copy_prefix.ensures (λ t held part. prefix_piece held
     c.cord_span_at-span.ensures c.requires.fits c.copy_prefix.new.out (omega (arith, c.copy_prefix.auto.out, c.if-out-len.true, c.len.ensures)) part))
 
 pub returns : goal.returns

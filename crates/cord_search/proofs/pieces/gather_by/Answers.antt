@@ -1,8 +1,5 @@
 use Rattle.cord_search.proofs.Common.{IsSpanOf, arith, drop, length, length-drop, length-take-le, ◌+◌, ◌-◌, ◌∙◌, ◌≡◌}
-use Rattle.cord_search.proofs.Reading.{shown_on, span_fits}
-use Rattle.cord_search.proofs.Comparing.{cord_limit}
-use Rattle.cord_search.proofs.Ranges.{prefix_piece}
-use Rattle.cord_search.proofs.Standing.{filled_on, filled_inside}
+use Rattle.cord_search.proofs.Lemmas.{cord_limit, filled_inside, filled_on, prefix_piece, shown_on, span_fits}
 use Rattle.cord_search.proofs.pieces.gather_by.Given.{Over}
 use Rattle.cord_search.proofs.pieces.gather_by.Goals.{After-span_from-span}
 use Rattle.cord_search.proofs.pieces.gather_by.Goals as goal
@@ -36,7 +33,7 @@ loop-done-preserved g c =
     let long : length part ≡ n = omega (arith, c.copy_prefix.auto.out ∙ cut) in
     record {
       in_range = filled_inside done _ n c.loop-done.out part long before.in_range;
-      filled = shown_on before.filled c.in_ok-copy_prefix.ensures g.met.S.Source.lengths_of_table (λ t held filled text. filled_on t
+      filled = shown_on before.filled c.in_ok-copy_prefix.ensures (λ t held filled text. filled_on t
           c.args.position.now.cord c.args.place done _ n c.loop-done.out part filled (prefix_piece held span c.requires.text.fits part
           (omega (arith, long, c.min-count.ensures, c.len.ensures)) text) long before.in_range);
       position = rw before.position.cord at c.span_from-span.ensures.moved;

@@ -1,5 +1,5 @@
 use Rattle.cord_search.proofs.Common.{arith, ◌<◌}
-use Rattle.cord_search.proofs.Sharing.{spans_alike, prefix_span}
+use Rattle.cord_search.proofs.Lemmas.{prefix_span, spans_alike}
 use Rattle.cord_search.proofs.shared_parts.both_ahead.Goals as goal
 
 pub returns-then-begin_alike : goal.returns-then-begin_alike

@@ -1,5 +1,5 @@
 use Rattle.cord_search.proofs.Common.{arith}
-use Rattle.cord_search.proofs.Ways.{span_of, stops_alike}
+use Rattle.cord_search.proofs.Lemmas.{span_of, stops_alike}
 use Rattle.cord_search.proofs.shared_parts.look_ahead.Goals as goal
 
 pub returns-then-is_same-clause-ahead : goal.returns-then-is_same-clause-ahead

@@ -1,4 +1,4 @@
-use Rattle.cord_search.proofs.Ways.{side_at}
+use Rattle.cord_search.proofs.Lemmas.{side_at}
 use Rattle.cord_search.proofs.shared_parts.meet.Goals as goal
 
 pub loop-way-preserved-then-len : goal.loop-way-preserved-then-len

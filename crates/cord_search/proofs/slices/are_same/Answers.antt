@@ -1,5 +1,5 @@
+use Rattle.cord_search.proofs.Lemmas.{same_bytes}
 use Rattle.std.proofs.lemmas.Simd.{length-chunk}
-use Rattle.cord_search.proofs.Lanes.{same_bytes}
 use Rattle.cord_search.proofs.slices.are_same.Goals as goal
 
 pub returns : goal.returns

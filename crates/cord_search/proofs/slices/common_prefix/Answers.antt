@@ -1,5 +1,5 @@
 use Rattle.cord_search.proofs.Common.{arith}
-use Rattle.cord_search.proofs.Ranges.{take_on}
+use Rattle.cord_search.proofs.Lemmas.{take_on}
 use Rattle.cord_search.proofs.slices.common_prefix.Goals as goal
 
 pub loop-done-preserved : goal.loop-done-preserved

@@ -1,5 +1,5 @@
 use Rattle.cord_search.proofs.Common.{◌∙◌}
-use Rattle.cord_search.proofs.Comparing.{cmp_after}
+use Rattle.cord_search.proofs.Lemmas.{cmp_after}
 use Rattle.cord_search.proofs.slices.order_of.Goals as goal
 
 pub returns : goal.returns

@@ -1,4 +1,4 @@
-use Rattle.cord_search.proofs.Ways.{span_of}
+use Rattle.cord_search.proofs.Lemmas.{span_of}
 use Rattle.cord_search.proofs.spans.cord_span_at.Goals as goal
 
 pub returns : goal.returns

@@ -1,5 +1,5 @@
 use Rattle.cord_search.proofs.Common.{arith}
-use Rattle.cord_search.proofs.Ways.{span_to}
+use Rattle.cord_search.proofs.Lemmas.{span_to}
 use Rattle.cord_search.proofs.spans.cord_span_to.Goals as goal
 
 pub returns : goal.returns

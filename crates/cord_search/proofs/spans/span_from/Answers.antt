@@ -1,6 +1,6 @@
 use Rattle.cord_search.proofs.Common.{Some, refl, ◌∙◌}
+use Rattle.cord_search.proofs.Lemmas.{moved_there, never_none}
 use Rattle.cord_pos.specs.Spans.{IsAheadOf}
-use Rattle.cord_search.proofs.Moving.{moved_there, never_none}
 use Rattle.cord_search.proofs.spans.span_from.Goals as goal
 
 pub unreachable-requires : goal.unreachable-requires

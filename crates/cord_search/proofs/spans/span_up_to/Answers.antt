@@ -1,6 +1,6 @@
 use Rattle.cord_search.proofs.Common.{Some, arith, refl, ◌-◌, ◌∙◌}
+use Rattle.cord_search.proofs.Lemmas.{moved_there, never_none, up_to_end}
 use Rattle.cord_pos.specs.Spans.{IsBehindOf}
-use Rattle.cord_search.proofs.Moving.{moved_there, never_none, up_to_end}
 use Rattle.cord_search.proofs.spans.span_up_to.Goals as goal
 
 pub unreachable-requires : goal.unreachable-requires

@@ -1,14 +1,11 @@
-use Rattle.cord_search.proofs.Common.{arith, bytes_of, cord_len}
-use Rattle.cord_search.proofs.Cuts.{whole_found}
+use Rattle.cord_search.proofs.Lemmas.{whole_found}
 use Rattle.cord_search.proofs.substring.find_bytes.Goals as goal
 
 pub returns-clause-first : goal.returns-clause-first
-returns-clause-first g c = λ file_system agrees.
-    let t = g.S.Source.table c.args.src.now file_system in
-    let reported = g.met.S.Source.lengths_of_table c.args.src.now file_system (c.find_bytes_in.ensures.source.earlier file_system agrees) in
-    let len = cord_len (g.S.Source.lengths c.args.src.now) t c.args.x.now reported c.len.ensures.sound c.requires.fits in
-    whole_found (bytes_of t c.args.x.now) c.args.bytes.now c.args.start c.len.result c.find_bytes_in.result
-    (omega (arith, len, c.len.ensures.stored)) (c.find_bytes_in.ensures.first file_system agrees)
+returns-clause-first g c = λ file_system agrees. whole_found {lengths = g.S.Source.lengths c.args.src.now}
+    {t = g.S.Source.table c.args.src.now file_system} _ _ _
+    (record { lens = g.met.S.Source.lengths_of_table c.args.src.now file_system (c.find_bytes_in.ensures.source.earlier file_system agrees) })
+    (record { sound = c.len.ensures.sound; fits = c.requires.fits }) c.len.ensures.stored (c.find_bytes_in.ensures.first file_system agrees)
 
 pub returns-clause-from : goal.returns-clause-from
 returns-clause-from g c = c.find_bytes_in.ensures.from

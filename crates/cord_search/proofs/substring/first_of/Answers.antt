@@ -1,9 +1,5 @@
 use Rattle.cord_search.proofs.Common.{List, Shows, ap, arith, length, length-take, refl, rules, span_len, take, ℕ, ◌+◌, ◌≡◌, ◌≤◌}
-use Rattle.cord_search.proofs.Reading.{not_read, shown, shown_with, no_read}
-use Rattle.cord_search.proofs.Ranges.{prefix_piece, leaf_part}
-use Rattle.cord_search.proofs.Finding.{IsNextPiece}
-use Rattle.cord_search.proofs.Standing.{window_none, window_some}
-use Rattle.cord_search.proofs.Cuts.{found_in, nowhere_in}
+use Rattle.cord_search.proofs.Lemmas.{IsNextPiece, found_in, leaf_part, not_read, nowhere_in, prefix_piece, shown, window_none, window_some}
 use Rattle.cord_search.proofs.substring.first_of.Given.{Over}
 use Rattle.cord_search.proofs.substring.first_of.Goals.{After-min-most}
 use Rattle.cord_search.proofs.substring.first_of.Goals as goal
@@ -16,7 +12,7 @@ next_is g c =
     let most = c.min-most.result in
     let whole : span_len c.cord_span_at.result ≡ length leaf = ap span_len c.in-Bytes.is in
     let cut = length-take most leaf in
-    shown_with no_read g.met.S.Source.lengths_of_table (λ t held _. record {
+    shown not_read (λ t held. record {
       none = λ q low to at. omega (arith, low, to);
       piece = prefix_piece held c.cord_span_at.ensures c.requires.text.fits (take most leaf) (omega (arith, whole, cut))
           (leaf_part t (take most leaf) most c.in-Bytes.is refl);
@@ -25,8 +21,8 @@ next_is g c =
 pub returns-then-not-lies_inside : goal.returns-then-not-lies_inside
 returns-then-not-lies_inside g c =
     let long : length c.needle-head.result.now ≡ length c.args.finder.now = ap (λ (ys : List ℕ). length ys) c.needle-head.ensures in
-    nowhere_in c.args.x.now c.args.finder.now c.args.end c.args.start c.args.start
-    (shown not_read (λ t q low to at. omega (arith, low, to)))
+    nowhere_in c.args.x.now (λ t. c.args.finder.now) c.args.end c.args.start c.args.start (λ t held. refl)
+    (shown not_read (λ t held q low to at. omega (arith, low, to)))
     (omega (arith, long, c.lies_inside.ensures.outside c.if-not-lies_inside.true))
 
 pub first_at_or_after-requires-in-None-clause-none : goal.first_at_or_after-requires-in-None-clause-none
@@ -40,6 +36,6 @@ first_at_or_after-requires-in-None-clause-none g c =
     c.find.ensures enough)
 
 pub returns-in-Some : goal.returns-in-Some
-returns-in-Some g c = found_in c.args.x.now c.args.finder.now c.args.end c.args.start (c.args.start + c.in-Some.found)
+returns-in-Some g c = found_in c.args.x.now (λ t. c.args.finder.now) c.args.end c.args.start (c.args.start + c.in-Some.found) (λ t held. refl)
     (window_some (next_is g (goal.at.returns-in-Some g c).After-min-most) c.in-Some.is c.find.ensures c.requires.some (omega arith))
     (omega arith) (search rules)

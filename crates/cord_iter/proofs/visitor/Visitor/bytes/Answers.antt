@@ -1,5 +1,5 @@
-use Rattle.std.proofs.Common.{◌≡◌, ◌+◌, true, false, get_or, sym}
-use Rattle.cord_iter.proofs.Walks.{walk_next, walk_stop_in}
+use Rattle.cord_iter.proofs.Common.{false, get_or, sym, true, ◌+◌, ◌≡◌}
+use Rattle.cord_iter.proofs.Lemmas.{walk_next, walk_stop_in}
 use Rattle.cord_iter.proofs.visitor.Visitor.bytes.Goals as goal
 
 pub returns-then-byte : goal.returns-then-byte

@@ -1,5 +1,4 @@
-use Rattle.std.proofs.Common.{◌≡◌, false, take}
-use Rattle.cord_iter.specs.Walk.{walk}
+use Rattle.cord_iter.proofs.Common.{false, take, walk, ◌≡◌}
 use Rattle.cord_iter.proofs.visitor.Visitor.bytes.Given as goal
 
 -- the bytes before the index were walked over without a stop

@@ -1,6 +1,4 @@
-use Rattle.std.proofs.Common.{◌≡◌}
-use Rattle.arrayvec.specs.ArrayVec.{array_vec_len}
-use Rattle.cord_pos.specs.inner.Path.{places, IsClimb}
+use Rattle.cord_pos.proofs.Common.{IsClimb, array_vec_len, places, ◌≡◌}
 use Rattle.cord_pos.proofs.path.Path.climb.Given as goal
 
 -- no place that was left out holds the index

@@ -1,7 +1,6 @@
-use Rattle.std.proofs.Common.{◌≡◌, ◌++◌, List, [], ap, arith, sym, ◌∙◌, append_assoc}
+use Rattle.cord_pos.proofs.Common.{List, Place, [], ap, append_assoc, arith, below, node_of, places, sym, ◌++◌, ◌∙◌, ◌≡◌}
+use Rattle.cord_pos.proofs.Lemmas.{IsSide, ends_at_part, is_side}
 use Rattle.std.proofs.lemmas.Grind.{common_steps}
-use Rattle.cord_pos.specs.inner.Path.{Place, node_of, places, below}
-use Rattle.cord_pos.proofs.Steps.{IsSide, is_side, ends_at_part}
 use Rattle.cord_pos.proofs.path.Path.descend.Goals as goal
 
 pub loop-side-preserved : goal.loop-side-preserved

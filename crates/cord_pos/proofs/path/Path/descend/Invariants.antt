@@ -1,9 +1,5 @@
-use Rattle.std.proofs.Common.{◌≡◌, ◌+◌, ◌-◌, ◌^◌, ◌<◌, ◌≤◌, ◌++◌, min}
-use Rattle.arrayvec.specs.ArrayVec.{array_vec_len}
-use Rattle.cord_io.specs.declared.TheConstants.{MAX_LEN}
-use Rattle.cord_node.specs.Tree.{len_of, depth_of, IsSound}
-use Rattle.cord_node.specs.Occurrences.{level}
-use Rattle.cord_pos.specs.inner.Path.{node_of, places, below, part_at}
+use Rattle.cord_pos.proofs.Common.{IsSound, MAX_LEN, array_vec_len, below, depth_of, len_of, level, min, node_of, part_at, places, ◌++◌, ◌+◌, ◌-◌}
+use Rattle.cord_pos.proofs.Common.{◌<◌, ◌^◌, ◌≡◌, ◌≤◌}
 use Rattle.cord_pos.specs.declared.path.TheConstants.{PATH_LEN}
 use Rattle.cord_pos.proofs.path.Path.descend.Given as goal
 

@@ -1,10 +1,6 @@
-use Rattle.std.proofs.Common.{◌≡◌, ◌<◌, ◌++◌, ◌∷◌, [], List, length, Some, ap, sym, ◌∙◌, arith}
-use Rattle.std.proofs.lemmas.List.{length-map}
-use Rattle.cord_node.specs.Tree.{len_of}
-use Rattle.cord_node.proofs.TreeLemmas.{len_limit}
-use Rattle.cord_pos.specs.inner.Path.{Place, place_of, node_of, below}
-use Rattle.cord_pos.proofs.Counts.{level_depth, depth_limit}
-use Rattle.cord_pos.proofs.Standings.{set_inside}
+use Rattle.cord_pos.proofs.Common.{List, Place, Some, [], ap, arith, below, len_limit, len_of, length, length-map, node_of, place_of, sym, ◌++◌, ◌<◌}
+use Rattle.cord_pos.proofs.Common.{◌∙◌, ◌∷◌, ◌≡◌}
+use Rattle.cord_pos.proofs.Lemmas.{depth_limit, level_depth, set_inside}
 use Rattle.cord_pos.proofs.path.Path.enter.Goals as goal
 
 pub descend-requires : goal.descend-requires

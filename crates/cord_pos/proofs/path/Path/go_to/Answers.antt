@@ -1,7 +1,5 @@
-use Rattle.std.proofs.Common.{sym, arith}
-use Rattle.std.proofs.lemmas.List.{length-map}
-use Rattle.cord_pos.specs.inner.Path.{place_of}
-use Rattle.cord_pos.proofs.GoTo.{found, taken}
+use Rattle.cord_pos.proofs.Common.{arith, length-map, place_of, sym}
+use Rattle.cord_pos.proofs.Lemmas.{found, taken}
 use Rattle.cord_pos.proofs.path.Path.go_to.Goals as goal
 
 pub descend-requires : goal.descend-requires

@@ -1,4 +1,4 @@
-use Rattle.cord_pos.proofs.SpotBytes.{part_some}
+use Rattle.cord_pos.proofs.Lemmas.{part_some}
 use Rattle.cord_pos.proofs.visited.Visited.span.Goals as goal
 
 pub returns : goal.returns

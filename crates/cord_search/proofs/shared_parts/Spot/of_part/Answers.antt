@@ -1,4 +1,4 @@
-use Rattle.cord_search.proofs.Ways.{side_at}
+use Rattle.cord_search.proofs.Lemmas.{side_at}
 use Rattle.cord_search.proofs.shared_parts.Spot.of_part.Goals as goal
 
 pub loop-side-preserved : goal.loop-side-preserved

@@ -1,6 +1,6 @@
 use Rattle.cord_search.proofs.Common.{IfSome, IsStop, MAX_DEPTH, Some, Stop, arith, depth_of, length, refl, rules, ◌+◌, ◌≡◌, ◌≤◌}
+use Rattle.cord_search.proofs.Lemmas.{all_push, stop_kept}
 use Rattle.cord_pos.proofs.Counts.{depth_limit}
-use Rattle.cord_search.proofs.Ways.{stop_kept, all_push}
 use Rattle.cord_search.proofs.shared_parts.Way.climb.Goals as goal
 
 pub returns-clause-way : goal.returns-clause-way

@@ -1,5 +1,5 @@
 use Rattle.cord_search.proofs.Common.{span_on, within_on}
-use Rattle.cord_search.proofs.Ways.{side_at}
+use Rattle.cord_search.proofs.Lemmas.{side_at}
 use Rattle.cord_search.proofs.shared_parts.Way.span.Goals as goal
 
 pub loop-side-preserved : goal.loop-side-preserved

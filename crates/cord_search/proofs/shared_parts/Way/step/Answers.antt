@@ -1,5 +1,5 @@
 use Rattle.cord_search.proofs.Common.{IfSome, IsSpotOf, IsStop, MAX_DEPTH, Some, arith, depth_of, length, refl, ◌+◌, ◌-◌, ◌≤◌}
-use Rattle.cord_search.proofs.Ways.{side_at, stop_kept, all_push}
+use Rattle.cord_search.proofs.Lemmas.{all_push, side_at, stop_kept}
 use Rattle.cord_search.proofs.shared_parts.Way.step.Goals as goal
 
 pub returns-clause-way : goal.returns-clause-way

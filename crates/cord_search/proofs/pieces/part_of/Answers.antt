@@ -1,7 +1,6 @@
 use Rattle.cord_search.proofs.Common.{ap, arith, length, length-take-le, length_at, rules, span_len, take, ◌+◌, ◌∙◌, ◌≡◌, ◌≤◌}
-use Rattle.cord_search.proofs.Reading.{answered, not_read, shown}
-use Rattle.cord_search.proofs.Ranges.{run_part, func_part, of_source}
-use Rattle.cord_search.proofs.span_order.part_of.Goals as goal
+use Rattle.cord_search.proofs.Lemmas.{answered, func_part, not_read, of_source, run_part, shown}
+use Rattle.cord_search.proofs.pieces.part_of.Goals as goal
 
 pub read-requires : goal.read-requires
 read-requires g c =
@@ -18,7 +17,7 @@ read-requires g c =
 pub returns-in-Run : goal.returns-in-Run
 returns-in-Run g c =
     let cut = length-take-le c.args.count c.args.buffer.now c.requires.room in
-    answered (omega (arith, cut, c.fill.ensures.len)) (shown not_read (λ t. run_part t c.fill.new.self c.args.from
+    answered (omega (arith, cut, c.fill.ensures.len)) (shown not_read (λ t held. run_part t c.fill.new.self c.args.from
     (length (take c.args.count c.args.buffer.now)) c.in-Run.is (omega (arith, cut, c.requires.inside)) (c.fill.ensures.after (λ y e. e))))
 
 pub returns-in_ok-read-in-Func : goal.returns-in_ok-read-in-Func
@@ -27,7 +26,7 @@ returns-in_ok-read-in-Func g c =
     let long : length out ≡ c.args.count = c.read.auto.out ∙ length-take-le c.args.count c.args.buffer.now c.requires.room in
     record {
       always = long;
-      text = λ file_system agrees. func_part (g.S.Source.table c.args.src.now file_system) out (c.in-Func.start + c.args.from) c.args.from
+      text = λ file_system agrees held. func_part (g.S.Source.table c.args.src.now file_system) out (c.in-Func.start + c.args.from) c.args.from
           c.in-Func.is (omega arith) (omega (arith, long, c.requires.inside)) (c.in_ok-read-in-Func.ensures.bytes file_system agrees);
       read = search rules;
     }
