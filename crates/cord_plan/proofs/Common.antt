@@ -6,7 +6,7 @@ pub use Rattle.std.proofs.Math.Nat.{div-add-mod, eq-or-lt_of_le, mod-lt}
 pub use Rattle.std.proofs.lemmas.Bool.{and_parts, cases_eq, cases_lt, eq-eqb, eqb-true, false_from_ne_true, le-leb, leb-false, leb-true}
 pub use Rattle.std.proofs.lemmas.Bool.{lt-leb, ltb-false, ne_eqb, not-true, or_cases, or_left, or_right, true≢false}
 pub use Rattle.std.proofs.lemmas.Bool.Decides.{eqb_tells, leb_tells}
-pub use Rattle.std.proofs.lemmas.List.{at_drop_all, at_drop_more, drop-append-le, drop-map, drop-set-lt, drop_all, drop_more}
+pub use Rattle.std.proofs.lemmas.List.{at_drop_all, at_drop_more, drop-append-le, drop-map, drop_all, drop_more}
 pub use Rattle.std.proofs.lemmas.List.{get_or-replicate, length-drop, length-map, length-replicate, length-take, map-append, map-set}
 pub use Rattle.std.proofs.lemmas.List.{set-get_or, take-append-drop, take-append-le, take_all, take_min, take_more, take_rest}
 pub use Rattle.std.proofs.lemmas.Nat.Bits.{bit_at-lt, bit_at-zero, bit_at_and, bit_at_not, bit_at_or, bit_at_set_other, bit_at_set_same}
@@ -81,7 +81,7 @@ pub use Rattle.cord_plan.specs.Values.{part_of, puts_text, text_in, value, value
 pub use Rattle.cord_plan.specs.Verbatim.{IsVerbatim, KeepsNoOther}
 pub use Rattle.cord_plan.specs.Views.{Shared, expr_step, expr_view, made_view, members_of, members_step, members_view, operation_view}
 pub use Rattle.cord_plan.specs.Views.{pair_step, prefix_view, rest_step, shared_view, single_step}
-pub use Rattle.cord_plan.specs.declared.expressions.Expr.TheVariants.{Name, Run, rolls-Cat, rolls-Name, rolls-Run, rolls-Sub}
+pub use Rattle.cord_plan.specs.declared.expressions.Expr.TheVariants.{Run, rolls-Cat, rolls-Run, rolls-Sub}
 pub use Rattle.cord_plan.specs.declared.expressions.Expr.TheViews.{out-Members, roll-Members}
 pub use Rattle.cord_plan.specs.declared.expressions.Members.{Members}
 pub use Rattle.cord_plan.specs.declared.expressions.Rest.{Rest}

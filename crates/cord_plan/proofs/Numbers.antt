@@ -259,15 +259,6 @@ module _ (t : Numbering) where
   unnamed None e = refl
   unnamed (Some x) e = let bad : ⊥ = cc in absurd bad
 
-  pub record NamedBy (o : Option (List ℕ)) (n : ℕ) : Type 0 where
-    pub name : List ℕ
-    pub is : o ≡ Some name
-    pub number : number_of t name ≡ Some n
-
-  pub named_by : (o : Option (List ℕ)) (n : ℕ) → IsNumber (names_of t) o (Some n) → NamedBy o n
-  named_by None n e = let bad : ⊥ = cc in absurd bad
-  named_by (Some x) n e = record { name = x; is = refl; number = sym (number_reported (Some x) (Some n) e) }
-
   module _ (xs : List (List ℕ)) (ns : List ℕ) (are : AreNumbers (names_of t) xs ns) where
     pub as_many : length ns ≡ length xs
     as_many = sym (length-map ns (λ n. slice_get (names_of t) n)) ∙ (ap length are ∙ length-map xs Some)

@@ -3,14 +3,13 @@ mod expressions;
 mod fragments;
 mod statements;
 
-ghost use Rattle.std.specs.Prelude.{◌≡◌, [], ◌∷◌, ◌++◌, codes, map};
-ghost use Rattle.cord_meaning.specs.Statements.{line_of};
+ghost use Rattle.std.specs.Prelude.{◌≡◌, [], ◌∷◌, ◌++◌, map};
 ghost use Rattle.cord_iter.specs.Output.{Writes};
-ghost use Rattle.cord_plan.specs.PlanText.{decimal, expr, spaced, statement, made as made_text};
+ghost use Rattle.cord_plan.specs.PlanText.{decimal, spaced, made as made_text};
 ghost use Rattle.cord_script.specs.Tests.{function_word};
 ghost use Rattle.cord_plan.specs.PlanText.{operation as operation_text, text_of_plan};
 ghost use Rattle.cord_plan.specs.inner.Views.{fragment_text};
-ghost use Rattle.cord_plan.specs.Views.{expr_view, made_view, operation_view};
+ghost use Rattle.cord_plan.specs.Views.{made_view, operation_view};
 
 use self::expressions::put_expression;
 use self::fragments::Fragment::{Arguments, Count, Name, Number, Path, Plain};
@@ -19,7 +18,7 @@ use self::statements::put_statement;
 use crate::{Expr, Made, Operation};
 use cord_io::{Sink, WriteFault};
 use cord_iter::put_all;
-use cord_script::{Function, Statement};
+use cord_script::Function;
 
 /// Hands a sink the text of operations: one line each, ended by byte 10. Where the sink failed, it took a prefix of it.
 pub(crate) fn put_operations<W: Sink>(
@@ -46,8 +45,14 @@ fn put_operation<W: Sink>(operation: &Operation, sink: &mut W) -> Result<(), Wri
         Operation::Measure { line, target, made } => put_assignment(
             *line, b"measure", target, made, sink,
         ),
-        Operation::Write { line, expression } => put_written(*line, expression, sink),
-        Operation::Keep(statement) => put_kept(statement, sink),
+        Operation::Write { line, expression } => {
+            put_fragments(&[Count(*line as u64), Plain(b" write ")], sink)?;
+            put_expression(expression, sink)
+        }
+        Operation::Keep(statement) => {
+            put_fragments(&[Count(statement.line() as u64), Plain(b" ")], sink)?;
+            put_statement(statement, sink)
+        }
     }
 }
 
@@ -72,24 +77,6 @@ fn put_assignment<'a, W: Sink>(
     ];
     put_fragments(&head, sink)?;
     put_made(made, sink)
-}
-
-// The line of an operation that puts an expression.
-fn put_written<W: Sink>(line: u32, expression: &Expr, sink: &mut W) -> Result<(), WriteFault>
-    ensures { Writes ⟦<W as Sink>⟧ (spaced (decimal line ∷ codes "write" ∷ expr (expr_view expression.now) ∷ []))
-        sink.old sink.new result }
-{
-    put_fragments(&[Count(line as u64), Plain(b" write ")], sink)?;
-    put_expression(expression, sink)
-}
-
-// The line of a statement that is kept.
-fn put_kept<W: Sink>(kept: &Statement, sink: &mut W) -> Result<(), WriteFault>
-    ensures { Writes ⟦<W as Sink>⟧ (spaced (decimal (line_of kept.now) ∷ statement kept.now ∷ [])) sink.old sink.new
-        result }
-{
-    put_fragments(&[Count(kept.line() as u64), Plain(b" ")], sink)?;
-    put_statement(kept, sink)
 }
 
 // What a name is made of.

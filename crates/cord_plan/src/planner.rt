@@ -20,7 +20,7 @@ ghost use Rattle.cord_plan.specs.Planned as plan;
 ghost use Rattle.cord_plan.specs.Liveness.{IsLater};
 ghost use Rattle.cord_plan.specs.Views.{operation_view};
 
-use self::expressions::{Unpaired, unpaired_operations};
+use self::expressions::planned_operations;
 pub(crate) use self::interning::Interner;
 pub(crate) use self::joining::defining_expression;
 pub(crate) use self::lines::operation_of;
@@ -96,11 +96,6 @@ pub fn plan(alloc: Global, script: &Script) -> Result<Plan, CordError>
 {
     let statements = script.statements();
     let later = Later::of(alloc, statements)?;
-    let Unpaired {
-        mut operations,
-        taken,
-        extending,
-    } = unpaired_operations(alloc, statements, &later)?;
-    measure_taken(&mut operations, &taken);
+    let (operations, extending) = planned_operations(alloc, statements, &later)?;
     Ok(Plan::of(operations, extending, later.numbering.into_names()))
 }

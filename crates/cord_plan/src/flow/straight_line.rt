@@ -22,15 +22,11 @@ pub(crate) struct LineLater {
     pub(crate) operands: u16,
 }
 
-impl LineLater {
-    // Nothing is read later.
-    fn none() -> Self {
-        LineLater {
-            target: false,
-            operands: 0,
-        }
-    }
-}
+/// Nothing is read later.
+const NOTHING: LineLater = LineLater {
+    target: false,
+    operands: 0,
+};
 
 /// What is read later than the line at a place.
 pub(crate) fn line_at(lines: &[LineLater], place: usize) -> LineLater
@@ -38,7 +34,7 @@ pub(crate) fn line_at(lines: &[LineLater], place: usize) -> LineLater
 {
     match lines.get(place) {
         Some(line) => *line,
-        None => LineLater::none(),
+        None => NOTHING,
     }
 }
 
@@ -102,7 +98,7 @@ pub(crate) fn lines_later(
     ensures { IfOk result (λ v. AreReportedFrom statements.now 0 v.items) }
 {
     let mut next_reads = vec![in alloc; None; numbering.count()]?;
-    let mut lines = vec![in alloc; LineLater::none(); statements.len()]?;
+    let mut lines = vec![in alloc; NOTHING; statements.len()]?;
     for place in (0..statements.len()).rev() {
         let numbers = numbering.line(place);
         lines[place] = LineLater {

@@ -1,8 +1,7 @@
 // Fragments of a plan's text, and how a sink gets them.
 ghost use Rattle.std.specs.Prelude.{◌≡◌, ◌<◌, flat_map, map};
 ghost use Rattle.cord_iter.specs.Output.{Writes};
-ghost use Rattle.cord_plan.specs.PlanText.{argument, printed_arguments, decimal, hex, number, path_byte, quoted};
-ghost use Rattle.cord_plan.specs.PlanText.{signed_decimal, spaced};
+ghost use Rattle.cord_plan.specs.PlanText.{argument, printed_arguments, decimal, hex, number, path_byte, quoted, spaced};
 ghost use Rattle.cord_plan.specs.inner.Views.{fragment_text, fragments_text};
 
 use cord_io::{Sink, WriteFault};
@@ -76,17 +75,12 @@ fn put_number<W: Sink>(operand: &Number, sink: &mut W) -> Result<(), WriteFault>
     ensures { Writes ⟦<W as Sink>⟧ (number operand.now) sink.old sink.new result }
 {
     match operand {
-        Number::Numeral(numeral) => put_numeral(*numeral, sink),
+        Number::Numeral(numeral) => {
+            let mut digits = Buffer::new();
+            put_all(digits.format(*numeral).as_bytes(), sink)
+        }
         Number::Named(name) => put_all(name.as_slice(), sink),
     }
-}
-
-// A numeral in shortest decimal form.
-fn put_numeral<W: Sink>(numeral: i64, sink: &mut W) -> Result<(), WriteFault>
-    ensures { Writes ⟦<W as Sink>⟧ (signed_decimal numeral) sink.old sink.new result }
-{
-    let mut digits = Buffer::new();
-    put_all(digits.format(numeral).as_bytes(), sink)
 }
 
 // A path between quotes.

@@ -1,32 +1,24 @@
 // The operations of a script's lines, each with its expression over those of the lines before it.
 ghost use Rattle.std.specs.Prelude.{◌≡◌, ◌∷◌, [], List, Option, Some, IfOk, map, slice_get};
 ghost use Rattle.cord_plan.specs.Exprs as plain;
-ghost use Rattle.cord_plan.specs.inner.Choices.{choice_view, AreChoices, IsKnown, AreUnpaired, AreLonger, IsNext};
+ghost use Rattle.cord_plan.specs.inner.Choices.{choice_view, AreChoices, IsKnown, AreLonger, IsNext};
 ghost use Rattle.cord_plan.specs.inner.Choices.{IsSimpleLine, Takes, is_longer, table_view};
 ghost use Rattle.cord_plan.specs.inner.Liveness.{reports, AllReported, IsRecent};
 ghost use Rattle.cord_plan.specs.inner.Numbering.{IsNumbered, IsNumbering};
+ghost use Rattle.cord_plan.specs.Planned.{planned};
 ghost use Rattle.cord_plan.specs.Views.{operation_view};
 
 use crate::flow::{Later, LineNumbers, Recent, operands_of};
 use crate::planner::expression_facts::ExpressionFacts;
 use crate::planner::interning::Interner;
-use crate::planner::is_dead;
 use crate::planner::joining::expression_with;
 use crate::planner::lines::operation_of;
 use crate::planner::operand_choices::{Choice, Line, choose, choose_all, is_last, is_named};
+use crate::planner::{is_dead, measure_taken};
 use crate::{Expr, Operation};
 use cord_script::Statement;
 use cord_syntax::Operands;
 use std::alloc::{AllocError, Global};
-
-/// The operations of a script's lines, each as if no later line took its expression, for each line whether a later one
-/// does, and whether it is reported to extend the one before it.
-#[derive(Drop)]
-pub(crate) struct Unpaired {
-    pub(crate) operations: Vec<Operation>,
-    pub(crate) taken: Vec<bool>,
-    pub(crate) extending: Vec<bool>,
-}
 
 // Whether a line with these choices joins the members that the line before it joins, and one more.
 #[inline(always)]
@@ -159,25 +151,24 @@ fn next_expression(
     expression_over(alloc, interner, &line, known, operations, taken)
 }
 
-/// The operations of a script's lines before any is the first of a pair, given what is read later.
-pub(crate) fn unpaired_operations(
+/// The operations of a script's lines, given what is read later, and for each line whether it is reported to extend the
+/// one before it.
+pub(crate) fn planned_operations(
     alloc: Global,
     statements: &[Statement],
     later: &Later,
-) -> Result<Unpaired, AllocError>
+) -> Result<(Vec<Operation>, Vec<bool>), AllocError>
     requires reported { AllReported statements.now later.now }
     requires numbered { IsNumbering statements.now later.now.numbering }
-    ensures made { IfOk result (λ u. AreUnpaired statements.now (reports later.now)
-        (map operation_view u.operations.items)
-        u.taken.items) }
-    ensures extending { IfOk result (λ u. AreLonger statements.now (reports later.now) u.extending.items) }
+    ensures made { IfOk result (λ r. map operation_view r.0.items ≡ planned statements.now (reports later.now)) }
+    ensures extending { IfOk result (λ r. AreLonger statements.now (reports later.now) r.1.items) }
 {
-    let mut operations = Vec::with_capacity(alloc, statements.len())?;
-    let mut extending = Vec::with_capacity(alloc, statements.len())?;
     let mut taken = vec![in alloc; false; statements.len()]?;
-    let mut interner = Interner::of(alloc);
-    let mut recent = Recent::of(alloc, later)?;
+    let mut extending = Vec::with_capacity(alloc, statements.len())?;
     let mut known = ExpressionFacts::of(alloc, later.numbering.count())?;
+    let mut recent = Recent::of(alloc, later)?;
+    let mut operations = Vec::with_capacity(alloc, statements.len())?;
+    let mut interner = Interner::of(alloc);
     for (place, statement) in statements.iter().enumerate() {
         let numbers = later.numbering.line(place);
         let next = next_expression(
@@ -201,9 +192,6 @@ pub(crate) fn unpaired_operations(
         extending.push_reserved(extends);
         recent.note(statement, numbers, place);
     }
-    Ok(Unpaired {
-        operations,
-        taken,
-        extending,
-    })
+    measure_taken(&mut operations, &taken);
+    Ok((operations, extending))
 }

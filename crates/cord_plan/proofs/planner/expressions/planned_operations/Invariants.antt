@@ -2,7 +2,7 @@ use Rattle.std.specs.Prelude.{◌≡◌, ◌≤◌, ◌+◌, ◌-◌}
 use Rattle.cord_plan.proofs.Common.{length, vec_len, vec_capacity, reports, map, IsRecent, AreLonger, operation_view, table_view}
 use Rattle.cord_plan.proofs.Begun.{IsBegun}
 use Rattle.cord_plan.specs.inner.Choices.{IsKnown}
-use Rattle.cord_plan.proofs.planner.expressions.unpaired_operations.Given as goal
+use Rattle.cord_plan.proofs.planner.expressions.planned_operations.Given as goal
 
 -- the operations of the lines so far, with room for those to come, and what was noted of those lines
 abbrev pub invariant-loop-place : goal.invariant-loop-place

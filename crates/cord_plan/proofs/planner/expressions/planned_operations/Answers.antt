@@ -5,7 +5,7 @@ use Rattle.cord_plan.proofs.Common.{or_nothing, target_of, IsNumbered}
 use Rattle.cord_plan.specs.inner.Choices.{IsNext}
 use Rattle.cord_plan.proofs.Begun.{all_begun, begun_none, begun_then, has_expression, longer_then, written_back}
 use Rattle.cord_plan.proofs.Numbers.{line_there}
-use Rattle.cord_plan.proofs.planner.expressions.unpaired_operations.Goals as goal
+use Rattle.cord_plan.proofs.planner.expressions.planned_operations.Goals as goal
 
 pub loop-place-preserved : goal.loop-place-preserved
 loop-place-preserved c =
@@ -69,21 +69,34 @@ loop-place-init c = record {
 pub returns-clause-extending : goal.returns-clause-extending
 returns-clause-extending c = c.loop-place.invariant.longer
 
+pub measure_taken-requires : goal.measure_taken-requires
+measure_taken-requires c = rw (c.deref_mut-2.ensures.value, c.deref-2.ensures.value) (omega (
+  arith,
+  c.loop-place.operations.ok.0,
+  c.loop-place.invariant.made_listed,
+  c.loop-place.invariant.begun.size,
+  c.loop-place-test.false,
+  c.loop-place.auto.place-end,
+))
+
 pub returns-clause-made : goal.returns-clause-made
 returns-clause-made c =
-    let made = map operation_view c.loop-place.operations.items in
-    let begun = c.loop-place.invariant.begun in
-    let long : length made ≡ length c.loop-place.operations.items = length-map c.loop-place.operations.items operation_view in
-    all_begun c.args.statements.now (reports c.args.later.now) c.loop-place.place made c.loop-place.taken.items c.loop-place-test.false
+    let s = c.args.statements.now in
+    let later = reports c.args.later.now in
+    let vec = c.loop-place.operations in
+    ap (map operation_view) (written_back vec.len c.measure_taken.new.operations vec.items (c.measure_taken.auto.operations
+    ∙ c.deref_mut-2.ensures.len))
+    ∙ c.measure_taken.ensures s later (rw (c.deref_mut-2.ensures.value, c.deref-2.ensures.value)
+    (all_begun s later c.loop-place.place (map operation_view vec.items) c.loop-place.taken.items c.loop-place-test.false
     (omega (
       arith,
-      long,
-      c.loop-place.operations.ok.0,
+      length-map vec.items operation_view,
+      vec.ok.0,
       c.loop-place.invariant.made_listed,
-      begun.size,
+      c.loop-place.invariant.begun.size,
       c.loop-place-test.false,
       c.loop-place.auto.place-end,
-    )) begun
+    )) c.loop-place.invariant.begun))
 
 pub line-numbers-requires : goal.line-numbers-requires
 line-numbers-requires c =
