@@ -4,7 +4,8 @@ use Rattle.cord_script.proofs.Common.{inl, inr, Some, None, ℕ, zero, suc, List
 use Rattle.cord_script.proofs.Common.{length, length-append, arith, Bool, true, false, eqb-true, All, All-cons, eqb-false, MAX_SCRIPT}
 use Rattle.cord_script.proofs.Common.{MAX_LINES, Word, Statement, RefusalKind, NoMemory, IsSplit, IsIdle, HasWords, line_of, Grammar, Scope}
 use Rattle.cord_script.proofs.Common.{Block, ReadsBy, ReadsUpTo, Says, LinesSay, whole, start, after, after_all, InRepeat}
-use Rattle.cord_script.proofs.Common.{FirstErrorBy, HasBadLine, IsInnermostOpen, TakesLine, HasWrong}
+use Rattle.cord_script.proofs.Common.{FirstErrorBy, HasBadLine, IfSome, IsInnermostOpen, Option, TakesLine, HasWrong}
+use Rattle.std.specs.Option.{unwrap_or}
 
 -- a byte in front of lines
 abbrev with_byte : (c : ℕ) (cs : List ℕ) (lines : List (List ℕ)) → c ≢ 10 → IsSplit cs lines → (more : List (List ℕ)) × IsSplit (c ∷ cs) more
@@ -143,9 +144,13 @@ stops {n = n} {ss = ss} suffix line kind small r first wrong =
     }))
 
 -- a line that is wrong
-pub is_wrong : (n : ℕ) (line : List ℕ) (scope : Scope) (kind : RefusalKind) → n ≤ MAX_LINES → HasWrong line scope kind →
+pub is_wrong : (n : ℕ) (line : List ℕ) (scope : Scope) (wrong : Option RefusalKind) (kind : RefusalKind) → n ≤ MAX_LINES →
+    kind ≡ unwrap_or wrong NoMemory → IfSome wrong (λ k. k ≢ NoMemory → HasWrong line scope k) → kind ≢ NoMemory →
     HasBadLine whole n scope line kind
-is_wrong n line scope kind few h = inr (few, h.0, h.1)
+is_wrong n line scope None kind few e h other = absurd (other e)
+is_wrong n line scope (Some k) kind few e h other =
+    let shown = h (λ is. other (e ∙ is)) in
+    subst (HasBadLine whole n scope line) (sym e) (inr (few, shown.0, shown.1))
 
 -- the bytes are these statements, where no line and no block is left
 pub read_whole : {b rest : List ℕ} {n : ℕ} {scope : Scope} {ss : List Statement} → length b ≤ MAX_SCRIPT → n ≤ MAX_LINES + 1 → rest ≡ [] →

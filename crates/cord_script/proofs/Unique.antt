@@ -204,63 +204,48 @@ one_word line rest rest' (Quoted t) (Quoted t') h h' =
     let suffix : rest ≡ rest' = let e = q.1 in cc in
     (ap Quoted q.0, suffix)
 
-no_word : (line rest : List ℕ) (w : Word) → HasWord line w rest → All IsBlank line → ⊥
-no_word line rest (Plain p) h all = let b = plain_begins line p rest h in no_beginning line (b.others ++ rest) b.first b.begins all
-no_word line rest (Quoted t) h all = no_beginning line (h.1 ++ 34 ∷ rest) 34 (quoted_begins line t rest h) all
+-- no word stands first
+abbrev NoWord : List ℕ → Type 0
+NoWord line = (rest : List ℕ) (w : Word) → ¬ HasWord line w rest
 
-good_word : (line rest : List ℕ) (w : Word) (kind : RefusalKind) → HasWord line w rest → BeginsBadText line kind → ⊥
-good_word line rest (Plain p) kind h bad = no_quote line p rest bad.1 h (bad_begins line kind bad)
-good_word line rest (Quoted t) kind h bad =
+no_word : (line : List ℕ) → All IsBlank line → NoWord line
+no_word line all rest (Plain p) h = let b = plain_begins line p rest h in no_beginning line (b.others ++ rest) b.first b.begins all
+no_word line all rest (Quoted t) h = no_beginning line (h.1 ++ 34 ∷ rest) 34 (quoted_begins line t rest h) all
+
+good_word : (line : List ℕ) (kind : RefusalKind) → BeginsBadText line kind → NoWord line
+good_word line kind bad rest (Plain p) h = no_quote line p rest bad.1 h (bad_begins line kind bad)
+good_word line kind bad rest (Quoted t) h =
     let r = one_beginning line (h.1 ++ 34 ∷ rest) bad.1 34 34 (quoted_begins line t rest h) (bad_begins line kind bad) in
     closed_good bad.1 h.1 rest t kind (sym r.1) h.4 h.5 bad.4
 
+-- words that no word follows end at one place
+starts_one : (line rest rest' : List ℕ) (ws ws' : List Word) → StartsWith line ws rest → NoWord rest → StartsWith line ws' rest' →
+    NoWord rest' → (ws ≡ ws') × (rest ≡ rest')
+starts_one line rest rest' [] [] s stops s' stops' = (refl, sym s ∙ s')
+starts_one line rest rest' [] (w' ∷ ws') s stops s' stops' = absurd (stops s'.0 w' (subst (λ x. HasWord x w' s'.0) s s'.1))
+starts_one line rest rest' (w ∷ ws) [] s stops s' stops' = absurd (stops' s.0 w (subst (λ x. HasWord x w s.0) s' s.1))
+starts_one line rest rest' (w ∷ ws) (w' ∷ ws') s stops s' stops' =
+    let r = one_word line s.0 s'.0 w w' s.1 s'.1 in
+    let q = starts_one s.0 rest rest' ws ws' s.2 stops (subst (λ x. StartsWith x ws' rest') (sym r.1) s'.2) stops' in
+    (ap (λ k. k ∷ ws) r.0 ∙ ap (λ k. w' ∷ k) q.0, q.1)
+
 -- a line has one list of words
-starts_one : (line rest rest' : List ℕ) (ws ws' : List Word) → StartsWith line ws rest → All IsBlank rest → StartsWith line ws' rest' →
-    All IsBlank rest' → ws ≡ ws'
-starts_one line rest rest' [] [] s b s' b' = refl
-starts_one line rest rest' [] (w' ∷ ws') s b s' b' = absurd (no_word line s'.0 w' s'.1 (subst (All IsBlank) (sym s) b))
-starts_one line rest rest' (w ∷ ws) [] s b s' b' = absurd (no_word line s.0 w s.1 (subst (All IsBlank) (sym s') b'))
-starts_one line rest rest' (w ∷ ws) (w' ∷ ws') s b s' b' =
-    let r = one_word line s.0 s'.0 w w' s.1 s'.1 in
-    let q = starts_one s.0 rest rest' ws ws' s.2 b (subst (λ x. StartsWith x ws' rest') (sym r.1) s'.2) b' in
-    ap (λ k. k ∷ ws) r.0 ∙ ap (λ k. w' ∷ k) q
-
 pub one_words : (line : List ℕ) (ws ws' : List Word) → HasWords line ws → HasWords line ws' → ws ≡ ws'
-one_words line ws ws' h h' = starts_one line h.0 h'.0 ws ws' h.1 h.2 h'.1 h'.2
-
-starts_good : (line rest rest' : List ℕ) (ws ws' : List Word) (kind : RefusalKind) → StartsWith line ws rest → All IsBlank rest →
-    StartsWith line ws' rest' → BeginsBadText rest' kind → ⊥
-starts_good line rest rest' [] [] kind s b s' bad =
-    let e : rest' ≡ rest = sym s' ∙ s in
-    no_beginning rest' bad.1 34 (bad_begins rest' kind bad) (subst (All IsBlank) (sym e) b)
-starts_good line rest rest' [] (w' ∷ ws') kind s b s' bad = no_word line s'.0 w' s'.1 (subst (All IsBlank) (sym s) b)
-starts_good line rest rest' (w ∷ ws) [] kind s b s' bad = good_word line s.0 w kind s.1 (subst (λ x. BeginsBadText x kind) (sym s') bad)
-starts_good line rest rest' (w ∷ ws) (w' ∷ ws') kind s b s' bad =
-    let r = one_word line s.0 s'.0 w w' s.1 s'.1 in
-    starts_good s.0 rest rest' ws ws' kind s.2 b (subst (λ x. StartsWith x ws' rest') (sym r.1) s'.2) bad
+one_words line ws ws' h h' = (starts_one line h.0 h'.0 ws ws' h.1 (no_word h.0 h.2) h'.1 (no_word h'.0 h'.2)).0
 
 -- a line that has words has no error of its bytes
 pub good_bytes : (line : List ℕ) (ws : List Word) (kind : RefusalKind) → HasWords line ws → HasBadBytes line kind → ⊥
-good_bytes line ws kind h bad = starts_good line h.0 bad.1 ws bad.0 kind h.1 h.2 bad.2 bad.3
-
-starts_bad : (line rest rest' : List ℕ) (ws ws' : List Word) (kind kind' : RefusalKind) → StartsWith line ws rest →
-    BeginsBadText rest kind → StartsWith line ws' rest' → BeginsBadText rest' kind' → kind ≡ kind'
-starts_bad line rest rest' [] [] kind kind' s bad s' bad' =
-    let at = subst (λ x. BeginsBadText x kind) (sym s) bad in
-    let at' = subst (λ x. BeginsBadText x kind') (sym s') bad' in
-    let r = one_beginning line at.1 at'.1 34 34 (bad_begins line kind at) (bad_begins line kind' at') in
-    one_bad_text at.1 kind kind' at.4 (subst (λ x. IsBadText x kind') (sym r.1) at'.4)
-starts_bad line rest rest' [] (w' ∷ ws') kind kind' s bad s' bad' =
-    absurd (good_word line s'.0 w' kind s'.1 (subst (λ x. BeginsBadText x kind) (sym s) bad))
-starts_bad line rest rest' (w ∷ ws) [] kind kind' s bad s' bad' =
-    absurd (good_word line s.0 w kind' s.1 (subst (λ x. BeginsBadText x kind') (sym s') bad'))
-starts_bad line rest rest' (w ∷ ws) (w' ∷ ws') kind kind' s bad s' bad' =
-    let r = one_word line s.0 s'.0 w w' s.1 s'.1 in
-    starts_bad s.0 rest rest' ws ws' kind kind' s.2 bad (subst (λ x. StartsWith x ws' rest') (sym r.1) s'.2) bad'
+good_bytes line ws kind h bad =
+    let same = (starts_one line h.0 bad.1 ws bad.0 h.1 (no_word h.0 h.2) bad.2 (good_word bad.1 kind bad.3)).1 in
+    no_beginning bad.1 bad.3.1 34 (bad_begins bad.1 kind bad.3) (subst (All IsBlank) same h.2)
 
 -- the bytes of a line have one first error
 pub one_bad_bytes : (line : List ℕ) (kind kind' : RefusalKind) → HasBadBytes line kind → HasBadBytes line kind' → kind ≡ kind'
-one_bad_bytes line kind kind' h h' = starts_bad line h.1 h'.1 h.0 h'.0 kind kind' h.2 h.3 h'.2 h'.3
+one_bad_bytes line kind kind' h h' =
+    let same = (starts_one line h.1 h'.1 h.0 h'.0 h.2 (good_word h.1 kind h.3) h'.2 (good_word h'.1 kind' h'.3)).1 in
+    let at = subst (λ x. BeginsBadText x kind) same h.3 in
+    let r = one_beginning h'.1 at.1 h'.3.1 34 34 (bad_begins h'.1 kind at) (bad_begins h'.1 kind' h'.3) in
+    one_bad_text at.1 kind kind' at.4 (subst (λ x. IsBadText x kind') (sym r.1) h'.3.4)
 
 -- a line ends at its first byte 10
 one_end : (l l' r r' : List ℕ) → All (λ c. c ≢ 10) l → All (λ c. c ≢ 10) l' → l ++ 10 ∷ r ≡ l' ++ 10 ∷ r' → (l ≡ l') × (r ≡ r')

@@ -5,9 +5,8 @@ ghost use Rattle.cord_script.specs.inner.LineReading.{scope_of, left_after};
 ghost use Rattle.cord_script.specs.inner.Verbal.{verb_effect};
 
 use crate::Path;
-use crate::added::Added;
 use crate::blocks::{Open, set_blocks};
-use crate::table::Table;
+use crate::table::{NewName, Table};
 use crate::verbs::Verb;
 use std::alloc::{AllocError, Global};
 use std::collections::VecDeque;
@@ -58,14 +57,18 @@ impl Context {
         }
     }
 
-    /// Adds what a statement of the verb leaves at a line, with what its words add.
+    /// Adds what a statement of the verb leaves at a line, with the name and the path that its words add.
     #[inline(always)]
-    pub fn leave(&mut self, verb: Verb, line: u32, added: Added) -> Result<(), AllocError>
+    pub fn leave(
+        &mut self,
+        verb: Verb,
+        line: u32,
+        name: Option<NewName>,
+        path: Option<Path>,
+    ) -> Result<(), AllocError>
         ensures left { OnOk result (scope_of self.new
-            ≡ left_after (verb_effect verb) line (option_map (λ n. n.known) added.name) added.path
-            (scope_of self.old)) }
+            ≡ left_after (verb_effect verb) line (option_map (λ n. n.known) name) path (scope_of self.old)) }
     {
-        let Added { name, path } = added;
         if let Some(new) = name {
             self.names.assign(new.known)?;
         }

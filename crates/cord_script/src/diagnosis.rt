@@ -1,5 +1,5 @@
 // What is wrong with a line that isn't read.
-ghost use Rattle.std.specs.Prelude.{◌≡◌, ◌≢◌, ◌++◌, [], Some, IfOk, IfErr, option_map};
+ghost use Rattle.std.specs.Prelude.{◌≡◌, ◌≢◌, ◌++◌, [], Some, IfOk, IfSome, option_map};
 ghost use Rattle.cord_script.specs.declared.words.Word.TheVariants.{Plain};
 ghost use Rattle.cord_script.specs.Words.{IsIdle};
 ghost use Rattle.cord_script.specs.Forms.{form_of};
@@ -34,29 +34,19 @@ const JOINED: [Want; 1 + MAX_PARTS] = [
 // The target and the format of a `sprintf`.
 const PRINTED: [Want; 2] = [TARGET, Want::Format];
 
-// The error that there is, if there is one.
-fn none_of(first_error: Option<RefusalKind>) -> Result<(), RefusalKind>
-    ensures { IfErr result (λ kind. first_error ≡ Some kind) }
-{
-    match first_error {
-        None => Ok(()),
-        Some(kind) => Err(kind),
-    }
-}
-
 // What is wrong with the words after `catn`.
-fn joined_error(context: &Context, words: &[Word]) -> Result<(), RefusalKind>
-    ensures { IfErr result (λ kind. kind ≢ RefusalKind.NoMemory →
+fn joined_error(context: &Context, words: &[Word]) -> Option<RefusalKind>
+    ensures { IfSome result (λ kind.
         HasFormError (scope_of context.now) (Some (record { shape = Joined; effect = Stays })) words.now kind) }
 {
     let count = words.len();
     if count < 1 + MIN_PARTS {
-        return Err(RefusalKind::WrongCount);
+        return Some(RefusalKind::WrongCount);
     }
     if count > 1 + MAX_PARTS {
-        return Err(RefusalKind::WrongCount);
+        return Some(RefusalKind::WrongCount);
     }
-    none_of(wanted_error(context, Verb::Catn, &JOINED[..count], words))
+    wanted_error(context, Verb::Catn, &JOINED[..count], words)
 }
 
 // What is wanted of all words after `sprintf`, by the format among them; none where there is none.
@@ -83,74 +73,73 @@ fn arguments_error(
     context: &Context,
     arguments: &[Want],
     words: &[Word],
-) -> Result<(), RefusalKind>
-    ensures { IfErr result (λ kind. kind ≢ RefusalKind.NoMemory →
+) -> Option<RefusalKind>
+    ensures { IfSome result (λ kind.
         wanted_error Stays (scope_of context.now) (format_wants ++ arguments.now) words.now ≡ Some kind) }
 {
-    let mut wants = Vec::from_slice(alloc, &PRINTED)?;
-    wants.extend_from_slice(arguments)?;
-    none_of(wanted_error(context, Verb::Sprintf, &wants, words))
+    let mut wants = Vec::from_slice(alloc, &PRINTED).ok()?;
+    wants.extend_from_slice(arguments).ok()?;
+    wanted_error(context, Verb::Sprintf, &wants, words)
 }
 
 // What is wrong with the words after `sprintf`.
-fn printed_error(alloc: Global, context: &Context, words: &[Word]) -> Result<(), RefusalKind>
-    ensures { IfErr result (λ kind. kind ≢ RefusalKind.NoMemory →
+fn printed_error(alloc: Global, context: &Context, words: &[Word]) -> Option<RefusalKind>
+    ensures { IfSome result (λ kind.
         HasFormError (scope_of context.now) (Some (record { shape = Printed; effect = Stays })) words.now kind) }
 {
     if words.len() < PRINTED.len() {
-        return Err(RefusalKind::WrongCount);
+        return Some(RefusalKind::WrongCount);
     }
-    let arguments = printed_wants(alloc, words)?;
+    let Ok(arguments) = printed_wants(alloc, words) else {
+        return None;
+    };
     if let Some(kind) = earliest_error(Pass::Words, context, &PRINTED, words) {
-        return Err(kind);
+        return Some(kind);
     }
     let Some(arguments) = arguments else {
-        return Err(RefusalKind::BadFormat);
+        return Some(RefusalKind::BadFormat);
     };
     arguments_error(alloc, context, &arguments, words)
 }
 
 // What is wrong with the words after a verb.
-fn form_error(
-    alloc: Global,
-    context: &Context,
-    verb: Verb,
-    words: &[Word],
-) -> Result<(), RefusalKind>
-    ensures { IfErr result (λ kind. kind ≢ RefusalKind.NoMemory →
-        HasFormError (scope_of context.now) (form_of (verb_word verb)) words.now kind) }
+fn form_error(alloc: Global, context: &Context, verb: Verb, words: &[Word]) -> Option<RefusalKind>
+    ensures { IfSome result (λ kind. HasFormError (scope_of context.now) (form_of (verb_word verb)) words.now kind) }
 {
     match verb {
-        Verb::Fixed(fixed) => none_of(wanted_error(context, verb, wants_of(fixed), words)),
+        Verb::Fixed(fixed) => wanted_error(context, verb, wants_of(fixed), words),
         Verb::Catn => joined_error(context, words),
         Verb::Sprintf => printed_error(alloc, context, words),
     }
 }
 
 // What is wrong with the words of a line.
-fn words_error(alloc: Global, context: &Context, words: &[Word]) -> Result<(), RefusalKind>
+fn words_error(alloc: Global, context: &Context, words: &[Word]) -> Option<RefusalKind>
     requires { words.now ≢ [] }
-    ensures { IfErr result (λ kind. kind ≢ RefusalKind.NoMemory →
-        HasBadWords whole (scope_of context.now) words.now kind) }
+    ensures { IfSome result (λ kind. HasBadWords whole (scope_of context.now) words.now kind) }
 {
     let [first, others @ ..] = words else {
-        return Err(RefusalKind::UnknownStatement);
+        return Some(RefusalKind::UnknownStatement);
     };
     let Word::Plain(word) = first else {
-        return Err(RefusalKind::UnknownStatement);
+        return Some(RefusalKind::UnknownStatement);
     };
-    let verb = verb_of(word.as_slice()).ok_or(RefusalKind::UnknownStatement)?;
-    form_error(alloc, context, verb, others)
+    match verb_of(word.as_slice()) {
+        None => Some(RefusalKind::UnknownStatement),
+        Some(verb) => form_error(alloc, context, verb, others),
+    }
 }
 
 /// What is wrong first with a line for which no statement was built: its bytes, or its words. Where nothing is, memory
 /// was refused for the statement.
 #[cold]
 #[inline(never)]
-pub fn first_wrong(alloc: Global, context: &Context, line: &[u8]) -> Result<(), RefusalKind>
+pub fn first_wrong(alloc: Global, context: &Context, line: &[u8]) -> Option<RefusalKind>
     requires { ¬ IsIdle line.now }
-    ensures { IfErr result (λ kind. kind ≢ RefusalKind.NoMemory → HasWrong line.now (scope_of context.now) kind) }
+    ensures { IfSome result (λ kind. kind ≢ RefusalKind.NoMemory → HasWrong line.now (scope_of context.now) kind) }
 {
-    let words = words_of(alloc, line)?;
-    words_error(alloc, context, &words)
+    match words_of(alloc, line) {
+        Ok(words) => words_error(alloc, context, &words),
+        Err(kind) => Some(kind),
+    }
 }

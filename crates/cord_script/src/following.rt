@@ -1,13 +1,12 @@
 // Fields that follow one another in a line. What follows a refused one isn't asked for.
 #![tactic(auto, using(crate::proofs::LineReading::one_field, crate::proofs::LineReading::first_field, crate::proofs::LineReading::all_given,))]
 
-ghost use Rattle.std.specs.Prelude.{◌≡◌, [], ◌∷◌, ◌++◌, IfOk};
+ghost use Rattle.std.specs.Prelude.{◌≡◌, [], ◌∷◌, ◌++◌, IfSome};
 ghost use Rattle.cord_script.specs.Forms.Term.{Target, Operand, Value, Literal, FilePath, Applies, Compares};
 ghost use Rattle.cord_script.specs.inner.LineReading.{IsFresh, GivesAll};
 
 use crate::fields::{function_of, relation_of};
 use crate::kinds::Kind;
-use crate::no_statement::NoStatement;
 use crate::remaining_words::LineWords;
 use crate::{Function, Name, Number, Path, Relation, Shared, Text};
 
@@ -23,8 +22,8 @@ pub trait Fields: Copy {
     ghost terms: { Self → Self.Found → List Term };
 
     /// Reads the words.
-    fn read(self, words: &mut LineWords) -> Result<Self::Found, NoStatement>
-        ensures { IfOk result (λ found. GivesAll words.old (terms self found) words.new) };
+    fn read(self, words: &mut LineWords) -> Option<Self::Found>
+        ensures { IfSome result (λ found. GivesAll words.old (terms self found) words.new) };
 }
 
 /// A name that is used, of this kind.
@@ -57,7 +56,7 @@ impl Fields for Operand {
     ghost terms = { λ field name. Operand field.0 name ∷ [] };
 
     #[inline(always)]
-    fn read(self, words: &mut LineWords) -> Result<Name, NoStatement> {
+    fn read(self, words: &mut LineWords) -> Option<Name> {
         words.operand(self.0)
     }
 }
@@ -68,7 +67,7 @@ impl Fields for Value {
     ghost terms = { λ _ number. Value number ∷ [] };
 
     #[inline(always)]
-    fn read(self, words: &mut LineWords) -> Result<Number, NoStatement> {
+    fn read(self, words: &mut LineWords) -> Option<Number> {
         words.number()
     }
 }
@@ -79,7 +78,7 @@ impl Fields for SharedValue {
     ghost terms = { λ _ number. Value number ∷ [] };
 
     #[inline(always)]
-    fn read(self, words: &mut LineWords) -> Result<Shared<Number>, NoStatement> {
+    fn read(self, words: &mut LineWords) -> Option<Shared<Number>> {
         words.shared_number()
     }
 }
@@ -91,7 +90,7 @@ impl Fields for Literal {
 
     #[inline(always)]
     #[tactic(auto, using(crate::proofs::LineReading::literal_given))]
-    fn read(self, words: &mut LineWords) -> Result<Text, NoStatement> {
+    fn read(self, words: &mut LineWords) -> Option<Text> {
         words.quoted()
     }
 }
@@ -103,8 +102,8 @@ impl Fields for Applied {
 
     #[inline(always)]
     #[tactic(auto, using(crate::proofs::LineReading::applied_given))]
-    fn read(self, words: &mut LineWords) -> Result<Function, NoStatement> {
-        function_of(words.plain()?).ok_or(NoStatement)
+    fn read(self, words: &mut LineWords) -> Option<Function> {
+        function_of(words.plain()?)
     }
 }
 
@@ -115,8 +114,8 @@ impl Fields for Compared {
 
     #[inline(always)]
     #[tactic(auto, using(crate::proofs::LineReading::compared_given))]
-    fn read(self, words: &mut LineWords) -> Result<Relation, NoStatement> {
-        relation_of(words.plain()?).ok_or(NoStatement)
+    fn read(self, words: &mut LineWords) -> Option<Relation> {
+        relation_of(words.plain()?)
     }
 }
 
@@ -126,10 +125,10 @@ impl<A: Fields, B: Fields> Fields for (A, B) {
     ghost terms = { λ fields values. A.terms fields.0 values.0 ++ B.terms fields.1 values.1 };
 
     #[inline(always)]
-    fn read(self, words: &mut LineWords) -> Result<(A::Found, B::Found), NoStatement> {
+    fn read(self, words: &mut LineWords) -> Option<(A::Found, B::Found)> {
         let (first, others) = self;
         let value = first.read(words)?;
-        Ok((value, others.read(words)?))
+        Some((value, others.read(words)?))
     }
 }
 
@@ -139,21 +138,21 @@ pub fn with_target<F: Fields>(
     kind: Kind,
     fields: F,
     words: &mut LineWords,
-) -> Result<(Name, F::Found), NoStatement>
+) -> Option<(Name, F::Found)>
     requires { IsFresh words.old }
-    ensures { IfOk result (λ all. GivesAll words.old (Target kind all.0 ∷ F.terms fields all.1) words.new) }
+    ensures { IfSome result (λ all. GivesAll words.old (Target kind all.0 ∷ F.terms fields all.1) words.new) }
 {
     let target = words.target(kind)?;
-    Ok((target, fields.read(words)?))
+    Some((target, fields.read(words)?))
 }
 
 /// The target, a cord, and a path.
 #[inline(always)]
-pub fn target_and_path(words: &mut LineWords) -> Result<(Name, Path), NoStatement>
+pub fn target_and_path(words: &mut LineWords) -> Option<(Name, Path)>
     requires { IsFresh words.old }
-    ensures { IfOk result (λ all. GivesAll words.old
+    ensures { IfSome result (λ all. GivesAll words.old
         (Target Kind.Cord all.0 ∷ FilePath all.1 ∷ []) words.new) }
 {
     let target = words.target(Kind::Cord)?;
-    Ok((target, words.path()?))
+    Some((target, words.path()?))
 }

@@ -1,7 +1,6 @@
 //! Scripts: from bytes to statements.
 #![tactic(auto)]
 
-mod added;
 mod blocks;
 mod context;
 mod diagnosis;
@@ -15,7 +14,6 @@ mod laws;
 mod limits;
 mod line;
 mod names;
-mod no_statement;
 mod numerals;
 mod parser;
 mod refusals;

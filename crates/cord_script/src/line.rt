@@ -62,14 +62,14 @@ pub fn take_statement(
         return Ok(false);
     }
     let mut words = LineWords::of(alloc, context, rest);
-    let Ok(statement) = statement_of(verb, number, &mut words) else {
+    let Some(statement) = statement_of(verb, number, &mut words) else {
         return Ok(false);
     };
     let is_added = push_of_all(statements, words.is_done(), statement)?;
     if !is_added {
         return Ok(false);
     }
-    let added = words.into_added();
-    context.leave(verb, number, added)?;
+    let (name, path) = words.into_added();
+    context.leave(verb, number, name, path)?;
     Ok(true)
 }

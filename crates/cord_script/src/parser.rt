@@ -74,10 +74,7 @@ fn take_line(
     if is_idle(line) {
         return Ok(());
     }
-    match first_wrong(alloc, context, line) {
-        Ok(()) => Err(RefusalKind::NoMemory),
-        Err(kind) => Err(kind),
-    }
+    Err(first_wrong(alloc, context, line).unwrap_or(RefusalKind::NoMemory))
 }
 
 /// Reads a script: lines that end with byte 10, or with the script, and on each one statement, a comment or nothing.

@@ -1,5 +1,5 @@
 // The words of a line that are still to be read, after what the lines before it leave.
-ghost use Rattle.std.specs.Prelude.{◌≡◌, ◌≤◌, ◌<◌, true, None, map, option_map, length, Some, IfOk, OnOk, All};
+ghost use Rattle.std.specs.Prelude.{◌≡◌, ◌≤◌, ◌<◌, true, None, map, option_map, length, Some, IfSome, All};
 ghost use Rattle.cord_printf.specs.Format.{IsFormat};
 ghost use Rattle.cord_script.specs.declared.words.Word.TheVariants.{Plain};
 ghost use Rattle.cord_script.specs.declared.kinds.Want.{Want};
@@ -12,14 +12,12 @@ ghost use Rattle.cord_script.specs.Forms.Term.{Target, Operand, Value, FilePath,
 ghost use Rattle.cord_script.specs.Script.{kind_of};
 ghost use Rattle.cord_script.specs.inner.LineReading.{scope_of, IsFresh, PassesWord, GivesTerm, GivesAll};
 
-use crate::added::{Added, NewName};
 use crate::context::{Context, is_among};
 use crate::fields::{begins_numeral, path_of};
 use crate::formats::wants_of_pieces;
 use crate::kinds::{Kind, Want};
-use crate::no_statement::NoStatement;
 use crate::numerals::numeral_of;
-use crate::table::Known;
+use crate::table::{Known, NewName};
 use crate::words::{Word, blanks, next_word, plain_word};
 use crate::{
     Argument, Arguments, MAX_PARTS, MAX_PATHS, MIN_PARTS, Name, Names, Number, Path, Shared, Text,
@@ -29,7 +27,7 @@ use std::alloc::Global;
 use std::marker::Model;
 
 /// The words of a line that are still to be read, after what the lines before it leave, and what those that were read
-/// add to it.
+/// add to it. What isn't read is none: something is wrong with the line, or memory was refused for its statement.
 #[derive(Drop)]
 pub struct LineWords<'a> {
     alloc: Global,
@@ -68,14 +66,11 @@ impl<'a> LineWords<'a> {
     }
 
     /// What the words that were read add to what the lines before leave.
-    pub fn into_added(self) -> Added
-        ensures name { option_map (λ n. n.known) result.name ≡ self.entry.name }
-        ensures path { result.path ≡ self.entry.path }
+    pub fn into_added(self) -> (Option<NewName>, Option<Path>)
+        ensures name { option_map (λ n. n.known) result.0 ≡ self.entry.name }
+        ensures path { result.1 ≡ self.entry.path }
     {
-        Added {
-            name: self.new_name,
-            path: self.new_path,
-        }
+        (self.new_name, self.new_path)
     }
 
     /// Whether no word is left.
@@ -87,24 +82,24 @@ impl<'a> LineWords<'a> {
 
     /// The bytes of the next word, which is a plain one and is read.
     #[inline(always)]
-    pub fn plain(&mut self) -> Result<&'a [u8], NoStatement>
-        ensures { IfOk result (λ word. PassesWord self.old (Plain word.now) self.new) }
+    pub fn plain(&mut self) -> Option<&'a [u8]>
+        ensures { IfSome result (λ word. PassesWord self.old (Plain word.now) self.new) }
     {
-        let (word, rest) = plain_word(self.rest).ok_or(NoStatement)?;
+        let (word, rest) = plain_word(self.rest)?;
         self.rest = rest;
-        Ok(word)
+        Some(word)
     }
 
     // The name that a word is, which the line assigns first, as of this kind.
     #[cold]
     #[inline(never)]
-    fn new_target(&mut self, word: &[u8], kind: Kind) -> Result<Name, NoStatement>
+    fn new_target(&mut self, word: &[u8], kind: Kind) -> Option<Name>
         requires { IsFresh self.old }
-        ensures name { IfOk result (λ name. name ≡ word.now) }
-        ensures is_name { IfOk result (λ name. is_name name ≡ true) }
-        ensures new { IfOk result (λ name. kind_of self.old.scope.names name ≡ None) }
-        ensures room { OnOk result (length self.old.scope.names < MAX_NAMES) }
-        ensures added { IfOk result (λ name. self.new ≡ record {
+        ensures name { IfSome result (λ name. name ≡ word.now) }
+        ensures is_name { IfSome result (λ name. is_name name ≡ true) }
+        ensures new { IfSome result (λ name. kind_of self.old.scope.names name ≡ None) }
+        ensures room { IfSome result (λ _. length self.old.scope.names < MAX_NAMES) }
+        ensures added { IfSome result (λ name. self.new ≡ record {
           scope = self.old.scope;
           rest = self.old.rest;
           name = Some (record { name = name; kind = kind });
@@ -114,154 +109,149 @@ impl<'a> LineWords<'a> {
         let name = self.context.names.new_name(self.alloc, word)?;
         self.new_name = Some(NewName {
             known: Known {
-                name: name.clone()?,
+                name: name.clone().ok()?,
                 kind,
             },
         });
-        Ok(name)
+        Some(name)
     }
 
     /// The target, of this kind.
     #[inline(always)]
-    pub fn target(&mut self, kind: Kind) -> Result<Name, NoStatement>
+    pub fn target(&mut self, kind: Kind) -> Option<Name>
         requires { IsFresh self.old }
-        ensures gave { IfOk result (λ name. GivesTerm self.old (Target kind name) self.new) }
-        ensures path { OnOk result (self.new.path ≡ None) }
+        ensures gave { IfSome result (λ name. GivesTerm self.old (Target kind name) self.new) }
+        ensures path { IfSome result (λ _. self.new.path ≡ None) }
     {
         let word = self.plain()?;
         match self.context.names.known_name(word, kind) {
-            Some(name) => Ok(name),
+            Some(name) => Some(name),
             None => self.new_target(word, kind),
         }
     }
 
     /// A name that is used, of this kind.
     #[inline(always)]
-    pub fn operand(&mut self, kind: Kind) -> Result<Name, NoStatement>
-        ensures { IfOk result (λ name. GivesTerm self.old (Operand kind name) self.new) }
+    pub fn operand(&mut self, kind: Kind) -> Option<Name>
+        ensures { IfSome result (λ name. GivesTerm self.old (Operand kind name) self.new) }
     {
         let word = self.plain()?;
-        self.context.names.known_name(word, kind).ok_or(NoStatement)
+        self.context.names.known_name(word, kind)
     }
 
     /// A number operand.
     #[inline(always)]
-    pub fn number(&mut self) -> Result<Number, NoStatement>
-        ensures { IfOk result (λ number. GivesTerm self.old (Value number) self.new) }
+    pub fn number(&mut self) -> Option<Number>
+        ensures { IfSome result (λ number. GivesTerm self.old (Value number) self.new) }
     {
         let word = self.plain()?;
         if begins_numeral(word) {
-            return Ok(Number::Numeral(numeral_of(word).ok_or(NoStatement)?));
+            return Some(Number::Numeral(numeral_of(word)?));
         }
-        let name = self
-            .context
-            .names
-            .known_name(word, Kind::Number)
-            .ok_or(NoStatement)?;
-        Ok(Number::Named(name))
+        Some(Number::Named(self.context.names.known_name(word, Kind::Number)?))
     }
 
     /// A number operand, on the heap.
-    pub fn shared_number(&mut self) -> Result<Shared<Number>, NoStatement>
-        ensures { IfOk result (λ number. GivesTerm self.old (Value number) self.new) }
+    pub fn shared_number(&mut self) -> Option<Shared<Number>>
+        ensures { IfSome result (λ number. GivesTerm self.old (Value number) self.new) }
     {
         let number = self.number()?;
-        Ok(Shared::new(self.alloc, number)?)
+        Shared::new(self.alloc, number).ok()
     }
 
     /// A quoted word.
-    pub fn quoted(&mut self) -> Result<Text, NoStatement>
-        ensures { IfOk result (λ text. PassesWord self.old (Word.Quoted text) self.new) }
+    pub fn quoted(&mut self) -> Option<Text>
+        ensures { IfSome result (λ text. PassesWord self.old (Word.Quoted text) self.new) }
     {
         let Ok(Some((word, rest))) = next_word(self.alloc, self.rest) else {
-            return Err(NoStatement);
+            return None;
         };
         let Word::Quoted(text) = word else {
-            return Err(NoStatement);
+            return None;
         };
         self.rest = rest;
-        Ok(text)
+        Some(text)
     }
 
     /// A path.
-    pub fn path(&mut self) -> Result<Path, NoStatement>
+    pub fn path(&mut self) -> Option<Path>
         requires { self.old.path ≡ None }
-        ensures { IfOk result (λ path. GivesTerm self.old (FilePath path) self.new) }
+        ensures { IfSome result (λ path. GivesTerm self.old (FilePath path) self.new) }
     {
-        let path = path_of(self.quoted()?).ok_or(NoStatement)?;
+        let path = path_of(self.quoted()?)?;
         if is_among(&self.context.paths, path.as_str().as_bytes()) {
-            return Ok(path);
+            return Some(path);
         }
         if self.context.paths.len() >= MAX_PATHS {
-            return Err(NoStatement);
+            return None;
         }
-        self.new_path = Some(path.clone()?);
-        Ok(path)
+        self.new_path = Some(path.clone().ok()?);
+        Some(path)
     }
 
     /// The text of a format, and what it is read as, on the heap.
-    pub fn format(&mut self) -> Result<(Shared<Text>, Shared<Format>), NoStatement>
-        ensures gave { IfOk result (λ r. GivesTerm self.old (Formats r.0) self.new) }
-        ensures format { IfOk result (λ r. IsFormat r.0 r.1) }
+    pub fn format(&mut self) -> Option<(Shared<Text>, Shared<Format>)>
+        ensures gave { IfSome result (λ r. GivesTerm self.old (Formats r.0) self.new) }
+        ensures format { IfSome result (λ r. IsFormat r.0 r.1) }
     {
         let text = self.quoted()?;
-        let format = Format::parse(self.alloc, text.as_slice())?;
-        let format = Shared::new(self.alloc, format)?;
-        Ok((Shared::new(self.alloc, text)?, format))
+        let format = Format::parse(self.alloc, text.as_slice()).ok()?;
+        let format = Shared::new(self.alloc, format).ok()?;
+        Some((Shared::new(self.alloc, text).ok()?, format))
     }
 
     /// The cords that the words that are left name, as many as a `catn` may have.
-    pub fn cords(&mut self) -> Result<Names, NoStatement>
-        ensures gave { IfOk result (λ names. GivesAll self.old (map (Operand Kind.Cord) names) self.new) }
-        ensures low { IfOk result (λ names. MIN_PARTS ≤ length names) }
-        ensures high { IfOk result (λ names. length names ≤ MAX_PARTS) }
+    pub fn cords(&mut self) -> Option<Names>
+        ensures gave { IfSome result (λ names. GivesAll self.old (map (Operand Kind.Cord) names) self.new) }
+        ensures low { IfSome result (λ names. MIN_PARTS ≤ length names) }
+        ensures high { IfSome result (λ names. length names ≤ MAX_PARTS) }
     {
         let mut names = Vec::new(self.alloc);
         'cords: while !self.is_done() {
             if names.len() == MAX_PARTS {
-                return Err(NoStatement);
+                return None;
             }
             let name = self.operand(Kind::Cord)?;
-            names.push(name)?;
+            names.push(name).ok()?;
         }
         if names.len() < MIN_PARTS {
-            return Err(NoStatement);
+            return None;
         }
-        Ok(Names::of(names))
+        Some(Names::of(names))
     }
 
     // An argument of a format, which is this.
-    fn argument(&mut self, want: Want) -> Result<Argument, NoStatement>
-        ensures gave { IfOk result (λ argument. GivesTerm self.old (argument_term argument) self.new) }
-        ensures want { IfOk result (λ argument. argument_want argument ≡ want) }
+    fn argument(&mut self, want: Want) -> Option<Argument>
+        ensures gave { IfSome result (λ argument. GivesTerm self.old (argument_term argument) self.new) }
+        ensures want { IfSome result (λ argument. argument_want argument ≡ want) }
     {
         match want {
-            Want::Number => Ok(Argument::Number(self.number()?)),
-            Want::Operand(Kind::Cord) => Ok(Argument::Cord(self.operand(Kind::Cord)?)),
-            _ => Err(NoStatement),
+            Want::Number => Some(Argument::Number(self.number()?)),
+            Want::Operand(Kind::Cord) => Some(Argument::Cord(self.operand(Kind::Cord)?)),
+            _ => None,
         }
     }
 
     // Arguments, one for each want.
-    fn wanted(&mut self, wants: &[Want]) -> Result<Arguments, NoStatement>
-        ensures gave { IfOk result (λ arguments. GivesAll self.old (map argument_term arguments) self.new) }
-        ensures wants { IfOk result (λ arguments. map argument_want arguments ≡ wants.now) }
+    fn wanted(&mut self, wants: &[Want]) -> Option<Arguments>
+        ensures gave { IfSome result (λ arguments. GivesAll self.old (map argument_term arguments) self.new) }
+        ensures wants { IfSome result (λ arguments. map argument_want arguments ≡ wants.now) }
     {
         let mut arguments = Vec::new(self.alloc);
         for want in wants {
             let argument = self.argument(*want)?;
-            arguments.push(argument)?;
+            arguments.push(argument).ok()?;
         }
-        Ok(Arguments::of(arguments))
+        Some(Arguments::of(arguments))
     }
 
     /// The arguments of a format, on the heap.
-    pub fn arguments(&mut self, format: &Format) -> Result<Shared<Arguments>, NoStatement>
-        ensures gave { IfOk result (λ arguments. GivesAll self.old (map argument_term arguments) self.new) }
-        ensures wants { IfOk result (λ arguments. map argument_want arguments ≡ wants_of_pieces format.now) }
+    pub fn arguments(&mut self, format: &Format) -> Option<Shared<Arguments>>
+        ensures gave { IfSome result (λ arguments. GivesAll self.old (map argument_term arguments) self.new) }
+        ensures wants { IfSome result (λ arguments. map argument_want arguments ≡ wants_of_pieces format.now) }
     {
-        let wants = wants_of_pieces(self.alloc, format.pieces())?;
+        let wants = wants_of_pieces(self.alloc, format.pieces()).ok()?;
         let arguments = self.wanted(&wants)?;
-        Ok(Shared::new(self.alloc, arguments)?)
+        Shared::new(self.alloc, arguments).ok()
     }
 }

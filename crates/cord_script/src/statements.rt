@@ -1,5 +1,5 @@
 // The statements of lines, family by family, of the words that follow their verbs.
-ghost use Rattle.std.specs.Prelude.{◌≡◌, IfOk};
+ghost use Rattle.std.specs.Prelude.{◌≡◌, IfSome};
 ghost use Rattle.cord_script.specs.declared.verbs.Verb.{Verb};
 ghost use Rattle.cord_script.specs.inner.LineReading.{IsFresh, IsStatementBuilt};
 
@@ -8,7 +8,6 @@ use crate::following::{
     Applied, Compared, Fields, Literal, Operand, SharedValue, Value, target_and_path, with_target,
 };
 use crate::kinds::Kind::{Cord, Extensible, Number};
-use crate::no_statement::NoStatement;
 use crate::remaining_words::LineWords;
 use crate::verbs::{Composition, Computation, Control, FixedVerb, Growth, Look, Origin, Verb};
 
@@ -26,7 +25,7 @@ macro_rules! nested {
 macro_rules! statement {
     ($line:ident, $variant:ident, ($($field:ident),+) = $fields:expr) => {{
         let nested!($($field)+) = $fields?;
-        Ok(Statement::$variant { line: $line, $($field),+ })
+        Some(Statement::$variant { line: $line, $($field),+ })
     }};
 }
 
@@ -41,9 +40,9 @@ macro_rules! family {
 
 // A statement that makes a cord of no other name's value.
 #[inline(always)]
-fn origin_of(verb: Origin, line: u32, words: &mut LineWords) -> Result<Statement, NoStatement>
+fn origin_of(verb: Origin, line: u32, words: &mut LineWords) -> Option<Statement>
     requires { IsFresh words.old }
-    ensures { IfOk result (IsStatementBuilt (Verb.Fixed (FixedVerb.Origin verb)) line words.old words.new) }
+    ensures { IfSome result (IsStatementBuilt (Verb.Fixed (FixedVerb.Origin verb)) line words.old words.new) }
 {
     family!(Origin, verb, line;
         Let(target, text) = with_target(Cord, Literal, words),
@@ -56,13 +55,9 @@ fn origin_of(verb: Origin, line: u32, words: &mut LineWords) -> Result<Statement
 
 // A statement that makes a cord of numbers, cords or an extensible cord.
 #[inline(always)]
-fn composition_of(
-    verb: Composition,
-    line: u32,
-    words: &mut LineWords,
-) -> Result<Statement, NoStatement>
+fn composition_of(verb: Composition, line: u32, words: &mut LineWords) -> Option<Statement>
     requires { IsFresh words.old }
-    ensures { IfOk result (IsStatementBuilt (Verb.Fixed (FixedVerb.Composition verb)) line words.old words.new) }
+    ensures { IfSome result (IsStatementBuilt (Verb.Fixed (FixedVerb.Composition verb)) line words.old words.new) }
 {
     family!(Composition, verb, line;
         Chars(target, byte, count) = with_target(Cord, (Value, Value), words),
@@ -77,13 +72,9 @@ fn composition_of(
 
 // A statement that computes a number, which needs no byte.
 #[inline(always)]
-fn computation_of(
-    verb: Computation,
-    line: u32,
-    words: &mut LineWords,
-) -> Result<Statement, NoStatement>
+fn computation_of(verb: Computation, line: u32, words: &mut LineWords) -> Option<Statement>
     requires { IsFresh words.old }
-    ensures { IfOk result (IsStatementBuilt (Verb.Fixed (FixedVerb.Computation verb)) line words.old words.new) }
+    ensures { IfSome result (IsStatementBuilt (Verb.Fixed (FixedVerb.Computation verb)) line words.old words.new) }
 {
     family!(Computation, verb, line;
         Assign(target, value) = with_target(Number, Value, words),
@@ -95,9 +86,9 @@ fn computation_of(
 
 // A statement that looks at bytes or searches a cord.
 #[inline(always)]
-fn look_of(verb: Look, line: u32, words: &mut LineWords) -> Result<Statement, NoStatement>
+fn look_of(verb: Look, line: u32, words: &mut LineWords) -> Option<Statement>
     requires { IsFresh words.old }
-    ensures { IfOk result (IsStatementBuilt (Verb.Fixed (FixedVerb.Look verb)) line words.old words.new) }
+    ensures { IfSome result (IsStatementBuilt (Verb.Fixed (FixedVerb.Look verb)) line words.old words.new) }
 {
     family!(Look, verb, line;
         Fetch(target, operand, index) = with_target(Number, (Operand(Cord), Value), words),
@@ -115,9 +106,9 @@ fn look_of(verb: Look, line: u32, words: &mut LineWords) -> Result<Statement, No
 
 // A statement that makes an extensible cord, or one that grows.
 #[inline(always)]
-fn growth_of(verb: Growth, line: u32, words: &mut LineWords) -> Result<Statement, NoStatement>
+fn growth_of(verb: Growth, line: u32, words: &mut LineWords) -> Option<Statement>
     requires { IsFresh words.old }
-    ensures { IfOk result (IsStatementBuilt (Verb.Fixed (FixedVerb.Growth verb)) line words.old words.new) }
+    ensures { IfSome result (IsStatementBuilt (Verb.Fixed (FixedVerb.Growth verb)) line words.old words.new) }
 {
     family!(Growth, verb, line;
         EcInit(target) = words.target(Extensible),
@@ -129,9 +120,9 @@ fn growth_of(verb: Growth, line: u32, words: &mut LineWords) -> Result<Statement
 
 // A statement that says which lines run next.
 #[inline(always)]
-fn control_of(verb: Control, line: u32, words: &mut LineWords) -> Result<Statement, NoStatement>
+fn control_of(verb: Control, line: u32, words: &mut LineWords) -> Option<Statement>
     requires { IsFresh words.old }
-    ensures { IfOk result (IsStatementBuilt (Verb.Fixed (FixedVerb.Control verb)) line words.old words.new) }
+    ensures { IfSome result (IsStatementBuilt (Verb.Fixed (FixedVerb.Control verb)) line words.old words.new) }
 {
     match verb {
         Control::Repeat => statement!(line, Repeat, (count) = Value.read(words)),
@@ -140,40 +131,19 @@ fn control_of(verb: Control, line: u32, words: &mut LineWords) -> Result<Stateme
             If,
             (left, relation, right) = (Value, (Compared, Value)).read(words)
         ),
-        Control::Else => Ok(Statement::Else { line }),
-        Control::End => Ok(Statement::End { line }),
-    }
-}
-
-// The statement of a verb whose number of words is fixed.
-#[inline(always)]
-fn fixed_statement_of(
-    verb: FixedVerb,
-    line: u32,
-    words: &mut LineWords,
-) -> Result<Statement, NoStatement>
-    requires { IsFresh words.old }
-    ensures { IfOk result (IsStatementBuilt (Verb.Fixed verb) line words.old words.new) }
-{
-    match verb {
-        FixedVerb::Origin(origin) => origin_of(origin, line, words),
-        FixedVerb::Composition(composition) => composition_of(composition, line, words),
-        FixedVerb::Put => statement!(line, Put, (operand) = Operand(Cord).read(words)),
-        FixedVerb::Computation(computation) => computation_of(computation, line, words),
-        FixedVerb::Look(look) => look_of(look, line, words),
-        FixedVerb::Growth(growth) => growth_of(growth, line, words),
-        FixedVerb::Control(control) => control_of(control, line, words),
+        Control::Else => Some(Statement::Else { line }),
+        Control::End => Some(Statement::End { line }),
     }
 }
 
 // A `catn`.
-fn catn_of(line: u32, words: &mut LineWords) -> Result<Statement, NoStatement>
+fn catn_of(line: u32, words: &mut LineWords) -> Option<Statement>
     requires { IsFresh words.old }
-    ensures { IfOk result (IsStatementBuilt Verb.Catn line words.old words.new) }
+    ensures { IfSome result (IsStatementBuilt Verb.Catn line words.old words.new) }
 {
     let target = words.target(Cord)?;
     let parts = words.cords()?;
-    Ok(Statement::Catn {
+    Some(Statement::Catn {
         line,
         target,
         parts,
@@ -183,14 +153,14 @@ fn catn_of(line: u32, words: &mut LineWords) -> Result<Statement, NoStatement>
 // A `sprintf`.
 #[cold]
 #[inline(never)]
-fn sprintf_of(line: u32, words: &mut LineWords) -> Result<Statement, NoStatement>
+fn sprintf_of(line: u32, words: &mut LineWords) -> Option<Statement>
     requires { IsFresh words.old }
-    ensures { IfOk result (IsStatementBuilt Verb.Sprintf line words.old words.new) }
+    ensures { IfSome result (IsStatementBuilt Verb.Sprintf line words.old words.new) }
 {
     let target = words.target(Cord)?;
     let (text, format) = words.format()?;
     let arguments = words.arguments(format.as_ref())?;
-    Ok(Statement::Sprintf {
+    Some(Statement::Sprintf {
         line,
         target,
         text,
@@ -201,12 +171,20 @@ fn sprintf_of(line: u32, words: &mut LineWords) -> Result<Statement, NoStatement
 
 /// The statement of a verb, of the words that are left in its line.
 #[inline(always)]
-pub fn statement_of(verb: Verb, line: u32, words: &mut LineWords) -> Result<Statement, NoStatement>
+pub fn statement_of(verb: Verb, line: u32, words: &mut LineWords) -> Option<Statement>
     requires { IsFresh words.old }
-    ensures { IfOk result (IsStatementBuilt verb line words.old words.new) }
+    ensures { IfSome result (IsStatementBuilt verb line words.old words.new) }
 {
     match verb {
-        Verb::Fixed(fixed) => fixed_statement_of(fixed, line, words),
+        Verb::Fixed(fixed) => match fixed {
+            FixedVerb::Origin(origin) => origin_of(origin, line, words),
+            FixedVerb::Composition(composition) => composition_of(composition, line, words),
+            FixedVerb::Put => statement!(line, Put, (operand) = Operand(Cord).read(words)),
+            FixedVerb::Computation(computation) => computation_of(computation, line, words),
+            FixedVerb::Look(look) => look_of(look, line, words),
+            FixedVerb::Growth(growth) => growth_of(growth, line, words),
+            FixedVerb::Control(control) => control_of(control, line, words),
+        },
         Verb::Catn => catn_of(line, words),
         Verb::Sprintf => sprintf_of(line, words),
     }

@@ -1,5 +1,5 @@
 // The names that the lines before assign.
-ghost use Rattle.std.specs.Prelude.{◌≡◌, ◌<◌, [], ◌∷◌, ◌++◌, true, Some, None, length, IfOk, IfSome};
+ghost use Rattle.std.specs.Prelude.{◌≡◌, ◌<◌, [], ◌∷◌, ◌++◌, true, Some, None, length, IfSome};
 ghost use Rattle.std.specs.Prelude.{MatchOption, OnOk};
 ghost use Rattle.cord_script.specs.Tests.{is_name};
 ghost use Rattle.cord_script.specs.Script.{kind_of, with_name};
@@ -7,7 +7,6 @@ ghost use Rattle.cord_operands.specs.Keys.{key_of};
 
 use crate::kinds::Kind;
 use crate::names::{is_name, is_same};
-use crate::no_statement::NoStatement;
 use crate::{MAX_NAMES, Name, bucket_of, key_of};
 use std::alloc::{AllocError, Global};
 use std::marker::Model;
@@ -26,6 +25,13 @@ const FREE: u16 = 65_535;
 pub struct Known {
     pub name: Name,
     pub kind: Kind,
+}
+
+/// A name that a line assigns first.
+#[derive(Drop)]
+pub struct NewName {
+    pub known: Known,
+    ghost named: { is_name known.name ≡ true },
 }
 
 /// Names with their kinds, in the order of their first assignment.
@@ -135,18 +141,18 @@ impl Table {
     }
 
     /// The name of these bytes, where they are a name that isn't known, and one more may be.
-    pub fn new_name(&self, alloc: Global, bytes: &[u8]) -> Result<Name, NoStatement>
-        ensures name { IfOk result (λ name. name ≡ bytes.now) }
-        ensures is_name { IfOk result (λ name. is_name name ≡ true) }
-        ensures new { IfOk result (λ name. kind_of self.now name ≡ None) }
-        ensures room { OnOk result (length self.now < MAX_NAMES) }
+    pub fn new_name(&self, alloc: Global, bytes: &[u8]) -> Option<Name>
+        ensures name { IfSome result (λ name. name ≡ bytes.now) }
+        ensures is_name { IfSome result (λ name. is_name name ≡ true) }
+        ensures new { IfSome result (λ name. kind_of self.now name ≡ None) }
+        ensures room { IfSome result (λ _. length self.now < MAX_NAMES) }
     {
         if self.known.len() >= MAX_NAMES || !is_name(bytes) || self.kind_of(bytes).is_some() {
-            return Err(NoStatement);
+            return None;
         }
         // Of 256 names the last has the greatest hint.
         let hint = u8::try_from(self.known.len()).unwrap_or(u8::MAX);
-        Ok(Name::of(alloc, bytes, hint)?)
+        Name::of(alloc, bytes, hint).ok()
     }
 
     /// The name of these bytes, which it shares with the table, where it is known and of this kind.

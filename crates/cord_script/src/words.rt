@@ -24,12 +24,6 @@ impl<'a> Model for Plain<'a> {
 }
 
 impl<'a> Plain<'a> {
-    fn of(bytes: &'a [u8]) -> Plain<'a>
-        ensures { result ≡ bytes.now }
-    {
-        Plain { bytes }
-    }
-
     /// The bytes of the word.
     pub fn as_slice(&self) -> &[u8]
         ensures { result.now ≡ self.now }
@@ -212,8 +206,8 @@ pub fn next_word(alloc: Global, line: &[u8]) -> Result<Option<(Word<'_>, &[u8])>
         return Ok(Some((Word::Quoted(text), after)));
     }
     let len = plain_len(rest);
-    let word = Word::Plain(Plain::of(head(rest, len)));
-    Ok(Some((word, tail(rest, len))))
+    let bytes = head(rest, len);
+    Ok(Some((Word::Plain(Plain { bytes }), tail(rest, len))))
 }
 
 /// The words of a line, in order.

@@ -1,12 +1,11 @@
-use Rattle.cord_script.proofs.Common.{◌∙◌, sym, IfErr-weaker, scope_of}
+use Rattle.cord_script.proofs.Common.{scope_of}
 use Rattle.cord_script.specs.Forms.{form_of}
 use Rattle.cord_script.proofs.FormErrors.{words_error}
 use Rattle.cord_script.proofs.diagnosis.form_error.Goals as goal
 
 pub returns-in-Fixed : goal.returns-in-Fixed
-returns-in-Fixed c = rw c.in-Fixed.is (IfErr-weaker c.none_of.result _ _
-    (λ kind h n. words_error c.in-Fixed.fixed c.wants_of.result.now (scope_of c.args.context.now) c.args.words.now kind c.wants_of.ensures
-    (sym c.wanted_error.ensures ∙ h)) c.none_of.ensures)
+returns-in-Fixed c = rw c.in-Fixed.is (words_error c.in-Fixed.fixed c.wants_of.result.now (scope_of c.args.context.now) c.args.words.now
+    c.wanted_error.result c.wants_of.ensures c.wanted_error.ensures)
 
 pub returns-in-Catn : goal.returns-in-Catn
 unfolding form_of

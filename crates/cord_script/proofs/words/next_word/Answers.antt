@@ -1,4 +1,4 @@
-use Rattle.cord_script.proofs.Common.{◌∙◌, err_from_is_err_and}
+use Rattle.cord_script.proofs.Common.{err_from_is_err_and}
 use Rattle.cord_script.proofs.Worded.{begins_bad, quoted_next, plain_next}
 use Rattle.cord_script.proofs.words.next_word.Goals as goal
 
@@ -16,6 +16,6 @@ returns-then-first-eq34-clause-word c =
 
 pub returns-clause-word : goal.returns-clause-word
 returns-clause-word c =
-    plain_next c.args.line.now c.tail-rest.result.now c.in-Some.inner.now c.of.result c.tail.result.now c.in-Some.first c.blanks.result
-    c.plain_len-len.result (c.of.ensures ∙ c.head.ensures) c.tail.ensures c.tail-rest.ensures c.in-Some.ensures c.blanks.ensures.blank
+    plain_next c.args.line.now c.tail-rest.result.now c.in-Some.inner.now c.head-bytes.result.now c.tail.result.now c.in-Some.first c.blanks.result
+    c.plain_len-len.result c.head-bytes.ensures c.tail.ensures c.tail-rest.ensures c.in-Some.ensures c.blanks.ensures.blank
     c.blanks.ensures.stops c.if-first-eq34.false c.plain_len-len.ensures.plain c.plain_len-len.ensures.ends

@@ -1,5 +1,5 @@
-use Rattle.std.specs.Prelude.{◌∷◌}
-use Rattle.cord_script.proofs.Common.{[], ap, sym, subst, map, length, length-append, arith, Operand, GivesAll}
+use Rattle.std.specs.Prelude.{◌≡◌, ◌∷◌, ◌++◌}
+use Rattle.cord_script.proofs.Common.{[], ap, sym, subst, map, length, length-append, arith, rules, Operand, GivesAll}
 use Rattle.cord_script.specs.declared.kinds.Kind.TheVariants as kinds
 use Rattle.cord_script.proofs.LineReading.{no_field, field_pushed}
 use Rattle.cord_script.proofs.remaining_words.LineWords.cords.Goals as goal
@@ -15,7 +15,7 @@ cords-init c =
 pub cords-preserved : goal.cords-preserved
 cords-preserved c =
     let name = c.in_ok-name.name in
-    let grown = c.in_ok-push.ensures.items in
+    let grown : c.push.new.self.items ≡ c.cords.names.items ++ name ∷ [] = search rules in
     record {
       gave = field_pushed (Operand kinds.Cord) c.cords.names.items c.push.new.self.items name c.args.self.now c.cords.self
           c.operand.new.self grown c.cords.invariant.gave c.in_ok-name.ensures;
