@@ -27,7 +27,7 @@ pub const FILE_TWICE: Run<'static> = Run {
 };
 
 // ec-statements
-pub const EXTENSIBLE: Run<'static> = Run {
+const EXTENSIBLE: Run<'static> = Run {
     script: "ecinit e\necstr e \"ab\"\necput e 67\nectocord z e\necput e 68\nput z\nectocord y e\nput y\n",
     lines: 8,
     puts: &[(6, b"abC"), (8, b"abCD")],
@@ -41,6 +41,19 @@ pub const SEAM: Run<'static> = Run {
     puts: &[(5, b"cde")],
     file: b"",
 };
+
+/// Runs in which a device fails at each of its calls, and the most bytes of a call.
+pub const FUSED: &[(Run<'static>, u64)] = &[
+    (PADS, 1),
+    (PADS, 3),
+    (PADS, 4_096),
+    (FILE_TWICE, 1),
+    (FILE_TWICE, 3),
+    (FILE_TWICE, 4_096),
+    (EXTENSIBLE, 1),
+    (EXTENSIBLE, 3),
+    (EXTENSIBLE, 4_096),
+];
 
 /// A line after all others: before it all is put.
 pub const END: u32 = u32::MAX;

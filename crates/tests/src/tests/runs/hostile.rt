@@ -1,5 +1,5 @@
 //! Devices that fail at each call: every end is faithful.
-use super::super::puts::{END, EXTENSIBLE, FILE_TWICE, PADS, Run, are_put};
+use super::super::puts::{END, FUSED, Run, are_put};
 use super::super::trees::pattern;
 use super::{line_and, run_way};
 use cord_io::{Files, FuseFiles, FuseSink, MemSink, Sink};
@@ -71,10 +71,8 @@ fn fuse_each(rt: &(impl AllocGlobal + Abort), run: &Run, most: u64) {
 
 #[test]
 fn fuses_at_each_call(rt: HostRuntime) {
-    for run in &[PADS, FILE_TWICE, EXTENSIBLE] {
-        for most in [1, 3, 4_096] {
-            fuse_each(&rt, run, most);
-        }
+    for (run, most) in FUSED {
+        fuse_each(&rt, run, *most);
     }
     let bytes = pattern(&rt, rt.alloc(), 10_000);
     let lazy_twice = Run {

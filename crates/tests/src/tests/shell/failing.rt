@@ -1,6 +1,6 @@
 //! Devices that fail after some calls, under `drive`: the status, the line that is reported, and what is written until
 //! then.
-use super::super::puts::{END, EXTENSIBLE, FILE_TWICE, PADS, Run, are_put};
+use super::super::puts::{END, FUSED, Run, are_put};
 use super::super::trees::pattern;
 use super::{ALL, Come, WAYS, come_of};
 use cord_io::Sink;
@@ -82,10 +82,8 @@ fn fuse_each(rt: &(impl AllocGlobal + Abort), run: &Run, most: u64) {
 
 #[test]
 fn fuses_at_each_call(rt: HostRuntime) {
-    for run in &[PADS, FILE_TWICE, EXTENSIBLE] {
-        for most in [1, 3, 4_096] {
-            fuse_each(&rt, run, most);
-        }
+    for (run, most) in FUSED {
+        fuse_each(&rt, run, *most);
     }
     let file = pattern(&rt, rt.alloc(), 10_040);
     let lazy_twice = Run {
