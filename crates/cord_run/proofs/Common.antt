@@ -71,7 +71,7 @@ pub use Rattle.cord_run.proofs.Refusals.{handed_on, passed_on, stop_by, stop_ove
 pub use Rattle.cord_run.specs.Failing.{FailsNowhereElse, IsFileMade, IsReader, IsWriter, NamesFinish}
 pub use Rattle.cord_run.specs.Runs.{AsWritten, ByPlan, IsPlanBy, Way, counts_over}
 pub use Rattle.cord_run.specs.inner.{Action, Adds, AddsAtMostOne, AddsCopies, AddsCordRange, AddsExpression, AddsInTurn, AddsMembers}
-pub use Rattle.cord_run.specs.inner.{AddsRange, AddsRun, Advances, All, AllFitIn, AppendBuffer, Appends, AreActions, AreHeldIn}
+pub use Rattle.cord_run.specs.inner.{AddsRange, AddsRun, Advances, All, AllFitIn, AppendBuffer, Appends, AreHeldIn}
 pub use Rattle.cord_run.specs.inner.{ArePreceding, AreTextsIn, AreWhole, Arg, Argument, Asks, Becomes, Began, Bool, Bor, Build, Builds}
 pub use Rattle.cord_run.specs.inner.{ByLength, Bytes, Cell, Changes, Closes, Comes, Computation, Content, ContentFits, ControlStop}
 pub use Rattle.cord_run.specs.inner.{CordError, CordFits, CordFitsIn, CountsFinding, CountsReadStop, CountsStops, Digits, Direction, Edit}

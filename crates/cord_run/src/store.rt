@@ -7,15 +7,15 @@ mod slots;
 ghost use Rattle.std.specs.Prelude.{◌≡◌, ◌<◌, ℕ, List, true, [], length, IfOk, IfSome, MatchOption, None, Some};
 ghost use Rattle.cord_core.specs.Cord.{text_len};
 ghost use Rattle.cord_run.specs.inner.Contents.{HasSplice, IsWholeAt, Splices, spliced_len};
-ghost use Rattle.cord_run.specs.inner.Contents.Entries.{are_distinct, cells_in, cells_or_none, content_in};
+ghost use Rattle.cord_run.specs.inner.Contents.Entries.{AreKeys, are_distinct, cells_in, cells_or_none, content_in};
 ghost use Rattle.cord_run.specs.inner.Contents.Entries.{content_length, cord_in, extensible_in, length_in, names_in};
 ghost use Rattle.cord_run.specs.inner.Contents.Entries.{number_in, operand_in, Appends, Grew, HasContent};
 ghost use Rattle.cord_run.specs.inner.Contents.Entries.{HasExtensible};
-ghost use Rattle.cord_run.specs.inner.Contents.Entries.{HasNoEntry, HasNumber, IsEntryAt, IsFirstEntry, IsSlotOf};
+ghost use Rattle.cord_run.specs.inner.Contents.Entries.{HasNoEntry, HasNumber, HasSlot, IsEntryAt, IsFirstEntry, IsSlotOf};
 
 use crate::store::appends::append_at;
 use crate::store::contents::{set_content, set_extensible, set_length, set_number, splice_content};
-use crate::store::slots::{entry_by, hinted, slot_by, slot_for};
+use crate::store::slots::{KEYS, find_slot, hinted, keyed, new_slot, no_keys, note_key};
 use cord_core::Cord;
 use cord_ec::ExtCord;
 use cord_io::CordError;
@@ -66,7 +66,10 @@ pub(crate) struct Entry {
 #[derive(Drop)]
 pub(crate) struct Store {
     pub(crate) entries: Vec<Entry>,
+    // The keys of the names in the first slots, where each is of one name alone.
+    keys: [u64; KEYS],
     ghost distinct: { are_distinct (names_in entries.items) ≡ true },
+    ghost keyed: { AreKeys keys (names_in entries.items) },
 }
 
 impl Store {
@@ -76,6 +79,7 @@ impl Store {
     {
         Store {
             entries: Vec::new(alloc),
+            keys: no_keys(),
         }
     }
 
@@ -85,7 +89,21 @@ impl Store {
         ensures { MatchOption result (HasNoEntry self.now.entries.items name.now)
             (IsSlotOf self.now.entries.items name.now) }
     {
-        slot_by(&self.entries, name)
+        match self.hinted(name) {
+            Some(place) => Some(place),
+            None => find_slot(&self.entries, name),
+        }
+    }
+
+    // The slot of the hint of a name, where the name stands there: most names show by their keys that they do.
+    #[inline(always)]
+    fn hinted(&self, name: &Name) -> Option<usize>
+        ensures { IfSome result (IsSlotOf self.now.entries.items name.now) }
+    {
+        match keyed(&self.keys, name.hint(), name.key(), name.as_slice()) {
+            Some(place) => Some(place),
+            None => hinted(&self.entries, name),
+        }
     }
 
     // The entry of a name.
@@ -94,7 +112,31 @@ impl Store {
         ensures { MatchOption result (HasNoEntry self.now.entries.items name.now)
             (λ entry. IsFirstEntry self.now.entries.items name.now entry.now) }
     {
-        entry_by(&self.entries, name)
+        let place = self.place(name)?;
+        Some(&self.entries[place])
+    }
+
+    // The slot of a name, which gets an entry where it has none.
+    #[inline(always)]
+    fn slot_for(&mut self, name: &Name) -> Result<usize, AllocError>
+        ensures { HasSlot name.now self.old.entries.items self.new.entries.items result }
+    {
+        match self.place(name) {
+            Some(place) => Ok(place),
+            None => self.new_slot(name),
+        }
+    }
+
+    // The slot of a new entry, of nothing yet, for a name that has none.
+    #[cold]
+    #[inline(never)]
+    fn new_slot(&mut self, name: &Name) -> Result<usize, AllocError>
+        requires { HasNoEntry self.old.entries.items name.now }
+        ensures { HasSlot name.now self.old.entries.items self.new.entries.items result }
+    {
+        let place = new_slot(&mut self.entries, name)?;
+        note_key(&mut self.keys, place, name.key(), name.as_slice());
+        Ok(place)
     }
 
     /// The cord of a name, where it has one that isn't empty.
@@ -177,7 +219,7 @@ impl Store {
     pub(crate) fn assign(&mut self, name: &Name, content: Content) -> Result<(), AllocError>
         ensures { IfOk result (λ _. HasContent name.now content self.old.entries.items self.new.entries.items) }
     {
-        let place = slot_for(&mut self.entries, name)?;
+        let place = self.slot_for(name)?;
         set_content(&mut self.entries, place, content);
         Ok(())
     }
@@ -188,7 +230,7 @@ impl Store {
         ensures { IfOk result (λ _. HasContent name.now (Content.Long len) self.old.entries.items
             self.new.entries.items) }
     {
-        let place = slot_for(&mut self.entries, name)?;
+        let place = self.slot_for(name)?;
         set_length(&mut self.entries, place, len);
         Ok(())
     }
@@ -198,7 +240,7 @@ impl Store {
     pub(crate) fn assign_number(&mut self, name: &Name, number: i64) -> Result<(), AllocError>
         ensures { IfOk result (λ _. HasNumber name.now number self.old.entries.items self.new.entries.items) }
     {
-        match hinted(&self.entries, name) {
+        match self.hinted(name) {
             Some(place) => {
                 set_number(&mut self.entries, place, number);
                 Ok(())
@@ -213,7 +255,7 @@ impl Store {
     fn assign_number_apart(&mut self, name: &Name, number: i64) -> Result<(), AllocError>
         ensures { IfOk result (λ _. HasNumber name.now number self.old.entries.items self.new.entries.items) }
     {
-        let place = slot_for(&mut self.entries, name)?;
+        let place = self.slot_for(name)?;
         set_number(&mut self.entries, place, number);
         Ok(())
     }
@@ -227,7 +269,7 @@ impl Store {
         ensures { IfOk result (λ _. HasExtensible name.now (Some extensible.text) self.old.entries.items
             self.new.entries.items) }
     {
-        let place = slot_for(&mut self.entries, name)?;
+        let place = self.slot_for(name)?;
         let _ = set_extensible(&mut self.entries, place, Some(extensible));
         Ok(())
     }
@@ -243,7 +285,7 @@ impl Store {
         ensures { Appends (cells_or_none (extensible_in self.old.entries.items name.now)) bytes.now
             (λ _. Grew name.now bytes.now self.old.entries.items self.new.entries.items) result }
     {
-        let place = slot_for(&mut self.entries, name)?;
+        let place = self.slot_for(name)?;
         append_at(alloc, &mut self.entries, place, bytes)
     }
 

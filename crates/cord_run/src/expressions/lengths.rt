@@ -1,7 +1,6 @@
 // The lengths of expressions, by the lengths of their names.
 ghost use Rattle.std.specs.Prelude.{◌≡◌, ◌≤◌, ◌+◌, Err, IfErr, IfOk, IfSome, Ok};
 ghost use Rattle.cord_meaning.specs.State as meant;
-ghost use Rattle.cord_plan.specs.Exprs as plain;
 ghost use Rattle.cord_plan.specs.Values.{measured_copies, measured_part};
 ghost use Rattle.cord_run.specs.inner.{expr_view, members_view, length_in, counted, extent_in, members_extent};
 ghost use Rattle.cord_run.specs.inner.{members_seen};
@@ -34,21 +33,12 @@ fn length_of_few(expression: &Expr, store: &Store) -> Option<Result<u64, FaultKi
     match expression {
         Expr::Cat(members) => {
             let (first, last) = pair_of(members)?;
-            length_of_pair(first, last, store)
+            let first = length_of_part(first, store)?;
+            let last = length_of_part(last, store)?;
+            Some(length_together(first, last))
         }
         _ => length_of_part(expression, store),
     }
-}
-
-// The length of two parts, joined.
-#[inline(always)]
-fn length_of_pair(first: &Expr, last: &Expr, store: &Store) -> Option<Result<u64, FaultKind>>
-    ensures { IfSome result (λ length. length ≡ extent_in store.now.entries.items
-        (plain.cat (plain.member (expr_view first.now) (plain.member (expr_view last.now) plain.nothing)))) }
-{
-    let first = length_of_part(first, store)?;
-    let last = length_of_part(last, store)?;
-    Some(length_together(first, last))
 }
 
 // A length and another one, or the first fault.

@@ -75,15 +75,10 @@ pub(crate) fn build_part(alloc: Global, expression: &Expr, store: &Store) -> Res
     match expression {
         Expr::Name(name) => build_name(alloc, name, store),
         Expr::Run { byte, count } => build_run(alloc, byte, count, store),
-        Expr::Sub {
-            expression: whole,
-            start,
-            count,
-        } => match whole.as_ref() {
-            Expr::Name(name) => build_range(alloc, name, start, count, store),
-            _ => build_of_pieces(alloc, expression, store),
+        _ => match range_parts(expression) {
+            Some((name, start, count)) => build_range(alloc, name, start, count, store),
+            None => build_of_pieces(alloc, expression, store),
         },
-        Expr::Cat(_) => build_of_pieces(alloc, expression, store),
     }
 }
 

@@ -4,6 +4,7 @@ ghost use Rattle.cord_run.specs.inner.{parts_of, text, text_len, known, part_of,
 ghost use Rattle.cord_run.specs.inner.{IsSliceOf, IsTextIn};
 
 use crate::checks::{as_index, as_length};
+use crate::expressions::parts::range_parts;
 use crate::store::Store;
 use cord_core::Cord;
 use cord_io::MAX_LEN;
@@ -19,18 +20,11 @@ pub(crate) fn slice_of<'a>(expression: &Expr, store: &'a Store) -> Option<&'a [u
 {
     match expression {
         Expr::Name(name) => named_slice(name, store),
-        Expr::Sub {
-            expression,
-            start,
-            count,
-        } => match expression.as_ref() {
-            Expr::Name(name) => match named_slice(name, store) {
-                Some(slice) => range_of(slice, store.value_of(start), store.value_of(count)),
-                None => None,
-            },
-            _ => None,
-        },
-        _ => None,
+        _ => {
+            let (name, start, count) = range_parts(expression)?;
+            let whole = named_slice(name, store)?;
+            range_of(whole, store.value_of(start), store.value_of(count))
+        }
     }
 }
 

@@ -1,5 +1,5 @@
 // Lengths that follow from those of the operations before.
-ghost use Rattle.std.specs.Prelude.{◌≡◌, ◌-◌, ◌^◌, ◌<◌, ℕ, List, IfSome, Some, map, slice_get};
+ghost use Rattle.std.specs.Prelude.{◌≡◌, ◌+◌, ◌-◌, ◌^◌, ◌<◌, ℕ, List, IfSome, Some, map, slice_get};
 ghost use Rattle.cord_run.specs.inner.{append, cat, member, members_view, name, nothing, operation_view, Exprs};
 ghost use Rattle.cord_run.specs.inner.{IsKnownAt, Joined, Measure, StaysKnown};
 
@@ -13,15 +13,15 @@ pub(crate) fn known_after(
     plan: &Plan,
     operation: &Operation,
     place: usize,
-    next: usize,
     store: &Store,
 ) -> Option<u64>
     requires place { place < 2 ^ 64 - 1 }
     requires here { slice_get (map operation_view plan.now) place ≡ Some (operation_view operation.now) }
     requires stays { StaysKnown store.now.entries.items (operation_view operation.now) }
-    ensures { IfSome result (IsKnownAt store.now.entries.items (map operation_view plan.now) next) }
+    ensures { IfSome result (IsKnownAt store.now.entries.items (map operation_view plan.now) (place + 1)) }
 {
-    if next != place + 1 || !plan.extends(next) {
+    let next = place + 1;
+    if !plan.extends(next) {
         return None;
     }
     let Operation::Measure { target, .. } = operation else {

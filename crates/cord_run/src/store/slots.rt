@@ -1,11 +1,52 @@
 // The slots of names among the entries.
-ghost use Rattle.std.specs.Prelude.{◌≡◌, true, IfSome, MatchOption};
-ghost use Rattle.cord_run.specs.inner.{are_distinct, names_in, HasNoEntry, HasSlot, IsFirstEntry, IsSlotOf};
+ghost use Rattle.std.specs.Prelude.{◌≡◌, ℕ, List, [], true, IfSome, MatchOption};
+ghost use Rattle.cord_operands.specs.Keys.{key_of};
+ghost use Rattle.cord_run.specs.inner.{are_distinct, names_in, Entry, AreKeys, HasNoEntry, HasSlot, IsSlotOf};
 
 use crate::store::{Content, Entry};
 use cord_core::Cord;
 use cord_script::Name;
 use std::alloc::AllocError;
+
+/// The keys of the names of so many entries are kept.
+pub(crate) const KEYS: usize = 256;
+
+// No name has this key: that of no bytes is 0.
+const NO_KEY: u64 = 8;
+
+// Keys from this one on are hashes. A smaller one is of one name alone.
+const FIRST_HASH: u64 = 1 << 63;
+
+/// No name's key is kept.
+pub(crate) fn no_keys() -> [u64; KEYS]
+    ensures { AreKeys result [] }
+{
+    [NO_KEY; KEYS]
+}
+
+/// A slot, where this key stands there: that of a name of these bytes.
+#[inline(always)]
+pub(crate) fn keyed(keys: &[u64; KEYS], slot: usize, key: u64, bytes: &[u8]) -> Option<usize>
+    requires { key ≡ key_of bytes.now }
+    ensures { IfSome result (λ slot. (entries : List Entry) → are_distinct (names_in entries) ≡ true →
+        AreKeys keys.now (names_in entries) → IsSlotOf entries bytes.now slot) }
+{
+    match keys.get(slot) {
+        Some(known) if *known == key => Some(slot),
+        _ => None,
+    }
+}
+
+/// Keeps the key of a name of these bytes at its slot, where it is of that name alone.
+pub(crate) fn note_key(keys: &mut [u64; KEYS], slot: usize, key: u64, bytes: &[u8])
+    requires { key ≡ key_of bytes.now }
+    ensures { (entries : List Entry) → AreKeys keys.old (names_in entries) → IsSlotOf entries bytes.now slot →
+        AreKeys keys.new (names_in entries) }
+{
+    if slot < KEYS && key < FIRST_HASH {
+        keys[slot] = key;
+    }
+}
 
 /// The slot of the hint of a name, where the name stands there.
 #[inline(always)]
@@ -25,46 +66,10 @@ pub(crate) fn hinted(entries: &[Entry], name: &Name) -> Option<usize>
     }
 }
 
-/// The entry of a name: the one of its hint, where it stands there.
-#[inline(always)]
-pub(crate) fn entry_by<'a>(entries: &'a [Entry], name: &Name) -> Option<&'a Entry>
-    requires { are_distinct (names_in entries.now) ≡ true }
-    ensures { MatchOption result (HasNoEntry entries.now name.now)
-        (λ entry. IsFirstEntry entries.now name.now entry.now) }
-{
-    match hinted(entries, name) {
-        Some(place) => Some(&entries[place]),
-        None => entry_of(entries, name),
-    }
-}
-
-// The entry of a name, which is looked for.
-#[cold]
-#[inline(never)]
-fn entry_of<'a>(entries: &'a [Entry], name: &Name) -> Option<&'a Entry>
-    ensures { MatchOption result (HasNoEntry entries.now name.now)
-        (λ entry. IsFirstEntry entries.now name.now entry.now) }
-{
-    let place = find_slot(entries, name)?;
-    Some(&entries[place])
-}
-
-/// The slot of a name: the one of its hint, where it stands there.
-#[inline(always)]
-pub(crate) fn slot_by(entries: &[Entry], name: &Name) -> Option<usize>
-    requires { are_distinct (names_in entries.now) ≡ true }
-    ensures { MatchOption result (HasNoEntry entries.now name.now) (IsSlotOf entries.now name.now) }
-{
-    match hinted(entries, name) {
-        Some(place) => Some(place),
-        None => find_slot(entries, name),
-    }
-}
-
 // The slot of a name, which is looked for.
 #[cold]
 #[inline(never)]
-fn find_slot(entries: &[Entry], name: &Name) -> Option<usize>
+pub(crate) fn find_slot(entries: &[Entry], name: &Name) -> Option<usize>
     ensures { MatchOption result (HasNoEntry entries.now name.now) (IsSlotOf entries.now name.now) }
 {
     for (place, entry) in entries.iter().enumerate() {
@@ -75,22 +80,8 @@ fn find_slot(entries: &[Entry], name: &Name) -> Option<usize>
     None
 }
 
-/// The slot of a name, which gets an entry where it has none.
-#[inline(always)]
-pub(crate) fn slot_for(entries: &mut Vec<Entry>, name: &Name) -> Result<usize, AllocError>
-    requires { are_distinct (names_in entries.old.items) ≡ true }
-    ensures { HasSlot name.now entries.old.items entries.new.items result }
-{
-    match slot_by(entries, name) {
-        Some(place) => Ok(place),
-        None => new_slot(entries, name),
-    }
-}
-
 // The slot of a new entry, of nothing yet, for a name that has none.
-#[cold]
-#[inline(never)]
-fn new_slot(entries: &mut Vec<Entry>, name: &Name) -> Result<usize, AllocError>
+pub(crate) fn new_slot(entries: &mut Vec<Entry>, name: &Name) -> Result<usize, AllocError>
     requires absent { HasNoEntry entries.old.items name.now }
     requires distinct { are_distinct (names_in entries.old.items) ≡ true }
     ensures { HasSlot name.now entries.old.items entries.new.items result }

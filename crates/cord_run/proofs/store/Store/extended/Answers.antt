@@ -27,8 +27,7 @@ returns-in-Some-clause-same c =
 pub invariant_of-self : goal.invariant_of-self
 invariant_of-self c =
     let is = c.index_mut.ensures.value in
-    record {
-      distinct = (extensible_same c.args.self.now.entries.items c.in-Some.place c.index_mut.result.now _ (ap (λ (e : Entry). e.name) is)
-          (c.cord_of.ensures.same ∙ ap (λ (e : Entry). cells_in e.extensible) is) (ap (λ (e : Entry). e.content) is)
-          (ap (λ (e : Entry). e.number) is)).distinct c.args.self.now.distinct;
-    }
+    let same = extensible_same c.args.self.now.entries.items c.in-Some.place c.index_mut.result.now _ (ap (λ (e : Entry). e.name) is)
+    (c.cord_of.ensures.same ∙ ap (λ (e : Entry). cells_in e.extensible) is) (ap (λ (e : Entry). e.content) is)
+    (ap (λ (e : Entry). e.number) is) in
+    record { distinct = same.distinct c.args.self.now.distinct; keyed = same.keyed c.args.self.now.keys c.args.self.now.keyed }
