@@ -94,9 +94,8 @@ pub use Rattle.cord_plan.specs.declared.flow.numbering.Numbering.{Numbering}
 pub use Rattle.cord_plan.specs.declared.flow.straight_line.LineLater.{LineLater}
 pub use Rattle.cord_plan.specs.declared.flow.successors.Successors.{Successors}
 pub use Rattle.cord_plan.specs.inner.Choices.{Has, IsChoice, choice_view, expression_in, expression_of, is_spare, nearest, parts_beside}
-pub use Rattle.cord_plan.specs.inner.Choices.{room_left, room_left_by, AreFactsOf, HasFacts, IsChoiceOf, IsFacts, AreLonger, AreUnpaired, operation_expression}
-pub use Rattle.cord_plan.specs.inner.Choices.{IsLongerAt, Takes, is_last, is_longer, is_named}
-pub use Rattle.cord_plan.specs.inner.Choices.{table_view}
+pub use Rattle.cord_plan.specs.inner.Choices.{room_left, room_left_by, AreFactsOf, HasFacts, IsChoiceOf, IsFacts, AreLonger, AreUnpaired}
+pub use Rattle.cord_plan.specs.inner.Choices.{operation_expression, IsLongerAt, Takes, is_last, is_longer, is_named, table_view}
 pub use Rattle.cord_plan.specs.inner.Liveness.{simple_operands, AllLive, AreLive, ArePartly, ArePaths, IsLive, IsPartly, NoBlocks, at}
 pub use Rattle.cord_plan.specs.inner.Liveness.{column_of, finds, innermost, places, places_at, reports, reports_of, shape_view, AreFor}
 pub use Rattle.cord_plan.specs.inner.Liveness.{IsRecent, PutsPlaces, blocker, entry_at, entry_of, is_after, is_before, reader, stay}

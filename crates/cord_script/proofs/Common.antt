@@ -47,10 +47,9 @@ pub use Rattle.cord_script.specs.Words.{StartsWith}
 pub use Rattle.cord_script.specs.declared.TheConstants.{MAX_BLOCKS, MAX_LINES, MAX_NAMES, MAX_PARTS, MAX_PATHS, MAX_SCRIPT, MAX_TEXT}
 pub use Rattle.cord_script.specs.declared.TheConstants.{MIN_PARTS}
 pub use Rattle.cord_script.specs.declared.kinds.Kind.{Kind}
-pub use Rattle.cord_script.specs.declared.refusals.RefusalKind.TheVariants.{BadEscape, BadFormat, BadName, BadNumber}
-pub use Rattle.cord_script.specs.declared.refusals.RefusalKind.TheVariants.{LiteralTooLong, MissingEnd, MissingIfEnd, NoMemory, TooBig}
-pub use Rattle.cord_script.specs.declared.refusals.RefusalKind.TheVariants.{TooDeep, TooMany, UnknownStatement, Unterminated}
-pub use Rattle.cord_script.specs.declared.refusals.RefusalKind.TheVariants.{WrongCount, WrongKind}
+pub use Rattle.cord_script.specs.declared.refusals.RefusalKind.TheVariants.{BadEscape, BadFormat, BadName, BadNumber, LiteralTooLong}
+pub use Rattle.cord_script.specs.declared.refusals.RefusalKind.TheVariants.{MissingEnd, MissingIfEnd, NoMemory, TooBig, TooDeep, TooMany}
+pub use Rattle.cord_script.specs.declared.refusals.RefusalKind.TheVariants.{UnknownStatement, Unterminated, WrongCount, WrongKind}
 pub use Rattle.cord_script.specs.declared.verbs.FixedVerb.{FixedVerb}
 pub use Rattle.cord_script.specs.declared.words.Word.TheVariants.{Plain, Quoted}
 pub use Rattle.cord_script.specs.inner.Common.{All, AreAllowed, AreTerms, Block, Bool, Effect, Form, HasBadBytes, HasWord, HasWords}

@@ -53,8 +53,7 @@ script_by (inr wrong) is = cc
 
 error_by : {b : List ℕ} {n : ℕ} {kind : RefusalKind} (found : Either whole b) → error_in found ≡ Some (n, kind) → FirstErrorBy whole b n kind
 error_by (inl read) is = cc
-error_by {b} {n} {kind} (inr wrong) is =
-    subst (λ p. FirstErrorBy whole b p.0 p.1) (same_Some (wrong.0, wrong.1) (n, kind) is) wrong.2
+error_by {b} {n} {kind} (inr wrong) is = subst (λ p. FirstErrorBy whole b p.0 p.1) (same_Some (wrong.0, wrong.1) (n, kind) is) wrong.2
 
 error_of : (law : FormatOrBad) {b : List ℕ} {n : ℕ} {kind : RefusalKind} → error_in (found law b) ≡ Some (n, kind) → FirstErrorBy whole b n kind
 error_of law {b} is = error_by (found law b) is

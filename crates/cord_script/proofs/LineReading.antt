@@ -1,10 +1,9 @@
 -- What the words of a line give.
 use Rattle.std.specs.Prelude.{◌≡◌, ◌∷◌, ◌++◌}
-use Rattle.cord_script.proofs.Common.{◌∙◌, ℕ, List, [], refl, sym, ap, subst, map, map-append, Known, FixedVerb, Word}
-use Rattle.cord_script.proofs.Common.{StartsWith, Term, Target, FilePath, Literal, Applies, Compares, Function, Relation}
-use Rattle.cord_script.proofs.Common.{function_word, relation_word, Plain, Quoted, IsTerm, AreTerms, IsAllowed, AreAllowed}
-use Rattle.cord_script.proofs.Common.{names_after, paths_after, LineView, PassesWord, GivesTerm}
-use Rattle.cord_script.proofs.Common.{names_with, paths_with, verb_word}
+use Rattle.cord_script.proofs.Common.{◌∙◌, ℕ, List, [], refl, sym, ap, subst, map, map-append, Known, FixedVerb, Word, StartsWith, Term}
+use Rattle.cord_script.proofs.Common.{Target, FilePath, Literal, Applies, Compares, Function, Relation, function_word, relation_word, Plain}
+use Rattle.cord_script.proofs.Common.{Quoted, IsTerm, AreTerms, IsAllowed, AreAllowed, names_after, paths_after, LineView, PassesWord}
+use Rattle.cord_script.proofs.Common.{GivesTerm, names_with, paths_with, verb_word}
 use Rattle.cord_script.specs.declared.verbs.Verb.TheVariants as verbs
 use Rattle.cord_script.specs.inner.LineReading.{GivesAll}
 

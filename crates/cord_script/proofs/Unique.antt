@@ -103,8 +103,7 @@ end_error None (c ∷ cs) = BadEscape
 
 bad_is : (t rest : List ℕ) (kind : RefusalKind) → IsBadEnd t rest kind → kind ≡ end_error (unit_of rest) rest
 bad_is t rest kind (inl h) = h.0 ∙ sym (ap (λ o. end_error o rest) (stuck rest h.2) ∙ ap (end_error None) h.1.1)
-bad_is t rest kind (inr (inl h)) =
-    h.0 ∙ sym (ap (λ o. end_error o rest) (ap unit_of h.2.3 ∙ stands_unit h.2.0 h.2.1 h.2.2 h.2.4))
+bad_is t rest kind (inr (inl h)) = h.0 ∙ sym (ap (λ o. end_error o rest) (ap unit_of h.2.3 ∙ stands_unit h.2.0 h.2.1 h.2.2 h.2.4))
 bad_is t rest kind (inr (inr h)) = h.0 ∙ sym (ap (λ r. end_error (unit_of r) r) h.1)
 
 -- the first byte, or 0

@@ -27,8 +27,7 @@ room_left n room = if nat_le n room then Some (room - n) else None
 -- the last line before p that assigns x, where neither a block's line nor a line that reads x stands after it
 abbrev pub nearest : List Statement → List ℕ → ℕ → Option ℕ
 nearest s x zero = None
-nearest s x (suc p) =
-    if assigns_at (slice_get s p) x then Some p
+nearest s x (suc p) = if assigns_at (slice_get s p) x then Some p
     else (if plain.is_block_at (slice_get s p) || reads_at (slice_get s p) x then None else nearest s x p)
 
 -- the parts of a line's expression beside those of its operands

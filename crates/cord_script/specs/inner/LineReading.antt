@@ -115,7 +115,6 @@ pair_error passes.Path scope = word_path_error scope.paths
 
 -- what is wrong first with words where this is wanted: their number, the words by themselves, the names, the blocks
 abbrev pub wanted_error : Effect → Scope → List Want → List Word → Option RefusalKind
-wanted_error effect scope xs ws =
-    first_of (unless (length ws == length xs) WrongCount)
+wanted_error effect scope xs ws = first_of (unless (length ws == length xs) WrongCount)
     (first_of (first_misfit xs ws)
     (first_of (names_error scope xs ws) (block_error effect scope.blocks)))

@@ -9,8 +9,7 @@ use Rattle.cord_plan.proofs.planner.is_dead.Goals as goal
 by_number : (t : Later) (place n : ℕ) (later : Bool) (o : Option (List ℕ)) → IsNumberIn t.numbering o (Some n) →
     ((x : List ℕ) → o ≡ Some x → Some n ≡ number_of t.numbering x → later ≡ reports t x place) → not later ≡ plan.is_dead (reports t) place o
 by_number t place n later None numbered reported = let bad : ⊥ = cc in absurd bad
-by_number t place n later (Some x) numbered reported =
-    ap not (reported x refl (number_reported t.numbering (Some x) (Some n) numbered))
+by_number t place n later (Some x) numbered reported = ap not (reported x refl (number_reported t.numbering (Some x) (Some n) numbered))
 
 pub returns-in-None : goal.returns-in-None
 returns-in-None c = λ l numbered reported.

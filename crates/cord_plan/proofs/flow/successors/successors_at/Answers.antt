@@ -17,8 +17,7 @@ pub returns-in-Loop : goal.returns-in-Loop
 returns-in-Loop c = after_loop _ _ _ (shape_there _ _ _ Straight c.requires.within c.in-Loop.is) c.jump.ensures
 
 pub returns-in-Branch : goal.returns-in-Branch
-returns-in-Branch c =
-    after_branch _ _ _ (shape_there _ _ _ Straight c.requires.within c.in-Branch.is) c.jump-in-Branch.ensures
+returns-in-Branch c = after_branch _ _ _ (shape_there _ _ _ Straight c.requires.within c.in-Branch.is) c.jump-in-Branch.ensures
 
 pub returns-in-Otherwise : goal.returns-in-Otherwise
 returns-in-Otherwise c =

@@ -59,8 +59,7 @@ add_range-returns-in_ok-rest-in-Sub t c =
     c.index_of.ensures.is c.index_of-most.ensures.is c.inside-inner.ensures rest c.outside.result c.outside.ensures old new adds)
 
 pub add_all-loop-member-init : goal.add_all-loop-member-init
-add_all-loop-member-init t c =
-    starts c.args.store.now.entries.items (members_seen c.args.members.now) c.args.wanted c.args.pieces.now.items
+add_all-loop-member-init t c = starts c.args.store.now.entries.items (members_seen c.args.members.now) c.args.wanted c.args.pieces.now.items
 
 pub add_all-returns-then-is_nothing : goal.add_all-returns-then-is_nothing
 add_all-returns-then-is_nothing t c =
