@@ -81,7 +81,7 @@ pub use Rattle.cord_plan.specs.Values.{part_of, puts_text, text_in, value, value
 pub use Rattle.cord_plan.specs.Verbatim.{IsVerbatim, KeepsNoOther}
 pub use Rattle.cord_plan.specs.Views.{Shared, expr_step, expr_view, made_view, members_of, members_step, members_view, operation_view}
 pub use Rattle.cord_plan.specs.Views.{pair_step, prefix_view, rest_step, shared_view, single_step}
-pub use Rattle.cord_plan.specs.declared.expressions.Expr.TheVariants.{Run, rolls-Cat, rolls-Run, rolls-Sub}
+pub use Rattle.cord_plan.specs.declared.expressions.Expr.TheVariants.{Name, Run, rolls-Cat, rolls-Name, rolls-Run, rolls-Sub}
 pub use Rattle.cord_plan.specs.declared.expressions.Expr.TheViews.{out-Members, roll-Members}
 pub use Rattle.cord_plan.specs.declared.expressions.Members.{Members}
 pub use Rattle.cord_plan.specs.declared.expressions.Rest.{Rest}

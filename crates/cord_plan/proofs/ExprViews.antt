@@ -1,8 +1,8 @@
 -- The equations of `expr_view`, one for each variant, and of `members_view`.
 use Rattle.std.specs.Prelude.{◌≡◌}
-use Rattle.cord_plan.proofs.Common.{List, [], map, Option, Some, None, Global, sym, ap, ◌∙◌, Rc, map-map, Number, append, expr_view}
+use Rattle.cord_plan.proofs.Common.{ℕ, List, [], map, Option, Some, None, Global, sym, ap, ◌∙◌, Rc, map-map, Number, append, expr_view}
 use Rattle.cord_plan.proofs.Common.{expr_step, members_of, members_view, members_step, pair_step, rest_step, rest_view, shared_view}
-use Rattle.cord_plan.proofs.Common.{single_step, Run, rolls-Run, rolls-Cat, rolls-Sub, out-Members, roll-Members, Members}
+use Rattle.cord_plan.proofs.Common.{single_step, Name, Run, rolls-Name, rolls-Run, rolls-Cat, rolls-Sub, out-Members, roll-Members, Members}
 use Rattle.cord_plan.proofs.Common.{Rest, Nothing, One, Two, rolls-Nothing, rolls-One, rolls-Two, Single}
 use Rattle.cord_plan.specs.Exprs as plain
 use Rattle.cord_plan.specs.declared.expressions.Expr.{Expr, Expr-F, fold-roll-Expr}
@@ -11,6 +11,10 @@ use Rattle.cord_plan.specs.declared.expressions.Expr.TheVariants.{Cat, Sub}
 use Rattle.cord_plan.specs.declared.expressions.Expr.TheFolds.{fold-roll-Members, fold-roll-Rest, fold_out-Members, fold_out-Pair}
 use Rattle.cord_plan.specs.declared.expressions.Expr.TheFolds.{fold_out-Single}
 use Rattle.cord_plan.specs.declared.expressions.Pair.{Pair}
+
+pub view-Name : (x : List ℕ) → expr_view (Name x) ≡ plain.name x
+view-Name x = ap expr_view (sym (rolls-Name x))
+    ∙ fold-roll-Expr _ _ _ _ _ expr_step rest_step members_step pair_step single_step (Expr-F.Name x)
 
 pub view-Run : (c n : Number) → expr_view (Run c n) ≡ plain.run c n
 view-Run c n = ap expr_view (sym (rolls-Run c n))
